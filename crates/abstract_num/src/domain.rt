@@ -6,10 +6,10 @@ ghost use Rattle.abstract_num.specs.Meaning.{row_value, IsFact};
 use crate::fact::Fact;
 use crate::row::Row;
 
-/// A kind of value that stands for some whole numbers below `2^64`. Nothing here takes memory or
+/// A kind of value that holds some whole numbers below `2^64`. Nothing here takes memory or
 /// fails.
 pub trait Domain: Copy {
-    /// Which numbers a value holds.
+    /// The numbers that a value holds.
     ghost holds: { Self → ℕ → Type 0 };
 
     /// The join of two values.
@@ -18,10 +18,10 @@ pub trait Domain: Copy {
     /// The order: what a value holds, each greater one holds.
     ghost below: { Self → Self → Type 0 };
 
-    /// What a row of the table makes of two values.
+    /// Relates a row of the table and two values to the value that the row gives for them.
     ghost moves: { Row → Self → Self → Self → Type 0 };
 
-    /// What a fact makes of two values: none where nothing is left of one of them.
+    /// Relates a fact and two values to both, refined by it: none if nothing is left of one.
     ghost refines: { Fact → Self → Self → Option (Self × Self) → Type 0 };
 
     /// The value that holds every number.
@@ -36,7 +36,7 @@ pub trait Domain: Copy {
     fn join(self, other: Self) -> Self
         ensures { result ≡ joined self other };
 
-    /// Whether this value is below the other.
+    /// True if this value is below the other.
     fn is_below(self, other: Self) -> bool
         ensures { IsTrue result ↔ below self other };
 
@@ -44,7 +44,7 @@ pub trait Domain: Copy {
     fn transfer(row: Row, left: Self, right: Self) -> Self
         ensures { moves row left right result };
 
-    /// Both values where the fact holds of them.
+    /// Refines both values by the fact. None if nothing is left of one of them.
     fn refine(fact: Fact, left: Self, right: Self) -> Option<(Self, Self)>
         ensures { refines fact left right result };
 

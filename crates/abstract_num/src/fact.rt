@@ -1,5 +1,4 @@
-/// What an edge of a comparison tells the parts of two numbers, once the numbers as a whole have
-/// decided it.
+/// A fact that holds of two numbers along an edge of a comparison, by which each part is refined.
 #[derive(Clone, Copy)]
 pub enum Fact {
     /// Both are the same number.
@@ -14,13 +13,13 @@ pub enum Fact {
     SignedAtLeast,
     /// They have a set bit in common.
     Meets,
-    /// The first is another number than this one.
+    /// The first isn't this number.
     Not(u64),
     /// The first has no set bit of this one.
     NoneOf(u64),
 }
 
-/// How the two numbers of a comparison stand to one another along an edge.
+/// The relation between the two numbers of a comparison along an edge.
 #[derive(Clone, Copy)]
 pub enum Edge {
     /// The fact holds of the first and the second.

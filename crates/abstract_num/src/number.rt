@@ -17,7 +17,7 @@ use crate::urange::URange;
 use bpf_decode::{SignedWidth, Width};
 use std::mem::size_of;
 
-/// What is known of a number below `2^64`: the numbers that lie in both ranges and agree with the
+/// An abstract number below `2^64`: it holds the numbers that lie in both ranges and agree with the
 /// known bits.
 pub type Number = Product<URange, Product<SRange, Bits>>;
 
@@ -112,8 +112,7 @@ fn tightened(low: u64, high: u64) -> Number
     requires { low ≤ high }
     ensures { tighten (ranged low high) ≡ Some (view result) }
 {
-    // A named range says nothing of the other parts: what they know of it comes from the one
-    // tightening.
+    // The other parts begin as every number: the one tightening gives them what the range implies.
     let wide = Number::of(URange { low, high }, any().signed(), any().bits());
     match tighten(wide) {
         Some(x) => x,
@@ -154,7 +153,7 @@ pub fn signed_between(low: i64, high: i64) -> Number
     signed_tightened(low, high)
 }
 
-/// The numbers of a load that fills with zeros.
+/// The numbers of a load that zero-extends.
 #[inline(always)]
 fn of_load(width: Width) -> Number
     ensures { tighten (ranged 0 (load_high width)) ≡ Some (view result) }
@@ -167,7 +166,7 @@ fn of_load(width: Width) -> Number
     }
 }
 
-/// What a load that fills with zeros may give: the range, tightened once.
+/// The numbers that a load may give which zero-extends: their range, tightened once.
 #[inline(always)]
 pub fn loaded(width: Width) -> Number
     ensures table { tighten (ranged 0 (load_high width)) ≡ Some (view result) }
@@ -176,7 +175,7 @@ pub fn loaded(width: Width) -> Number
     of_load(width)
 }
 
-/// The numbers of a load that extends the sign.
+/// The numbers of a load that sign-extends.
 #[inline(always)]
 fn of_signed_load(width: SignedWidth) -> Number
     ensures { tighten (signed_ranged (signed_low width) (signed_high width)) ≡ Some (view result) }
@@ -188,7 +187,7 @@ fn of_signed_load(width: SignedWidth) -> Number
     }
 }
 
-/// What a load that extends the sign may give: the range, tightened once.
+/// The numbers that a load may give which sign-extends: their range, tightened once.
 #[inline(always)]
 pub fn loaded_signed(width: SignedWidth) -> Number
     ensures table { tighten (signed_ranged (signed_low width) (signed_high width)) ≡ Some (view result) }
@@ -206,7 +205,7 @@ pub fn join(x: Number, y: Number) -> Number
     x.join(y)
 }
 
-/// Whether `x` is below `y` in the order of the join.
+/// True if `x` is below `y` in the order of the join.
 #[inline(always)]
 pub fn is_below(x: Number, y: Number) -> bool
     ensures { IsTrue result ↔ Below (view x) (view y) }
@@ -214,7 +213,7 @@ pub fn is_below(x: Number, y: Number) -> bool
     x.is_below(y)
 }
 
-/// Whether `n` agrees with the known bits.
+/// True if `n` agrees with the known bits.
 #[inline(always)]
 fn agrees(bits: Bits, n: u64) -> bool
     ensures { IsTrue result ↔ (clear n bits.unknown ≡ bits.value) }
@@ -222,7 +221,7 @@ fn agrees(bits: Bits, n: u64) -> bool
     (n ^ (n & bits.unknown)) == bits.value
 }
 
-/// Whether `n` lies in the range.
+/// True if `n` lies in the range.
 #[inline(always)]
 fn lies_in(range: URange, n: u64) -> bool
     ensures { IsTrue result ↔ (range.low ≤ n) × (n ≤ range.high) }
@@ -230,7 +229,7 @@ fn lies_in(range: URange, n: u64) -> bool
     range.low <= n && n <= range.high
 }
 
-/// Whether `n` lies in the range as a signed number.
+/// True if `n` lies in the range as a signed number.
 #[inline(always)]
 fn lies_in_signed(range: SRange, n: u64) -> bool
     ensures { IsTrue result ↔ (range.low ≤ℤ signed n) × (signed n ≤ℤ range.high) }
@@ -238,7 +237,7 @@ fn lies_in_signed(range: SRange, n: u64) -> bool
     range.low <= n.cast_signed() && n.cast_signed() <= range.high
 }
 
-/// Whether the number holds `n`.
+/// True if the number holds `n`.
 #[inline(always)]
 pub fn holds(x: &Number, n: u64) -> bool
     ensures { IsTrue result ↔ Holds (view x.now) n }

@@ -10,7 +10,8 @@ use crate::tightening::tighten;
 use crate::transfer::is_constant;
 use bpf_decode::{Comparison, OpWidth};
 
-/// How the two numbers stand to one another where a comparison holds, and where it doesn't.
+/// The relation between both numbers if the comparison holds (`taken`), or if it doesn't.
+// `Turned` swaps the operands, so that four facts serve both edges of all comparisons of order.
 #[inline(always)]
 fn edge_of(comparison: Comparison, taken: bool) -> Edge
     ensures { result ≡ edge_of comparison taken }
@@ -41,7 +42,7 @@ fn edge_of(comparison: Comparison, taken: bool) -> Edge
     }
 }
 
-/// What a fact leaves of both numbers, part by part.
+/// Refines both numbers by a fact, part by part. None if a part has no number left.
 #[inline(always)]
 fn by_fact(fact: Fact, x: Number, y: Number) -> Option<(Number, Number)>
     ensures { GivesBoth (by_fact fact (view x) (view y)) result }
@@ -49,7 +50,7 @@ fn by_fact(fact: Fact, x: Number, y: Number) -> Option<(Number, Number)>
     Number::refine(fact, x, y)
 }
 
-/// What a fact of the second and the first number leaves of both.
+/// Refines both numbers by a fact that holds of the second and the first.
 #[inline(always)]
 fn by_turned(fact: Fact, x: Number, y: Number) -> Option<(Number, Number)>
     ensures { GivesBoth (by_edge (Edge.Turned fact) (view x) (view y)) result }
@@ -60,7 +61,8 @@ fn by_turned(fact: Fact, x: Number, y: Number) -> Option<(Number, Number)>
     }
 }
 
-/// `x`, other than `y` where that is constant.
+/// `x` without the number `y` if that is constant; else `x`.
+// Two ranges that overlap may still hold different numbers: only a constant can be taken out.
 #[inline(always)]
 fn other_than(x: Number, y: Number) -> Option<Number>
     ensures { Gives (other_than (view x) (view y)) result }
@@ -101,7 +103,7 @@ fn disjoint(x: Number, y: Number) -> Option<(Number, Number)>
     }
 }
 
-/// What an edge leaves of both numbers, not tightened.
+/// Refines both numbers by their relation along an edge, without tightening.
 fn by_edge(edge: Edge, x: Number, y: Number) -> Option<(Number, Number)>
     ensures { GivesBoth (by_edge edge (view x) (view y)) result }
 {
@@ -113,7 +115,8 @@ fn by_edge(edge: Edge, x: Number, y: Number) -> Option<(Number, Number)>
     }
 }
 
-/// Below this the low halves compare as the whole numbers do.
+/// The bound below which the low halves compare as the whole numbers do.
+// A signed comparison of 32 bits takes bit 31 as the sign: hence its lower bound.
 #[inline(always)]
 fn short_end(comparison: Comparison) -> u64
     ensures { result ≡ short_end comparison }
@@ -127,8 +130,8 @@ fn short_end(comparison: Comparison) -> u64
     }
 }
 
-/// Whether a comparison tells something: one of 32 bits tells nothing of a number that may be
-/// longer.
+/// True if the comparison refines its numbers: one of 32 bits does so only if both are so small
+/// that their low halves compare as they do.
 #[inline(always)]
 fn tells(bits: OpWidth, comparison: Comparison, x: Number, y: Number) -> bool
     ensures { result ≡ tells bits comparison (view x) (view y) }
@@ -142,7 +145,7 @@ fn tells(bits: OpWidth, comparison: Comparison, x: Number, y: Number) -> bool
     }
 }
 
-/// What the comparison's edge leaves of both numbers, not tightened.
+/// Refines both numbers along the comparison's edge, without tightening.
 #[inline(always)]
 fn refined(
     bits: OpWidth,
@@ -160,7 +163,7 @@ fn refined(
     }
 }
 
-/// What the comparison's edge leaves of both numbers, each tightened once.
+/// Refines both numbers along the comparison's edge, and tightens each once.
 #[inline(always)]
 fn along(
     bits: OpWidth,
@@ -183,10 +186,10 @@ fn along(
     Some((a, b))
 }
 
-/// What is left of both numbers of a comparison along the edge where it holds (`taken`) or doesn't:
-/// by the table, each tightened once, and so that every pair of numbers held before for which the
-/// comparison goes this way is held after. None where there is no such pair. The number of a
-/// register that is compared with itself isn't refined but tightened.
+/// Refines both numbers of a comparison along the edge on which it holds (`taken`) or doesn't: by
+/// the table, each tightened once. Every pair of numbers held before for which the comparison goes
+/// this way is held after; None says that there is no such pair. For a register that is compared
+/// with itself, call `tighten` on its number instead.
 pub fn refine(
     bits: OpWidth,
     comparison: Comparison,

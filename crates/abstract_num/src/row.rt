@@ -1,5 +1,6 @@
-/// A row of the transfer table: what the parts of a number are asked, once the number as a whole
-/// has decided which row applies. A constant shift count stands in the row and is taken modulo 64.
+/// A row of the transfer table: the operation that each part of a number computes, once the number
+/// as a whole has decided which row applies. A row holds a constant shift count, which wraps modulo
+/// 64.
 #[derive(Clone, Copy)]
 pub enum Row {
     Add,
@@ -24,7 +25,7 @@ pub enum Row {
     Cut,
 }
 
-/// How an operation on two numbers is answered.
+/// The answer of the transfer table to an operation on two numbers.
 #[derive(Clone, Copy)]
 pub enum RowAnswer {
     /// Its operands are constants, and it gives this number.

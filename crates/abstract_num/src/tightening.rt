@@ -8,7 +8,7 @@ use crate::product::Product;
 use crate::srange::SRange;
 use crate::urange::URange;
 
-/// The unsigned range from `low` to `high`, met with x's; none where the ends cross.
+/// Intersects x's unsigned range with the one from `low` to `high`; none if the ends cross.
 #[inline(always)]
 fn meet_unsigned(x: Number, low: u64, high: u64) -> Option<Number>
     ensures { let y = meet_unsigned (view x) low high in MatchOption result (y.high < y.low) (λ z. view z ≡ y) }
@@ -21,7 +21,7 @@ fn meet_unsigned(x: Number, low: u64, high: u64) -> Option<Number>
     Some(Number::of(URange { low, high }, x.signed(), x.bits()))
 }
 
-/// The signed range from `low` to `high`, met with x's; none where the ends cross.
+/// Intersects x's signed range with the one from `low` to `high`; none if the ends cross.
 #[inline(always)]
 fn meet_signed(x: Number, low: i64, high: i64) -> Option<Number>
     ensures { let y = meet_signed (view x) low high in MatchOption result (y.greatest <ℤ y.least) (λ z. view z ≡ y) }
@@ -43,21 +43,23 @@ fn meet_signed(x: Number, low: i64, high: i64) -> Option<Number>
     })
 }
 
-/// The unsigned range meets what the bits allow.
+/// Intersects the unsigned range with the least and the greatest number that the bits allow.
 #[inline(always)]
 fn by_bits(x: Number) -> Option<Number>
     ensures { let y = by_bits (view x) in MatchOption result (y.high < y.low) (λ z. view z ≡ y) }
 {
     let bits = x.bits();
+    // No bit is set in both, so the sum can't overflow.
     meet_unsigned(x, bits.value, bits.value + bits.unknown)
 }
 
-/// The signed range meets the unsigned one, where its numbers have one sign.
+/// Intersects the signed range with the unsigned one, if all numbers of that have one sign.
 #[inline(always)]
 fn by_unsigned(x: Number) -> Option<Number>
     ensures { let y = by_unsigned (view x) in MatchOption result (y.greatest <ℤ y.least) (λ z. view z ≡ y) }
 {
     let range = x.first;
+    // A range across 2^63 has numbers of both signs, and bounds neither end of the signed one.
     if range.high < 1 << 63 || range.low >= 1 << 63 {
         meet_signed(x, range.low.cast_signed(), range.high.cast_signed())
     } else {
@@ -65,7 +67,7 @@ fn by_unsigned(x: Number) -> Option<Number>
     }
 }
 
-/// The unsigned range meets the signed one, where its numbers have one sign.
+/// Intersects the unsigned range with the signed one, if all numbers of that have one sign.
 #[inline(always)]
 fn by_signed(x: Number) -> Option<Number>
     ensures { let y = by_signed (view x) in MatchOption result (y.high < y.low) (λ z. view z ≡ y) }
@@ -78,7 +80,8 @@ fn by_signed(x: Number) -> Option<Number>
     }
 }
 
-/// The constant, where the unsigned range is one number; none where bits or signed range deny it.
+/// Makes all parts that number, if the unsigned range is one number; none if the bits or the signed
+/// range don't hold it.
 #[inline(always)]
 fn by_constant(x: Number) -> Option<Number>
     ensures { Gives (by_constant (view x)) result }
@@ -126,7 +129,7 @@ fn stepped(x: Number) -> Option<Number>
 
 /// Passes once what each part knows to the others, in the order of the table: bits to the unsigned
 /// range, that to the signed one and back, and a single number to all parts. A second time may
-/// tighten further. None where no number is left.
+/// tighten further. None if no number is left.
 // Inlined, so that the compiler tightens a named range whose ends are constants, as a load's.
 #[inline(always)]
 pub fn tighten(x: Number) -> Option<Number>

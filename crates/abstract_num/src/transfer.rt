@@ -11,7 +11,7 @@ use crate::row::{Row, RowAnswer};
 use crate::tightening::tighten;
 use bpf_decode::{Arithmetic, ByteOrder, EndWidth, OpWidth, SignedMove, arithmetic as exact};
 
-/// Whether the unsigned range is one number.
+/// True if the unsigned range is one number.
 #[inline(always)]
 pub(crate) fn is_constant(x: Number) -> bool
     ensures { result ≡ is_constant (view x) }
@@ -19,7 +19,7 @@ pub(crate) fn is_constant(x: Number) -> bool
     x.unsigned().low == x.unsigned().high
 }
 
-/// The shift count modulo `width`, where it is constant.
+/// The shift count modulo `width`, if it is constant.
 #[inline(always)]
 fn count_of(width: u64, y: Number) -> Option<u32>
     requires some { 0 < width }
@@ -33,7 +33,7 @@ fn count_of(width: u64, y: Number) -> Option<u32>
     }
 }
 
-/// The row that answers an operation, with the source's masked number where that is constant.
+/// The row that answers an operation. `count` is the shift count modulo the width, if constant.
 #[rattlefmt::skip]
 fn row_of(operation: Arithmetic, count: Option<u32>) -> RowAnswer
     ensures { result ≡ row_of operation count }
@@ -55,8 +55,9 @@ fn row_of(operation: Arithmetic, count: Option<u32>) -> RowAnswer
     }
 }
 
-/// The row of 32 bits: an arithmetic shift is a logical one where the sign is 0, and else any
+/// The row of 32 bits: an arithmetic shift is a logical one if bit 31 is 0, and else gives any
 /// number.
+// The rows shift numbers of 64 bits, and don't take bit 31 as a sign.
 fn row_of_32(operation: Arithmetic, x: Number, y: Number) -> RowAnswer
     ensures { result ≡ row_of_32 operation (view x) (view y) }
 {
@@ -72,7 +73,7 @@ fn row_of_32(operation: Arithmetic, x: Number, y: Number) -> RowAnswer
     }
 }
 
-/// How an operation of 64 bits is answered.
+/// The table's answer to an operation of 64 bits, which is exact for two constants.
 #[inline(always)]
 fn answer64(operation: Arithmetic, x: Number, y: Number) -> RowAnswer
     ensures { result ≡ answer64 operation (view x) (view y) }
@@ -89,7 +90,7 @@ fn answer64(operation: Arithmetic, x: Number, y: Number) -> RowAnswer
     }
 }
 
-/// How an operation of 32 bits on cut numbers is answered.
+/// The table's answer to an operation of 32 bits on numbers cut to 32 bits.
 fn answer32(operation: Arithmetic, x: Number, y: Number) -> RowAnswer
     ensures { result ≡ answer32 operation (view x) (view y) }
 {
@@ -105,7 +106,7 @@ fn answer32(operation: Arithmetic, x: Number, y: Number) -> RowAnswer
     }
 }
 
-/// The table's row, part by part.
+/// Applies a row of the table, part by part.
 fn moved(row: Row, x: Number, y: Number) -> Number
     ensures { view result ≡ moved row (view x) (view y) }
 {
@@ -113,7 +114,7 @@ fn moved(row: Row, x: Number, y: Number) -> Number
 }
 
 /// The number that answers an operation of 64 bits: the row, tightened.
-// An exact number and any number are what tightening leaves of them.
+// Tightening would leave an exact number, and any number, as they are.
 #[inline(always)]
 fn finished64(answer: RowAnswer, x: Number, y: Number) -> Option<Number>
     ensures { Gives (finished64 answer (view x) (view y)) result }
@@ -125,7 +126,7 @@ fn finished64(answer: RowAnswer, x: Number, y: Number) -> Option<Number>
     }
 }
 
-/// The low 32 bits.
+/// The low 32 bits of a number, tightened.
 #[inline(always)]
 fn cut(x: Number) -> Option<Number>
     ensures { Gives (cut (view x)) result }
@@ -145,7 +146,7 @@ fn finished32(answer: RowAnswer, x: Number, y: Number) -> Option<Number>
     }
 }
 
-/// What an operation of 32 bits makes of two numbers, which are cut first.
+/// Applies an operation of 32 bits to two numbers, which are cut to 32 bits first.
 fn arithmetic32(operation: Arithmetic, x: Number, y: Number) -> Option<Number>
     ensures { Gives (transferred Bits32 operation (view x) (view y)) result }
 {
@@ -158,7 +159,7 @@ fn arithmetic32(operation: Arithmetic, x: Number, y: Number) -> Option<Number>
     finished32(answer32(operation, a, b), a, b)
 }
 
-/// What arithmetic makes of two numbers.
+/// Applies arithmetic to two numbers.
 #[inline(always)]
 fn transferred(bits: OpWidth, operation: Arithmetic, x: Number, y: Number) -> Option<Number>
     ensures { Gives (transferred bits operation (view x) (view y)) result }
@@ -169,8 +170,8 @@ fn transferred(bits: OpWidth, operation: Arithmetic, x: Number, y: Number) -> Op
     }
 }
 
-/// What arithmetic makes of two numbers: by the table, and so that every number held before is held
-/// after by what the machine computes. None where no number is left.
+/// Applies arithmetic to two numbers, by the table: what the machine computes from any two numbers
+/// that they hold, the result holds. None if no number is left.
 pub fn arithmetic(bits: OpWidth, operation: Arithmetic, x: Number, y: Number) -> Option<Number>
     ensures table { Gives (transferred bits operation (view x) (view y)) result }
     ensures keeps { (m n : ℕ) → Holds (view x) m → Holds (view y) n → Kept result (alu_value bits operation m n) }
@@ -178,8 +179,8 @@ pub fn arithmetic(bits: OpWidth, operation: Arithmetic, x: Number, y: Number) ->
     transferred(bits, operation, x, y)
 }
 
-/// The sum of a number and a distance, modulo `2^64`. None where no number is left.
-// Most places are constants: their sum is made where it is asked for, and nothing is called.
+/// The sum of a number and a distance, modulo `2^64`. None if no number is left.
+// Most places are constants: inlined, their sum is computed without a call.
 #[inline(always)]
 pub fn offset_by(x: &Number, distance: u64) -> Option<Number>
     ensures { Gives (transferred Bits64 Arithmetic.Add (view x.now) (constant distance)) result }
@@ -207,7 +208,7 @@ pub fn negative(bits: OpWidth, x: Number) -> Option<Number>
     arithmetic(bits, Arithmetic::Sub, constant(0), x)
 }
 
-/// What a copy makes of a number.
+/// Copies a number: whole in 64 bits, its low half in 32 bits.
 #[inline(always)]
 fn copy(bits: OpWidth, x: Number) -> Option<Number>
     ensures { Gives (copied bits (view x)) result }
@@ -218,7 +219,7 @@ fn copy(bits: OpWidth, x: Number) -> Option<Number>
     }
 }
 
-/// A copy: of 64 bits the number as it is, not tightened; of 32 bits its low half. None where no
+/// A copy: of 64 bits the number as it is, not tightened; of 32 bits its low half. None if no
 /// number is left.
 #[inline(always)]
 pub fn copied(bits: OpWidth, x: Number) -> Option<Number>
@@ -228,7 +229,7 @@ pub fn copied(bits: OpWidth, x: Number) -> Option<Number>
     copy(bits, x)
 }
 
-/// What a copy with sign extension to 64 bits makes of a number.
+/// Sign-extends a number to 64 bits: exactly if it is constant, and else to any number.
 fn sign_extended64(extension: SignedMove, x: Number) -> Option<Number>
     ensures { Gives (extended_of extension Bits64 (view x)) result }
 {
@@ -239,7 +240,8 @@ fn sign_extended64(extension: SignedMove, x: Number) -> Option<Number>
     }
 }
 
-/// What a copy with sign extension to 32 bits makes of a number, which is cut first.
+/// Sign-extends a number to 32 bits, once it is cut to 32 bits: exactly if it is constant then, and
+/// else to any number of 32 bits.
 fn sign_extended32(extension: SignedMove, x: Number) -> Option<Number>
     ensures { Gives (extended_of extension Bits32 (view x)) result }
 {
@@ -264,7 +266,7 @@ fn class_of(extension: SignedMove) -> OpWidth
     }
 }
 
-/// What a copy with sign extension makes of a number.
+/// Sign-extends a number to the width of the copy.
 fn extended(extension: SignedMove, x: Number) -> Option<Number>
     ensures { Gives (sign_extended extension (view x)) result }
 {
@@ -274,7 +276,7 @@ fn extended(extension: SignedMove, x: Number) -> Option<Number>
     }
 }
 
-/// A copy with sign extension: exact of a constant, and else any number of its width. None where no
+/// A copy with sign extension: exact of a constant, and else any number of its width. None if no
 /// number is left.
 pub fn sign_extended(extension: SignedMove, x: Number) -> Option<Number>
     ensures table { Gives (sign_extended extension (view x)) result }
@@ -283,7 +285,7 @@ pub fn sign_extended(extension: SignedMove, x: Number) -> Option<Number>
     extended(extension, x)
 }
 
-/// What a change of byte order makes of a number.
+/// Changes the byte order of a number: exactly if it is constant, and else to any number.
 fn reordered(order: ByteOrder, width: EndWidth, x: Number) -> Option<Number>
     ensures { Gives (ordered order width (view x)) result }
 {

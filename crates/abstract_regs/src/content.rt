@@ -4,17 +4,17 @@ ghost use Rattle.abstract_regs.specs.Slots.{has};
 
 use crate::kind::Kind;
 
-/// What bytes of the stack are looked for that aren't to be read.
+/// The content of a stack slot that a read may not touch.
 #[derive(Clone, Copy, PartialEq, Eq)]
 pub enum Content {
-    /// A slot of which nothing is known.
+    /// A slot that is unset.
     Nothing,
     /// A slot with a pointer.
     Pointer,
 }
 
 impl Content {
-    /// Whether a slot of that kind has it.
+    /// True if a slot of that kind has this content.
     #[inline(always)]
     pub(crate) fn is_in(self, kind: Kind) -> bool
         ensures { result ≡ has self (seen kind) }

@@ -1,8 +1,8 @@
 use bpf_decode::{Operand, Register};
 
-/// Where an instruction goes on. The frame that flowed is the one along its first edge.
-// What a comparison leaves along its second edge is as large as all the rest: it is written into a
-// place that the caller lends, and the edges of other instructions don't carry it.
+/// The edges that leave an instruction. The frame that flowed is the one along the first.
+// The kinds along a comparison's second edge are as large as all the rest: they are written into a
+// place that the caller lends, so that the edges of other instructions don't carry them.
 #[derive(Clone, Copy)]
 pub enum Edges {
     /// Nowhere.
@@ -11,12 +11,12 @@ pub enum Edges {
     Falls,
     /// To a jump's target.
     Jumps(usize),
-    /// To a jump's target; else to the instruction after it, with the kinds in the lent place of
-    /// what was compared.
+    /// To a jump's target, or to the instruction after it; the lent place has the kinds of the
+    /// operands along the latter.
     Branches(usize, Compared),
 }
 
-/// What a comparison compares.
+/// The operands of a comparison.
 #[derive(Clone, Copy)]
 pub struct Compared {
     pub(crate) dst: Register,

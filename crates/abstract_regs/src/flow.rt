@@ -19,7 +19,7 @@ use crate::kind::{Kind, Kinds};
 use abstract_num::{arithmetic, constant, keeping_laws, loaded, loaded_signed};
 use bpf_decode::{Arithmetic, Comparison, Insn, OpWidth, Operand, Register, Width, jump_target};
 
-/// Whether a comparison is of a register with itself.
+/// True if a comparison is of a register with itself.
 #[inline(always)]
 fn is_same_register(dst: Register, source: &Operand) -> bool
     ensures { result ≡ same_register dst source.now }
@@ -31,16 +31,17 @@ fn is_same_register(dst: Register, source: &Operand) -> bool
 }
 
 impl Frame {
-    /// Goes on from the instruction at a slot, which no rule refuses, to the frame after it, and
-    /// gives its edges. Of a call the first register of the range that its helper writes is given.
-    /// Where a comparison has both edges, `fallen` gets the kinds along the second.
+    /// Turns the frame before the instruction at a slot, which no rule refuses, into the one after
+    /// it, and gives its edges. `room` is the first register of the range that a call's helper
+    /// writes. If a comparison has both edges, `fallen` gets the kinds along the second.
     pub fn flow(&mut self, room: Option<u8>, insn: &Insn, slot: usize, fallen: &mut Kinds) -> Edges
         requires { slot < 2 ^ 62 }
         ensures table { flow room insn.now slot self.old ≡ with_edges result fallen.new (slot + slot_count insn.now) self.new }
-        // What was held before it, a frame along an edge holds after it.
+        // A frame along an edge holds after it the values that were held before it.
         ensures keeps { Keeps room insn.now slot self.old }
         ensures fits { EachFits self.old.registers }
     {
+        // For the proof: the tables of numbers keep what is held, and the frame's numbers fit.
         keeping_laws();
         self.fits();
         self.flow_on(room, insn, slot, fallen)
@@ -80,8 +81,8 @@ impl Frame {
         }
     }
 
-    /// Arithmetic that no rule refuses. Of two numbers the result is written where it belongs: made
-    /// as a kind first, it would be copied three times more.
+    /// Arithmetic that no rule refuses. The result of two numbers is written straight into the
+    /// register: made as a kind first, it would be copied three times more.
     #[inline(always)]
     fn combine(
         &mut self,
@@ -117,7 +118,7 @@ impl Frame {
         }
     }
 
-    /// What arithmetic that no rule refuses computes. None where no number is left.
+    /// The kind that arithmetic gives which no rule refuses. None if no number is left.
     fn alu(
         &self,
         bits: OpWidth,
@@ -135,8 +136,8 @@ impl Frame {
         }
     }
 
-    /// What a load gives: what is known of the slot that it is, or else a number of that many
-    /// bytes.
+    /// The kind that a load gives: that of the known slot that it reads whole, or else a number of
+    /// that many bytes.
     #[inline(always)]
     fn loaded(&self, width: Width, base: Register, offset: i16) -> Kind
         ensures { Some (seen result) ≡ loaded_kind (kept_kind self.now (kind_at self.now base) (extended offset) (byte_count width)) (option_map plain.Num (tighten (ranged 0 (load_high width)))) }
@@ -160,8 +161,8 @@ impl Frame {
         Edges::Falls
     }
 
-    /// Gives a register what an instruction computes; where no value is left the instruction goes
-    /// nowhere.
+    /// Gives a register the kind that an instruction computes. If no value is left, no edge leaves
+    /// the instruction.
     #[inline(always)]
     fn compute(&mut self, dst: Register, kind: Option<Kind>) -> Edges
         ensures { (next : ℕ) (kinds : Kinds) → computed next self.old dst (option_map seen kind) ≡ with_edges result kinds next self.new }
@@ -195,7 +196,7 @@ impl Frame {
         self.fork(dst, source, target, taken, fallen, place)
     }
 
-    /// Both edges, by what they leave of both kinds. Where both live, the place gets the kinds along
+    /// Both edges, by the kinds that each leaves. If both are live, the place gets the kinds along
     /// the second.
     #[inline(always)]
     fn fork(
@@ -237,7 +238,7 @@ impl Frame {
         }
     }
 
-    /// Gives what a comparison compared the kinds that it has along another edge.
+    /// Gives the operands of a comparison the kinds that they have along another edge.
     pub fn refine(&mut self, compared: &Compared, kinds: &Kinds)
         ensures { self.new ≡ refined self.old compared.now kinds.now }
     {
@@ -253,7 +254,7 @@ impl Frame {
         self.put(source, kinds.source);
     }
 
-    /// Gives an operand another kind, where it is a register.
+    /// Gives an operand another kind, if it is a register.
     #[inline(always)]
     fn put(&mut self, source: &Operand, kind: Kind)
         ensures { self.new ≡ with_operand self.old source.now (seen kind) }

@@ -15,8 +15,8 @@ use bpf_decode::{OpWidth, Operand, Region, Register};
 use std::alloc::{AllocError, Global};
 use std::marker::Model;
 
-/// What is known before an instruction: the kinds of the eleven registers, and those of the stack's
-/// slots of eight bytes, where such are known. Contracts see them in plain numbers.
+/// The state before an instruction: the kinds of the eleven registers, and those of the stack's
+/// slots of eight bytes, if such are known. Contracts see them in plain numbers.
 #[derive(Drop)]
 pub struct Frame {
     registers: [Kind; 11],
@@ -34,8 +34,8 @@ impl Model for Frame {
 
 impl Frame {
     /// As a method begins: 1 points to the input, 2 is its length, at most `in_cap`, 3 points to
-    /// the output, 10 to the end of a stack of `stack` bytes. So many slots are known: each is the
-    /// number 0.
+    /// the output, 10 to the end of a stack of `stack` bytes. `count` slots of the stack are known,
+    /// each as the number 0.
     pub fn entry(alloc: Global, in_cap: u64, stack: u64, count: usize) -> Result<Frame, AllocError>
         ensures { IfOk result (λ f. f ≡ entry_frame in_cap stack count) }
     {
@@ -59,7 +59,7 @@ impl Frame {
         })
     }
 
-    /// Becomes an equal frame, in its own memory where that has room for as many slots.
+    /// Becomes an equal frame, in its own memory if that has room for the slots.
     pub fn copy_from(&mut self, other: &Frame) -> Result<(), AllocError>
         ensures { OnOk result (self.new ≡ other.now) }
     {
@@ -92,7 +92,7 @@ impl Frame {
         self.kind(usize::from(register.number()))
     }
 
-    /// The kind of a register, where it is.
+    /// The kind of a register, borrowed.
     #[inline(always)]
     pub fn peek(&self, register: Register) -> &Kind
         ensures { seen result.now ≡ kind_at self.now register }
@@ -108,7 +108,7 @@ impl Frame {
         self.registers[usize::from(dst.number())] = kind;
     }
 
-    /// What it and a later flow that meets it leave.
+    /// Joins it in place with a later flow at a merge point.
     pub fn join(&mut self, other: &Frame)
         ensures { self.new ≡ join self.old other.now }
     {
@@ -116,8 +116,8 @@ impl Frame {
         join_slots(&mut self.slots, &other.slots);
     }
 
-    /// A helper answers any number in register 0, leaves registers 1 to 5 unset, and overwrites
-    /// what may be its writable range, of which the first register is given.
+    /// After a helper's call: register 0 is any number, registers 1 to 5 are unset, and the slots
+    /// that its writable range may touch are overwritten; `room` is that range's first register.
     pub(crate) fn end_call(&mut self, room: Option<u8>)
         ensures { self.new ≡ after_call room self.old }
     {
@@ -139,6 +139,7 @@ impl Frame {
     fn spoil_room(&mut self, room: Option<u8>)
         ensures { self.new ≡ with_slots self.old (spoiled (room_span self.old room) 0 self.old.slots) }
     {
+        // Rule set 1 knows no slots: it has nothing to overwrite.
         if !self.slots.is_empty() {
             let span = self.room_span(room);
             spoil(&mut self.slots, span);
@@ -158,8 +159,8 @@ impl Frame {
         }
     }
 
-    /// The kind of the slot that an access is, at a distance from what a kind points to, where it
-    /// is one that is known.
+    /// The kind of the slot that an access covers, at a distance from where `base` points, if it is
+    /// one whole slot that is known.
     #[inline(always)]
     pub fn slot(&self, base: &Kind, distance: u64, bytes: usize) -> Option<Kind>
         ensures { option_map seen result ≡ kept_kind self.now (seen base.now) distance bytes }
@@ -174,7 +175,7 @@ impl Frame {
         }
     }
 
-    /// Whether a slot that the bytes of an access may touch has it.
+    /// True if a slot that the bytes of an access may touch has that content.
     #[inline(always)]
     pub fn access_meets(&self, content: Content, base: &Kind, distance: u64, bytes: usize) -> bool
         ensures { result ≡ meets content (access_span (stack_place (seen base.now) distance) bytes) 0 self.now.slots }
@@ -187,7 +188,7 @@ impl Frame {
             )
     }
 
-    /// Whether a slot that a helper's range may touch has it.
+    /// True if a slot that a helper's range may touch has that content.
     #[inline(always)]
     pub fn range_meets(&self, content: Content, pointer: Kind, length: Kind) -> bool
         ensures { result ≡ meets content (stack_range (seen pointer) (seen length)) 0 self.now.slots }
@@ -219,7 +220,7 @@ impl Frame {
         }
     }
 
-    /// The kind of what an instruction reads besides its destination.
+    /// The kind of an instruction's source operand.
     #[inline(always)]
     pub fn operand(&self, source: Operand) -> Kind
         ensures { seen result ≡ operand_kind self.now source }
@@ -230,7 +231,7 @@ impl Frame {
         }
     }
 
-    /// The kind of what a comparison compares with its destination.
+    /// The kind of a comparison's source operand; one of 32 bits takes an immediate modulo 2^32.
     #[inline(always)]
     pub(crate) fn compared(&self, bits: OpWidth, source: &Operand) -> Kind
         ensures { seen result ≡ compared_kind bits self.now source.now }

@@ -10,8 +10,8 @@ use abstract_num::{
 };
 use bpf_decode::{Arithmetic, ByteOrder, Comparison, EndWidth, OpWidth, Region, SignedMove};
 
-/// What is known of a register: nothing, not even that it is set; that it is a number; or that it
-/// points into a region, so far from its first byte.
+/// The kind of a register: nothing is known of it, not even that it is set; it is a number; or it
+/// points into a region, at that offset from its first byte.
 #[derive(Clone, Copy, PartialEq, Eq)]
 pub enum Kind {
     Unset,
@@ -19,7 +19,7 @@ pub enum Kind {
     Ptr(Region, Number),
 }
 
-/// The kinds of what a comparison compares: its destination, and its source.
+/// The kinds of a comparison's operands: its destination, and its source.
 #[derive(Clone, Copy)]
 pub struct Kinds {
     pub(crate) dst: Kind,
@@ -27,7 +27,7 @@ pub struct Kinds {
 }
 
 impl Kinds {
-    /// Of nothing that is known: a place for `Frame::flow` to write into.
+    /// Both unset: a place for `Frame::flow` to write into.
     pub fn unset() -> Kinds
         ensures { result ≡ record { dst = Kind.Unset; source = Kind.Unset } }
     {
@@ -39,7 +39,7 @@ impl Kinds {
 }
 
 impl Kind {
-    /// Whether nothing is known of it.
+    /// True if nothing is known of it.
     #[inline(always)]
     pub fn is_unset(self) -> bool
         ensures { result ≡ is_unset (seen self) }
@@ -50,7 +50,7 @@ impl Kind {
         }
     }
 
-    /// Whether it is a number.
+    /// True if it is a number.
     #[inline(always)]
     pub fn is_num(self) -> bool
         ensures { result ≡ is_num (seen self) }
@@ -61,7 +61,7 @@ impl Kind {
         }
     }
 
-    /// Whether it is a pointer.
+    /// True if it is a pointer.
     #[inline(always)]
     pub fn is_ptr(self) -> bool
         ensures { result ≡ is_ptr (seen self) }
@@ -72,8 +72,8 @@ impl Kind {
         }
     }
 
-    /// What two flows that meet leave of a register: a number with a pointer, or two regions, leave
-    /// nothing.
+    /// The join of a register's kinds at a merge point: a number with a pointer, pointers into two
+    /// regions, or `Unset` with any kind give `Unset`.
     pub fn join(self, other: Kind) -> Kind
         ensures { seen result ≡ join_kind (seen self) (seen other) }
     {
@@ -92,7 +92,7 @@ impl Kind {
         }
     }
 
-    /// What arithmetic that no rule refuses computes. None where no number is left.
+    /// The kind that arithmetic gives which no rule refuses. None if no number is left.
     #[rattlefmt::skip]
     #[inline(always)]
     pub(crate) fn alu(bits: OpWidth, operation: Arithmetic, x: &Kind, y: &Kind) -> Option<Kind>
@@ -145,7 +145,7 @@ impl Kind {
         }
     }
 
-    /// A number's low bits in an order of bytes.
+    /// A number's low bits in a byte order.
     pub(crate) fn end(self, order: ByteOrder, width: EndWidth) -> Option<Kind>
         ensures { option_map seen result ≡ end_kind order width (seen self) }
     {
@@ -155,8 +155,7 @@ impl Kind {
         }
     }
 
-    /// What an edge of a comparison leaves of both its kinds; `same` says that they are of one
-    /// register.
+    /// Refines both kinds of a comparison along an edge; `same` says that both are of one register.
     pub(crate) fn along(
         bits: OpWidth,
         comparison: Comparison,
@@ -170,6 +169,7 @@ impl Kind {
         match (x, y) {
             (Kind::Num(a), Kind::Num(b)) => {
                 if same {
+                    // A register compared with itself is told nothing: both edges stay live.
                     Kind::twice(tighten(*a))
                 } else {
                     Kind::both(refine(bits, comparison, taken, *a, *b))
@@ -190,7 +190,7 @@ impl Kind {
         }
     }
 
-    /// The kind of a number, where one is left.
+    /// The kind of a number, if one is left.
     #[inline(always)]
     fn number(n: Option<Number>) -> Option<Kind>
         ensures { option_map seen result ≡ option_map plain.Num (option_map view n) }
@@ -201,7 +201,7 @@ impl Kind {
         }
     }
 
-    /// The kind of a pointer, where an offset is left.
+    /// The kind of a pointer, if an offset is left.
     #[inline(always)]
     fn pointer(region: Region, at: Option<Number>) -> Option<Kind>
         ensures { option_map seen result ≡ option_map (plain.Ptr region) (option_map view at) }

@@ -10,19 +10,20 @@ pub fn join_laws()
     ensures of_same { JoinOfSame }
     ensures is_above { JoinIsAbove }
 {
+    // For the proof: the join of numbers has these laws.
     abstract_num::join_laws();
 }
 
-/// A law. What either of two frames holds, their join holds; what a method begins with, the entry
-/// frame holds; the bytes of an access that fits are in the region, at every place that its offset
-/// holds; so are those of a range that fits, from every place that its offset holds, as many as its
-/// length holds.
+/// A law. The join of two frames holds the values that either holds; the entry frame holds those
+/// that a method begins with; the bytes of an access that fits are in the region, at every place
+/// that its offset holds; so are those of a range that fits, for every offset and length held.
 pub fn holding_laws()
     ensures joins { JoinsHold }
     ensures entry { EntryHolds }
     ensures accesses { AccessesFit }
     ensures ranges { RangesFit }
 {
+    // For the proof: numbers fit, and the tables of numbers keep what is held.
     keeping_laws();
 }
 
@@ -39,5 +40,6 @@ pub fn slots_known()
     ensures loads { LoadsAreKnown }
     ensures ranges { RangesAreKnown }
 {
+    // For the proof: numbers fit, and the tables of numbers keep what is held.
     keeping_laws();
 }

@@ -1,10 +1,11 @@
-//! What is known of the eleven registers, and of the stack's slots, before an instruction of a
+//! Frames: the kinds of the eleven registers, and of the stack's slots, before an instruction of a
 //! method, and after it.
 //!
 //! A `Kind` says that a register or a slot is a number, points into a region, or nothing; a `Frame`
 //! has those of the registers and, in rule set 2, of the slots. `Frame::flow` takes a frame over an
 //! instruction, by the table of specs/Flow, and gives the frame along each of its edges: none along
-//! a dead one. What a frame holds before the instruction, a frame along an edge holds after it.
+//! a dead one. If a frame holds the values before the instruction, one along an edge holds those
+//! after it.
 //! `Frame::join` is an upper bound of two frames. Both take no memory and can't fail.
 #![tactic(auto)]
 

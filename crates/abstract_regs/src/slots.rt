@@ -12,7 +12,7 @@ use crate::stack_span::StackSpan;
 use abstract_num::{any, constant, keeping_laws};
 use std::alloc::{AllocError, Global};
 
-/// So many slots with the number 0.
+/// `count` slots with the number 0.
 pub(crate) fn zeros(alloc: Global, count: usize) -> Result<Vec<Kind>, AllocError>
     ensures { IfOk result (λ v. seen_each v.items ≡ replicate count (plain.Num (constant 0))) }
 {
@@ -27,6 +27,7 @@ pub(crate) fn zeros(alloc: Global, count: usize) -> Result<Vec<Kind>, AllocError
 pub(crate) fn fit_all(kinds: &[Kind])
     ensures { EachFits (seen_each kinds.now) }
 {
+    // For the proof: every number of the code fits.
     keeping_laws();
 }
 
@@ -44,11 +45,12 @@ pub(crate) fn join_all(kinds: &mut [Kind], others: &[Kind])
 pub(crate) fn join_slots(slots: &mut Vec<Kind>, others: &[Kind])
     ensures { seen_each slots.new.items ≡ join_each (seen_each slots.old.items) (seen_each others.now) }
 {
+    // For the proof: frames of a pass have equally many slots, which the contract doesn't ask.
     slots.truncate(others.len());
     join_all(slots, others);
 }
 
-/// What is known of a slot that was overwritten in part: some number, where it was one.
+/// The kind of a slot that was overwritten in part: any number if it was one, else unset.
 #[inline(always)]
 fn overwritten(kind: Kind) -> Kind
     ensures { seen result ≡ overwritten (seen kind) }
@@ -59,7 +61,7 @@ fn overwritten(kind: Kind) -> Kind
     }
 }
 
-/// Each slot that may have one of the bytes was overwritten in part.
+/// Overwrites in part each slot that may have one of the bytes.
 pub(crate) fn spoil(slots: &mut [Kind], span: Option<StackSpan>)
     ensures { seen_each slots.new ≡ spoiled span 0 (seen_each slots.old) }
 {
@@ -77,7 +79,7 @@ fn spoil_span(slots: &mut [Kind], span: StackSpan)
     }
 }
 
-/// Whether a slot that may have one of the bytes has it.
+/// True if a slot that may have one of the bytes has that content.
 #[inline(always)]
 pub(crate) fn meets(content: Content, slots: &[Kind], span: Option<StackSpan>) -> bool
     ensures { result ≡ meets content span 0 (seen_each slots.now) }

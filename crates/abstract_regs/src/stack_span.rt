@@ -10,7 +10,7 @@ use abstract_num::{Number, offset_by};
 use bpf_decode::Region;
 use std::marker::Model;
 
-/// Bytes of the stack: as many as `bytes`, from a place between `low` and `high` on.
+/// Bytes of the stack: `bytes` of them, from a place between `low` and `high` on.
 #[derive(Drop)]
 pub(crate) struct StackSpan {
     low: u64,
@@ -41,13 +41,14 @@ impl StackSpan {
     pub fn end(&self, count: usize) -> usize
         ensures { result ≡ min count ((self.now.high + 7) / 8) }
     {
+        // `high + bytes + 7` could overflow: this sum, in slots, can't.
         let whole = self.high / 8 + self.bytes / 8;
         let end = whole + (self.high % 8 + self.bytes % 8 + 7) / 8;
         count.min(end as usize)
     }
 }
 
-/// Where an access at a distance from what a kind points to may be in the stack.
+/// The places in the stack of an access at a distance from where a kind points.
 #[inline(always)]
 pub(crate) fn stack_place(kind: &Kind, distance: u64) -> Option<Number>
     ensures { option_map view result ≡ stack_place (seen kind.now) distance }
@@ -74,7 +75,7 @@ pub(crate) fn access_span(place: Option<Number>, bytes: usize) -> Option<StackSp
     }
 }
 
-/// The slot that an access is: eight bytes at one place, which is a multiple of 8.
+/// The slot that an access covers whole: eight bytes at one place, which is a multiple of 8.
 #[inline(always)]
 pub(crate) fn whole_slot(place: Option<Number>, bytes: usize) -> Option<usize>
     ensures { result ≡ whole_slot (option_map view place) bytes }
@@ -105,7 +106,7 @@ pub(crate) fn stack_range(pointer: Kind, length: Kind) -> Option<StackSpan>
     }
 }
 
-/// The bytes from an offset on, as many as a length may be; none, where it can only be 0.
+/// The bytes from an offset on, for the greatest length; none if that is 0.
 #[inline(always)]
 fn range_span(at: Number, length: Number) -> Option<StackSpan>
     ensures { result ≡ range_span (view at) (view length) }

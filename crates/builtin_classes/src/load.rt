@@ -8,7 +8,8 @@ use bpf_asm::{AsmFault, assemble_class};
 use std::alloc::Global;
 use verifier::{Rule, VerifiedClass, verify};
 
-/// The class that a text is, where each of its methods is safe.
+/// The class that a text spells, if each of its methods is safe.
+// It is assembled at each load: an image next to the text could differ from it.
 fn load(alloc: Global, text: &str) -> Result<VerifiedClass, BuiltInFailure>
     ensures class { IfOk result (IsLoaded text.now) }
     ensures fails { IfErr result (LoadFails text.now) }

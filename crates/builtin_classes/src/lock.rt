@@ -1,11 +1,11 @@
 /// The class `lock`: an exclusive lock on an object. Its owner is the number in the 8 bytes of the
 /// xattr `lock`, little-endian; of a shorter value the rest is zero.
 ///
-/// - `lock`: 0 where the caller takes it or has it already, EBUSY where another has it; ENOSPC
-///   where the object can have no further xattr. It creates an absent object. A value of more than
+/// - `lock`: 0 if the caller takes it or has it already, EBUSY if another has it; ENOSPC if the
+///   object can have no further xattr. It creates an absent object. A value of more than
 ///   8 bytes is nobody's, and it takes its place.
-/// - `unlock`: 0 where the caller had it, whose xattr is gone then; EBUSY where another has it;
-///   ENOENT of an absent object, ENODATA without the xattr, ERANGE where it has more than 8 bytes.
+/// - `unlock`: 0 if the caller had it, whose xattr is gone then; EBUSY if another has it; ENOENT of
+///   an absent object, ENODATA without the xattr, ERANGE if it has more than 8 bytes.
 pub const LOCK: &str = ".method lock rw 0 0
 call 15
 mov r6, r0

@@ -1,15 +1,15 @@
 /// The class `obj`: an object's data and xattrs. Numbers are of 8 bytes, little-endian.
 ///
 /// - `getxattr`: the input is a name; the value is the output, and its length the answer.
-/// - `read`: offset, length; EINVAL where the input is not 16 bytes or the length over 4,096. The
+/// - `read`: offset, length; EINVAL if the input is not 16 bytes or the length over 4,096. The
 ///   bytes that there are from the offset on are the output, and their count the answer.
 /// - `remove`: the object goes.
-/// - `setxattr`: a byte n, a name of n bytes, the value after it; EINVAL where there is no such
-///   byte, it is over 64 or the name is shorter; EFBIG where the value has more than 4,031 bytes.
+/// - `setxattr`: a byte n, a name of n bytes, the value after it; EINVAL if there is no such byte,
+///   it is over 64 or the name is shorter; EFBIG if the value has more than 4,031 bytes.
 /// - `stat`: the length of the data.
 /// - `write`: offset, and the bytes after it; EINVAL under 8 bytes. Their count is the answer.
 ///
-/// Each else answers as its helper.
+/// Otherwise each answers as its helper.
 pub const OBJ: &str = ".method getxattr r 64 4096
 mov r4, 4096
 call 6

@@ -37,7 +37,7 @@ pub enum AnswerError {
     NoMemory,
 }
 
-/// What a call answers.
+/// The answer of a call.
 #[derive(Drop)]
 pub struct Answer {
     /// The method's code; a negative one is an error, which changed nothing.
@@ -50,7 +50,7 @@ pub struct Answer {
     pub edits: Vec<u8>,
 }
 
-/// What an outcome says.
+/// The answer of an outcome, its change as edits.
 fn said(alloc: Global, outcome: Outcome) -> Result<Answer, AllocError>
     ensures { IfOk result (Says outcome) }
 {
@@ -69,7 +69,7 @@ fn said(alloc: Global, outcome: Outcome) -> Result<Answer, AllocError>
     })
 }
 
-/// What a refusal of the flat form is here.
+/// The refusal of a call for a refusal of the object's flat form.
 fn of_flat(error: FlatError) -> MethodError
     ensures { IsOfFlat error result }
 {
@@ -110,7 +110,7 @@ pub fn call_on(
     }
 }
 
-/// What a refusal of a class is for an image of it.
+/// The refusal of a call on an image for that of a call on its class.
 fn of_method(error: MethodError) -> AnswerError
     ensures { result ≡ answer_error error }
 {

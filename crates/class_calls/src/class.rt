@@ -19,7 +19,7 @@ pub enum ClassError {
     NoMemory,
 }
 
-/// What a refusal of an image is here.
+/// The refusal of a class for a refusal of its image; want of memory is its own.
 fn of_image(error: ImageError) -> ClassError
     ensures { IsOfImage error result }
 {
@@ -29,7 +29,7 @@ fn of_image(error: ImageError) -> ClassError
     }
 }
 
-/// What a verdict is here.
+/// The refusal of a class for a verdict. Want of memory is its own: it says nothing of the class.
 fn of_verdict(refusal: Refusal) -> ClassError
     ensures { IsOfVerdict refusal result }
 {

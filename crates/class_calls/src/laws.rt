@@ -11,6 +11,7 @@ pub fn one_answer()
     ensures refusal { (image name object input : List ℕ) (e f : AnswerError) → RefusesCall image name object input e → RefusesCall image name object input f → IsWant e ⊎ (IsWant f ⊎ (e ≡ f)) }
     ensures answer { (image name object input : List ℕ) (caller : ℕ) (answer : Answer) (e : AnswerError) → IsAnswered image name object caller input answer → RefusesCall image name object input e → IsWant e }
 {
+    // For the proof: bytes are the image of one class, read back as it was written.
     bpf_decode::one_class();
     bpf_decode::round_trip();
 }
@@ -20,6 +21,8 @@ pub fn one_answer()
 pub fn parts_may_be_left_out()
     ensures { NeededAreEnough }
 {
+    // For the proof: image and flat form are of one class and one object, a run is a chain of steps
+    // in some layout, and parts that the code doesn't need don't change what it answers.
     bpf_decode::one_class();
     bpf_machine::chains();
     bpf_machine::layouts();

@@ -12,8 +12,8 @@ use object_store::Object;
 use std::alloc::{AllocError, Global};
 use txn::Change;
 
-/// The answer of a run that came to its exit with a code, in that many steps. A negative code keeps
-/// nothing of what the run did.
+/// The answer of a run that reached its exit with a code, in that many steps. A negative code drops
+/// all that the run did.
 pub fn answer(
     alloc: Global,
     given: Option<&Object>,
@@ -53,7 +53,7 @@ pub fn answer(
     })
 }
 
-/// A copy of so many bytes from a place on. None at all are the usual output, and cost no copy.
+/// A copy of that many bytes from a place on. The usual output is empty, and costs no copy.
 fn cut(alloc: Global, memory: &[u8], start: usize, len: usize) -> Result<Vec<u8>, AllocError>
     requires { start + len ≤ length memory.now }
     ensures { IfOk result (λ v. v.items ≡ part memory.now start len) }

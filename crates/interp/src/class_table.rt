@@ -115,11 +115,12 @@ impl ClassTable {
         ensures limit { length self.now ≤ CLASS_LIMIT }
     {
         let class = self.classes.get(id)?;
+        // For the proof: the contract of `methods` says that each is safe.
         let _ = class.methods();
         Some(class)
     }
 
-    /// How many classes are loaded.
+    /// The number of classes that are loaded.
     pub fn len(&self) -> usize
         ensures value { result ≡ length self.now }
         ensures limit { length self.now ≤ CLASS_LIMIT }
@@ -127,7 +128,7 @@ impl ClassTable {
         self.classes.len()
     }
 
-    /// Whether none is.
+    /// True if no class is loaded.
     pub fn is_empty(&self) -> bool
         ensures { result ≡ (length self.now == 0) }
     {

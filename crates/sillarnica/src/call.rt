@@ -18,6 +18,7 @@ fn write_out(answer: &Answer, out: &mut [u8]) -> bool
 {
     let output: &[u8] = answer.output.as_slice();
     let edits: &[u8] = answer.edits.as_slice();
+    // Both lengths are compared before any byte is written.
     if out.len() < output.len() {
         return false;
     }

@@ -27,7 +27,7 @@ pub extern "C" fn sillarnica_version() -> u32
     1
 }
 
-/// Whether the image spells a class that no rule refuses: 0; 1 or 2 with the reason; or -12.
+/// Returns 0 if the image spells a class that no rule refuses; 1 or 2 with the reason; or -12.
 #[unsafe(no_mangle)]
 pub extern "C" fn sillarnica_verify(alloc: Global, image: &[u8], refusal: &mut ToldRefusal) -> i32
     ensures { TellsVerify image.now refusal.old refusal.new result }
@@ -35,8 +35,8 @@ pub extern "C" fn sillarnica_verify(alloc: Global, image: &[u8], refusal: &mut T
     verify::verify(alloc, image, refusal)
 }
 
-/// The line that says why the image or the class is refused: how many bytes it has, and into the
-/// buffer as many as fit; 0 if the class is accepted; or -12.
+/// Writes the line that says why the image or the class is refused, as many bytes of it as fit.
+/// Returns the length of the line; 0 if the class is accepted; or -12.
 #[unsafe(no_mangle)]
 pub extern "C" fn sillarnica_explain(alloc: Global, image: &[u8], text: &mut [u8]) -> i64
     ensures { TellsExplain image.now text.old text.new result }
@@ -44,9 +44,9 @@ pub extern "C" fn sillarnica_explain(alloc: Global, image: &[u8], text: &mut [u8
     verify::explain(alloc, image, text)
 }
 
-/// What a method declares: its flags (1 reads, 2 writes, 3 both) and the most bytes of its input
-/// and output: 0; 1 if the bytes are no image; -95 if it has no method of that name; or -12. No
-/// rule is asked.
+/// Tells the declaration of a method: its flags (1 reads, 2 writes, 3 both) and the most bytes of
+/// its input and output. Returns 0; 1 if the bytes are no image; -95 if it has no method of that
+/// name; or -12. No rule is asked.
 #[unsafe(no_mangle)]
 pub extern "C" fn sillarnica_method(
     alloc: Global,
@@ -61,9 +61,9 @@ pub extern "C" fn sillarnica_method(
     method::declared(alloc, image, method, flags, in_cap, out_cap)
 }
 
-/// Which parts of an object a method can see or change: 1 data, 2 xattrs, 4 keys, added. A call on
-/// any object that has these parts of another answers what one on the other does. -95: there is no
-/// such method; -12.
+/// Returns the parts of an object that a method can see or change: 1 data, 2 xattrs, 4 keys, added.
+/// A call on any object that has these parts of another answers what one on the other does. -95:
+/// there is no such method; -12.
 #[unsafe(no_mangle)]
 pub extern "C" fn sillarnica_needs(alloc: Global, image: &[u8], method: &[u8]) -> i32
     ensures { TellsNeeds image.now method.now result }

@@ -1,4 +1,4 @@
-//! What a method declares.
+//! The declaration of a method, and the parts of an object that it needs.
 
 ghost use Rattle.std.specs.Prelude.{◌≡◌};
 ghost use Rattle.verifier.specs.Verified.{method_named};
@@ -51,11 +51,12 @@ pub(crate) fn declared(
     0
 }
 
-/// Which parts of an object a method needs: 1 data, 2 xattrs, 4 keys, added. Refused: no such
+/// The parts of an object that a method needs: 1 data, 2 xattrs, 4 keys, added. Refused: no such
 /// method, -95, and -12.
 pub(crate) fn needs(alloc: Global, image: &[u8], name: &[u8]) -> i32
     ensures { TellsNeeds image.now name.now result }
 {
+    // For the proof: without the other parts a call answers the same.
     parts_may_be_left_out();
     let class = match read_image(alloc, image) {
         Ok(class) => class,

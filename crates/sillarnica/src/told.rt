@@ -1,4 +1,4 @@
-//! What C is told, and what the refusals are there.
+//! The structs that tell C of refusals and answers, and the numbers of refusals.
 
 ghost use Rattle.std.specs.Prelude.{◌≡◌, Err};
 ghost use Rattle.bpf_decode.specs.ImageReading.{image_of};
@@ -10,7 +10,7 @@ use class_calls::{Answer, ClassError};
 use verifier::Refusal;
 
 /// Why a class is refused. Kind 1: the image, after `method` methods, by the refusal `number`;
-/// `slot` is -1 where it names none. Kind 2: the verdict, by the rule `number` at that method and
+/// `slot` is -1 if it names none. Kind 2: the verdict, by the rule `number` at that method and
 /// slot.
 #[repr(C)]
 #[derive(Drop)]
@@ -21,8 +21,8 @@ pub struct ToldRefusal {
     pub slot: i64,
 }
 
-/// What a call answers: the method's code, the instructions executed, and how many bytes of output
-/// and of edits there are.
+/// The answer of a call: the method's code, the instructions executed, and the lengths of output
+/// and edits in bytes.
 #[repr(C)]
 #[derive(Drop)]
 pub struct ToldAnswer {
@@ -56,7 +56,7 @@ pub(crate) const NO_ROOM: i32 = -34;
 /// The handle is closed.
 pub(crate) const CLOSED: i32 = -9;
 
-/// A slot as C sees it, -1 where there is none. No slot is past what fits: a method has far fewer.
+/// A slot as C sees it, -1 if there is none. Every slot fits: a method has far fewer.
 fn slot_number(slot: Option<usize>) -> i64
     ensures { result ≡ slot_number slot }
 {

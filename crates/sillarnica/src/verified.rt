@@ -12,8 +12,8 @@ use std::alloc::Global;
 use std::mem::replace;
 use verifier::VerifiedClass;
 
-/// What C keeps between calls: `is_open` is 1 and the pointer is a class's, or both are 0. Dropping
-/// one frees nothing: `close` does.
+/// The handle that C keeps between calls: `is_open` is 1 and the pointer is a class's, or both are
+/// 0. Dropping one frees nothing: `close` does.
 #[repr(C)]
 #[derive(Drop)]
 pub struct Verified {

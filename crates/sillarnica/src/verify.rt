@@ -21,7 +21,7 @@ pub(crate) fn verify(alloc: Global, image: &[u8], why: &mut ToldRefusal) -> i32
     }
 }
 
-/// Copies as many bytes as fit, and answers how many there are.
+/// Copies the bytes of the line that fit, and returns its whole length.
 fn write_line(line: &[u8], text: &mut [u8]) -> i64
     requires { length line.now < 2 ^ 63 }
     ensures { Writes line.now text.old text.new result }
@@ -37,7 +37,7 @@ fn write_line(line: &[u8], text: &mut [u8]) -> i64
     line.len() as i64
 }
 
-/// The line of a refused image; -12 where memory is refused.
+/// The line of a refused image; -12 if memory is refused.
 fn explain_image(alloc: Global, error: ImageError, text: &mut [u8]) -> i64
     ensures { WritesOrNot (image_text_of error) text.old text.new result }
 {
@@ -47,7 +47,7 @@ fn explain_image(alloc: Global, error: ImageError, text: &mut [u8]) -> i64
     }
 }
 
-/// The line of a verdict; -12 where memory is refused.
+/// The line of a verdict; -12 if memory is refused.
 fn explain_verdict(alloc: Global, refusal: Refusal, text: &mut [u8]) -> i64
     ensures { WritesOrNot (refusal_text refusal) text.old text.new result }
 {

@@ -5,7 +5,7 @@ use class_calls::{Answer, AnswerError, ClassError, MethodError, answer_on, call_
 use std::alloc::Global;
 use verifier::VerifiedClass;
 
-/// Whether an answer has the code, the steps and the edits of a row.
+/// True if an answer has the code, the steps and the edits of a row, and no output.
 fn is_answer(answer: &Answer, call: &Call) -> bool {
     answer.code == call.5
         && answer.steps == call.6
@@ -38,7 +38,7 @@ fn number_on(alloc: Global, class: &VerifiedClass, call: &Call) -> i32 {
     }
 }
 
-/// Whether a class that is verified once answers a row's number twice; and else why there is none.
+/// True if a class that is verified once answers a row's number twice, or is refused with it.
 fn is_answered_twice(alloc: Global, call: &Call) -> bool {
     match load(alloc, call.0) {
         Ok(class) => {
@@ -90,7 +90,7 @@ fn each_answer(rt: HostRuntime) {
     }
 }
 
-/// Whether the class of an image with a byte changed is loaded, or refused by its own number.
+/// True if the class of an image with a byte changed is loaded, or refused at a place that it has.
 fn is_judged(alloc: Global, image: &[u8]) -> bool {
     match load(alloc, image) {
         Ok(class) => class.methods().len() == 1,

@@ -46,7 +46,7 @@ const ROWS: [Row; 17] = [
     (&XATTR, &[1, 0, 0, 0, 0, 1, 0, 1, 0x61, 0, 0, 0, 0], &[3, 1, 0x61, 0, 0]),
 ];
 
-/// Whether the edits of two objects are these.
+/// True if the edits of two objects are these.
 fn are(alloc: Global, before: Option<&Object>, after: Option<&Object>, edits: &[u8]) -> bool {
     match edits_of(alloc, before, after) {
         Ok(bytes) => bytes.as_slice() == edits,

@@ -42,7 +42,7 @@ const FORMS: [(&[u8], bool); 19] = [
     (&[1, 0, 0, 0, 0, 0, 0, 2, 0, 1, 0x61, 0, 0, 2, 0x61, 0, 0, 0], true),
 ];
 
-/// Whether the bytes are read as an object that has them as its flat form; none if memory was
+/// True if the bytes are read as an object that has them as its flat form; none if memory was
 /// refused.
 fn is_form(alloc: Global, bytes: &[u8]) -> Option<bool> {
     match read_object(alloc, bytes) {

@@ -44,7 +44,7 @@ const SIZES: [(Size, bool); 7] = [
     ((0, 0, 1025), false),
 ];
 
-/// Whether a form is read, and then written as it was; none if memory was refused.
+/// True if a form is read, and then written as it was; none if memory was refused.
 fn is_form(alloc: Global, form: &[u8]) -> Option<bool> {
     match read_object(alloc, form) {
         Ok(object) => Some(flat_form(alloc, object.as_ref()).ok()?.as_slice() == form),

@@ -180,8 +180,8 @@ const ALL: Parts = Parts {
     keys: true,
 };
 
-/// Whether a method answers the same on an object with these parts of it and the others of another;
-/// none where a call is refused.
+/// True if a method answers the same on an object with these parts of it and the others of another;
+/// none if a call is refused.
 fn holds(alloc: Global, image: &[u8], object: &Drawn, other: &Drawn, parts: Parts) -> Option<bool> {
     let whole = asked(alloc, image, &form_of(alloc, object)?)?;
     let given = asked(alloc, image, &form_of(alloc, &mixed(object, other, parts))?)?;

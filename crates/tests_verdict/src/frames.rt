@@ -30,19 +30,19 @@ fn load(rt: &impl Abort, width: Width, dst: u8) -> Insn {
     }
 }
 
-/// Where an instruction at a slot goes, whose helper writes no range.
+/// The edges of an instruction at a slot, whose helper writes no range.
 fn flow(frame: &mut Frame, insn: &Insn, slot: usize) -> Edges
     requires { slot < 1000 }
 {
     frame.flow(None, insn, slot, &mut Kinds::unset())
 }
 
-/// Whether a register of the frame has that kind.
+/// True if a register of the frame has that kind.
 fn has(frame: &Frame, number: usize, kind: Kind) -> bool {
     frame.kind(number) == kind
 }
 
-/// Whether a kind is a number that holds the first, and not the second.
+/// True if a kind is a number that holds the first, and not the second.
 fn tells(kind: Kind, held: u64, not_held: u64) -> bool {
     match kind {
         Kind::Num(n) => holds(&n, held) && !holds(&n, not_held),

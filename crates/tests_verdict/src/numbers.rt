@@ -21,7 +21,7 @@ const MAX: i64 = i64::MAX;
 
 const ANY: Six = (0, ALL, MIN, MAX, 0, ALL);
 
-/// The number of these, where each part is one.
+/// The number of these six parts, if each part is a valid one.
 fn number(six: Six) -> Option<Number> {
     let (low, high, least, greatest, value, unknown) = six;
     if low <= high && least <= greatest && value & unknown == 0 {
@@ -40,7 +40,7 @@ fn number(six: Six) -> Option<Number> {
     }
 }
 
-/// Whether a number is these.
+/// True if a number has these six parts.
 fn is(x: Number, six: Six) -> bool {
     match number(six) {
         Some(y) => x == y,
@@ -48,7 +48,7 @@ fn is(x: Number, six: Six) -> bool {
     }
 }
 
-/// Whether an answer is these, or none.
+/// True if an answer is the number of these six parts, or none if none is wanted.
 fn gives(x: Option<Number>, want: Option<Six>) -> bool {
     match x {
         Some(x) => match want {

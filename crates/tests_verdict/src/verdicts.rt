@@ -15,10 +15,10 @@ use std::alloc::Global;
 use std::process::Abort;
 use verifier::{Refusal, verify};
 
-/// How many bytes the code of a row has at most.
+/// The most bytes that the code of a row has.
 const CODE_ROOM: usize = 96;
 
-/// What a hexadecimal digit counts.
+/// The value of a hexadecimal digit; 0 of any other byte.
 fn digit(byte: u8) -> u8 {
     match byte {
         b'0'..=b'9' => byte - b'0',
@@ -50,7 +50,7 @@ fn number(text: &str) -> u16 {
     }
 }
 
-/// What a method declares.
+/// The declaration of a method.
 #[derive(Clone, Copy)]
 struct Declared {
     flags: u8,
@@ -58,7 +58,7 @@ struct Declared {
     out_cap: u16,
 }
 
-/// A method of that name, by its code's bytes. None where they are no code, or memory ran out.
+/// A method of that name, by its code's bytes. None if they are no code, or memory ran out.
 fn method(alloc: Global, name: &str, code: &[u8], declared: Declared) -> Option<Method> {
     let Ok(instructions) = decode(alloc, code) else {
         return None;
@@ -75,7 +75,7 @@ fn method(alloc: Global, name: &str, code: &[u8], declared: Declared) -> Option<
     ))
 }
 
-/// What a method declares by three words: flags, in_cap and out_cap.
+/// The declaration that three words spell: flags, in_cap and out_cap.
 fn told_declared(text: &str) -> Declared {
     let mut words = text.split_whitespace();
     let flags = number(words.next().unwrap_or(""));
@@ -110,7 +110,7 @@ fn put(methods: &mut Vec<Method>, method: Option<Method>) -> bool {
     }
 }
 
-/// A class of that rule set and one method `f`, which a row tells.
+/// A class of that rule set and one method `f`, which a row spells.
 fn class(alloc: Global, rules: RuleSet, row: &str) -> Option<ClassImage> {
     let mut methods = Vec::new(alloc);
     if !put(&mut methods, method_of(alloc, "f", row)) {
@@ -119,7 +119,7 @@ fn class(alloc: Global, rules: RuleSet, row: &str) -> Option<ClassImage> {
     ClassImage::new(methods, rules).ok()
 }
 
-/// Whether a refusal is of that method and of the slot and the rule that a word tells.
+/// True if a refusal is of that method, and of the slot and the rule that a word `slot:rule` gives.
 fn is_told(refusal: &Refusal, method: usize, told: &str) -> bool {
     match told.split_once(':') {
         None => false,
@@ -131,7 +131,7 @@ fn is_told(refusal: &Refusal, method: usize, told: &str) -> bool {
     }
 }
 
-/// Whether `verify` says so of a class: `ok`, or of that method the slot and the rule's number.
+/// True if `verify` gives that verdict on a class: `ok`, or that method, the slot and the rule.
 fn is_judged(alloc: Global, class: &ClassImage, method: usize, told: &str) -> bool {
     match verify(alloc, class) {
         Ok(_) => told == "ok",
@@ -139,7 +139,7 @@ fn is_judged(alloc: Global, class: &ClassImage, method: usize, told: &str) -> bo
     }
 }
 
-/// Whether `verify` says so of a class of that rule set and one method, which a row tells.
+/// True if `verify` gives that verdict on a class of that rule set and the one method of a row.
 fn is_row_judged(alloc: Global, rules: RuleSet, row: &str, told: &str) -> bool {
     match class(alloc, rules, row) {
         None => false,

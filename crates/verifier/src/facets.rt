@@ -3,7 +3,7 @@ ghost use Rattle.verifier.specs.Facets.{goes_of, writes_of, reads_of, uses_of, t
 
 use bpf_decode::{Arithmetic, Insn, OpWidth, Operand, Register};
 
-/// Where a run goes on after an instruction. A distance is in slots, from the slot after it.
+/// The flow of a run after an instruction. A distance is in slots, from the slot after it.
 #[derive(Clone, Copy)]
 pub enum Goes {
     /// To the instruction after it.
@@ -26,12 +26,12 @@ pub enum Reads {
     Answer,
 }
 
-/// What an instruction does with the values of registers.
+/// The use that an instruction makes of the values of registers.
 #[derive(Clone, Copy)]
 pub enum Uses {
     /// It computes with none: it loads, stores, jumps or calls.
     Nothing,
-    /// It computes from two, the first of which it replaces.
+    /// It computes from two, and replaces the first.
     Computes(OpWidth, Arithmetic, Register, Operand),
     /// It computes from one.
     Changes(Register),
@@ -41,7 +41,7 @@ pub enum Uses {
     Answers,
 }
 
-/// Bytes of memory: so many, so far from where a register points.
+/// Bytes of memory: `bytes` of them, at an offset from where a register points.
 #[derive(Clone, Copy)]
 pub struct Access {
     pub base: Register,
@@ -57,7 +57,7 @@ pub enum Touches {
     Stores(Access, Operand),
 }
 
-/// What an instruction calls.
+/// The function that an instruction calls, if any.
 #[derive(Clone, Copy)]
 pub enum Callee {
     Nothing,
@@ -66,7 +66,7 @@ pub enum Callee {
     Local,
 }
 
-/// Where a run goes on after an instruction.
+/// The flow of a run after an instruction.
 #[rattlefmt::skip]
 #[inline(always)]
 pub fn goes_of(insn: &Insn) -> Goes
@@ -91,7 +91,7 @@ pub fn goes_of(insn: &Insn) -> Goes
     }
 }
 
-/// The register that an instruction writes. A call leaves its answer in register 0 besides.
+/// The register that an instruction writes. A call's answer in register 0 isn't counted.
 #[rattlefmt::skip]
 #[inline(always)]
 pub fn writes_of(insn: &Insn) -> Option<Register>
@@ -141,7 +141,7 @@ pub fn reads_of(insn: &Insn) -> Reads
     }
 }
 
-/// What an instruction does with the values of registers.
+/// The use that an instruction makes of the values of registers.
 #[rattlefmt::skip]
 #[inline(always)]
 pub fn uses_of(insn: &Insn) -> Uses
@@ -191,7 +191,7 @@ pub fn touches_of(insn: &Insn) -> Touches
     }
 }
 
-/// What an instruction calls.
+/// The function that an instruction calls, if any.
 #[rattlefmt::skip]
 #[inline(always)]
 pub fn callee_of(insn: &Insn) -> Callee

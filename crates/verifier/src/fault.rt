@@ -9,7 +9,7 @@ use bpf_decode::Insn;
 use bpf_machine::Caps;
 use helpers::{Argument, signature};
 
-/// What may be wrong with an argument of a helper.
+/// A fault of an argument of a helper.
 #[derive(Clone, Copy)]
 pub enum Fault {
     NotSet,
@@ -20,7 +20,7 @@ pub enum Fault {
 }
 
 impl Fault {
-    /// Whether an argument of the helper has it. An id that is no helper's takes no argument.
+    /// True if an argument of the helper has this fault. An id that is no helper's takes none.
     pub fn is_in_call(self, caps: &Caps, frame: &Frame, helper: u32) -> bool
         ensures { result ≡ call_fault caps.now frame.now self helper }
     {
@@ -30,7 +30,7 @@ impl Fault {
         }
     }
 
-    /// Whether one of the arguments has it, which are taken from that register on.
+    /// True if one of the arguments, taken from that register on, has this fault.
     fn is_in_some(self, caps: &Caps, frame: &Frame, arguments: &[Argument], register: usize) -> bool
         requires { register + length arguments.now + length arguments.now < 100 }
         ensures { result ≡ some_fault caps.now frame.now self arguments.now register }
@@ -49,7 +49,7 @@ impl Fault {
         }
     }
 
-    /// Whether the argument has it, which is taken from that register on.
+    /// True if the argument, taken from that register on, has this fault.
     #[rattlefmt::skip]
     fn is_in(self, caps: &Caps, frame: &Frame, argument: Argument, register: usize) -> bool
         requires { register < 100 }
@@ -62,6 +62,7 @@ impl Fault {
             (Fault::NotSet, Argument::Readable) => {
                 first.is_unset() || second.is_unset() || range_meets(Content::Nothing, caps, frame, first, second)
             }
+            // A helper doesn't read the bytes of its writable range: they may be unset.
             (Fault::NotSet, Argument::Writable) => first.is_unset() || second.is_unset(),
             (Fault::OutOfRegion, Argument::Number | Argument::OutputLength) => false,
             (Fault::OutOfRegion, Argument::Readable | Argument::Writable) => range_leaves(caps, first, second),
@@ -76,7 +77,8 @@ impl Fault {
     }
 }
 
-/// Whether a helper's range that stays in its region may touch a slot of the stack that has it.
+/// True if a helper's range stays in its region and may touch a stack slot with that content.
+// A range that may leave its region is left to rule 10, though rule 5 is tried first.
 fn range_meets(content: Content, caps: &Caps, frame: &Frame, pointer: Kind, length: Kind) -> bool
     ensures { result ≡ range_meets content caps.now frame.now (seen pointer) (seen length) }
 {
@@ -108,7 +110,7 @@ fn room_in(arguments: &[Argument], register: u8) -> Option<u8>
     }
 }
 
-/// How many registers an argument takes.
+/// The number of registers that an argument takes: a range is a pointer and a length.
 fn count_registers(argument: Argument) -> usize
     ensures { result ≡ register_count argument }
 {

@@ -12,7 +12,7 @@ use std::marker::Model;
 #[derive(Drop)]
 pub struct PendingFrames {
     frames: Vec<Option<Box<Frame>>>,
-    /// A frame that is done with, whose memory the next one that is kept takes over.
+    /// A frame that is no longer used, whose memory the next one that is kept takes over.
     spare: Option<Box<Frame>>,
 }
 
@@ -26,7 +26,7 @@ impl Model for PendingFrames {
 }
 
 impl PendingFrames {
-    /// None, of that many slots.
+    /// An empty table, of that many slots.
     pub fn new(alloc: Global, slots: usize) -> Result<PendingFrames, AllocError>
         ensures { IfOk result (λ k. k ≡ replicate slots None) }
     {
@@ -77,7 +77,7 @@ impl PendingFrames {
         }
     }
 
-    /// Gets a frame that is done with, if there is one.
+    /// Takes a frame that is no longer used as the spare one, if there is one.
     #[inline(always)]
     pub fn reuse(&mut self, frame: Option<Box<Frame>>)
         ensures { self.new ≡ self.old }
@@ -106,7 +106,7 @@ fn met(
     }
 }
 
-/// A flow, joined with what has flowed there, and the frame that is done with.
+/// A flow, joined with what has flowed there, and the frame that is no longer used.
 fn united(kept: Option<Box<Frame>>, flow: Box<Frame>) -> (Box<Frame>, Option<Box<Frame>>)
     ensures { result.0.value ≡ joined (unbox kept) flow.value }
 {

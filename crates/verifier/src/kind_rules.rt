@@ -8,7 +8,7 @@ use abstract_regs::{Kind, access_fits, range_fits};
 use bpf_decode::{Arithmetic, OpWidth};
 use bpf_machine::Caps;
 
-/// Whether it is arithmetic with a pointer other than a number added to it or subtracted from it,
+/// True if it is arithmetic with a pointer other than a number added to it or subtracted from it,
 /// in 64 bits.
 #[inline(always)]
 pub fn is_alu_refused(bits: OpWidth, operation: Arithmetic, x: Kind, y: Kind) -> bool
@@ -19,12 +19,13 @@ pub fn is_alu_refused(bits: OpWidth, operation: Arithmetic, x: Kind, y: Kind) ->
         (Kind::Num(_), Kind::Ptr(_, _)) => !is_addition(bits, operation),
         (Kind::Ptr(_, _), Kind::Ptr(_, _)) => true,
         (Kind::Num(_), Kind::Num(_)) => false,
+        // An operand that is unset is refused by rule 5.
         (Kind::Unset, _) => false,
         (Kind::Num(_) | Kind::Ptr(_, _), Kind::Unset) => false,
     }
 }
 
-/// Whether it is a pointer that is copied in 32 bits.
+/// True if it is a pointer that is copied in 32 bits.
 #[inline(always)]
 pub fn is_mov_refused(bits: OpWidth, kind: Kind) -> bool
     ensures { result ≡ mov_refused bits (seen kind) }
@@ -35,7 +36,7 @@ pub fn is_mov_refused(bits: OpWidth, kind: Kind) -> bool
     }
 }
 
-/// Whether all of the bytes at that distance from it are in its region, whatever it points to.
+/// True if it is a pointer, and all of the bytes at that distance from it are in its region.
 #[inline(always)]
 pub fn stays(caps: &Caps, kind: Kind, distance: u64, bytes: usize) -> bool
     ensures { result ≡ stays caps.now (seen kind) distance bytes }
@@ -46,7 +47,7 @@ pub fn stays(caps: &Caps, kind: Kind, distance: u64, bytes: usize) -> bool
     }
 }
 
-/// Whether it points into the region that is read only.
+/// True if it points into the region that is read only.
 #[inline(always)]
 pub fn is_read_only(kind: Kind) -> bool
     ensures { result ≡ is_read_only (seen kind) }
@@ -57,7 +58,7 @@ pub fn is_read_only(kind: Kind) -> bool
     }
 }
 
-/// Whether it is a number that is at most `most`.
+/// True if it is a number that is at most `most`.
 #[inline(always)]
 pub fn is_at_most(most: u16, kind: Kind) -> bool
     ensures { result ≡ is_at_most most (seen kind) }
@@ -68,7 +69,7 @@ pub fn is_at_most(most: u16, kind: Kind) -> bool
     }
 }
 
-/// Whether a helper's range from this pointer on, of that length, may leave its region.
+/// True if a helper's range from this pointer on, of that length, may leave its region.
 #[inline(always)]
 pub fn range_leaves(caps: &Caps, pointer: Kind, length: Kind) -> bool
     ensures { result ≡ range_leaves caps.now (seen pointer) (seen length) }
@@ -80,7 +81,7 @@ pub fn range_leaves(caps: &Caps, pointer: Kind, length: Kind) -> bool
     }
 }
 
-/// Whether a helper's range from this pointer on, of that length, is in the region that is read
+/// True if a helper's range from this pointer on, of that length, is in the region that is read
 /// only.
 #[inline(always)]
 pub fn range_is_read_only(pointer: Kind, length: Kind) -> bool
@@ -93,7 +94,7 @@ pub fn range_is_read_only(pointer: Kind, length: Kind) -> bool
     }
 }
 
-/// Whether a number may be added to a pointer by it, or subtracted.
+/// True if it adds or subtracts in 64 bits, as a pointer may be moved.
 #[inline(always)]
 fn moves_pointer(bits: OpWidth, operation: Arithmetic) -> bool
     ensures { result ≡ moves_pointer bits operation }

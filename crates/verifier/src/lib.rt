@@ -1,9 +1,9 @@
-//! Which classes are safe. `verify` follows each method once, slot by slot, with what is known of
-//! its registers, and accepts the class or gives the first refusal. Every method of an accepted
+//! The verifier of classes. `verify` follows each method once, slot by slot, with the kinds of its
+//! registers, and accepts the class or gives the first refusal. Every method of an accepted
 //! class runs to its exit on every object and input, wherever its regions lie, never stuck, in at
 //! most as many steps as it has instructions. A refusal is the verdict of the rules in
-//! docs/VERIFIER.md, and its rule refuses the instruction at its slot. `VerifiedClass` can only be
-//! had from `verify`, and keeps what a run takes, and that its methods are safe.
+//! docs/VERIFIER.md, and its rule refuses the instruction at its slot. Only `verify` makes a
+//! `VerifiedClass`, which keeps the operations that a run executes, and that its methods are safe.
 #![tactic(auto)]
 
 mod class;

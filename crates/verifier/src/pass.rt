@@ -16,16 +16,15 @@ use bpf_decode::{Insn, Region, RuleSet, width};
 use bpf_machine::{Caps, STACK_SIZE};
 use std::alloc::{AllocError, Global};
 
-/// What the pass over a method has of the flows into the slots to come: one frame, which is changed
-/// in place from instruction to instruction, and for each target of a jump the join of what has
-/// flowed to it.
+/// The flows of a pass over a method into the slots to come: one frame, which is changed in place
+/// from instruction to instruction, and for each jump's target the join of what has flowed to it.
 #[derive(Drop)]
 pub struct Pass {
     /// The frame that falls through to the slot `landing`; at a slot, its frame.
     current: Option<Box<Frame>>,
     landing: usize,
     kept: PendingFrames,
-    /// The place that is lent to each flow.
+    /// The place, lent to each flow, for the kinds along a comparison's second edge.
     fallen: Kinds,
 }
 
@@ -50,13 +49,13 @@ pub fn first_refusal(
 /// The stack's slots of eight bytes.
 const STACK_SLOTS: usize = STACK_SIZE / 8;
 
-/// Of how many slots of the stack frames speak.
+/// The number of stack slots that frames know.
 fn frame_slots(rules: RuleSet) -> usize
     ensures { result ≡ known_slots rules }
 {
     match rules {
-        // Knowing no slots is all that sets rule set 1 apart: so one definition of frames and rules
-        // serves both.
+        // Knowing no slots is all that sets rule set 1 apart, so that one definition of frames and
+        // rules serves both.
         RuleSet::One => 0,
         RuleSet::Two => STACK_SLOTS,
     }
@@ -180,7 +179,7 @@ impl Pass {
         Ok(refused)
     }
 
-    /// Comes to a slot: what falls through to it joins what is kept for it.
+    /// Arrives at a slot: the frame that falls through to it is joined with the one kept for it.
     #[inline(always)]
     fn arrive(&mut self, slot: usize)
         ensures current { unbox self.new.current ≡ awaited self.old slot }
@@ -212,6 +211,7 @@ impl Pass {
                 Edges::Falls => self.current = Some(frame),
                 Edges::Jumps(target) => self.kept.give(target, frame),
                 Edges::Branches(target, compared) => {
+                    // The target gets a copy before this frame is refined for the second edge.
                     self.kept.keep(alloc, target, &frame)?;
                     frame.refine(&compared, &self.fallen);
                     self.current = Some(frame);

@@ -12,7 +12,7 @@ use bpf_decode::{Insn, Method, RuleSet};
 use bpf_machine::Caps;
 use std::alloc::{AllocError, Global};
 
-/// Where a method is refused, and what the rule saw there.
+/// The slot at which a method is refused, and the state that the rule saw there.
 #[derive(Drop)]
 pub struct RefusedSlot {
     /// The first refused slot, from 0.
@@ -20,12 +20,11 @@ pub struct RefusedSlot {
     /// The lowest rule that refuses the slot's instruction.
     pub rule: Rule,
     pub insn: Insn,
-    /// What is known of registers and slots of the stack before it: the join of all that flows into
-    /// the slot. None where nothing does.
+    /// The frame before it: the join of all that flows into the slot. None if nothing does.
     pub known: Option<Frame>,
 }
 
-/// The first refused slot of a method under a rule set, with what the rule saw there; none where no
+/// The first refused slot of a method under a rule set, with what the rule saw there; none if no
 /// rule refuses the method. It costs what `verify` does.
 pub fn refused_slot(
     alloc: Global,

@@ -15,7 +15,7 @@ pub enum Rule {
     /// A call within the program.
     LocalCall,
     /// An operand that is read is unset: at `exit` register 0, at a call the registers of the
-    /// helper's arguments; or a slot of the stack, of which nothing is known, is read.
+    /// helper's arguments; or a slot of the stack that is unset is read.
     UnsetRead,
     /// Register 10 is the destination of arithmetic, a load or a wide load.
     WritesR10,

@@ -61,6 +61,7 @@ fn shape_rule(code: &[Option<Insn>], slot: usize, insn: &Insn) -> Option<Rule>
 fn frame_rule(caps: &Caps, frame: &Frame, insn: &Insn) -> Option<Rule>
     ensures { result ≡ frame_rule caps.now frame.now insn.now }
 {
+    // In the order of the rules' numbers: the lowest rule is the refusal.
     if reads_unset(caps, frame, insn) {
         Some(Rule::UnsetRead)
     } else if writes_r10(insn) {
@@ -90,7 +91,7 @@ fn frame_rule(caps: &Caps, frame: &Frame, insn: &Insn) -> Option<Rule>
     }
 }
 
-/// Whether an instruction begins at the slot.
+/// True if an instruction begins at the slot.
 #[inline(always)]
 fn begins_at(code: &[Option<Insn>], slot: usize) -> bool
     ensures { result ≡ begins_at code.now slot }
@@ -145,7 +146,7 @@ fn is_local_call(insn: &Insn) -> bool
     }
 }
 
-/// A helper that is called has an argument with the fault.
+/// True if it calls a helper, and an argument has the fault.
 #[inline(always)]
 fn asks(caps: &Caps, frame: &Frame, fault: Fault, insn: &Insn) -> bool
     ensures { result ≡ asks caps.now frame.now fault (callee_of insn.now) }
@@ -156,7 +157,7 @@ fn asks(caps: &Caps, frame: &Frame, fault: Fault, insn: &Insn) -> bool
     }
 }
 
-/// What is read is unset: a register, a slot of the stack or a helper's argument.
+/// True if it reads something unset: a register, a slot of the stack or a helper's argument.
 #[inline(always)]
 fn reads_unset(caps: &Caps, frame: &Frame, insn: &Insn) -> bool
     ensures { result ≡ reads_unset caps.now frame.now insn.now }
@@ -188,7 +189,7 @@ fn is_operand_unset(frame: &Frame, operand: Operand) -> bool
     }
 }
 
-/// A load may touch a slot of the stack that is unset.
+/// True if it is a load that may touch a slot of the stack that is unset.
 #[inline(always)]
 fn loads_unset(caps: &Caps, frame: &Frame, touches: Touches) -> bool
     ensures { result ≡ loads_unset caps.now frame.now touches }
@@ -199,7 +200,7 @@ fn loads_unset(caps: &Caps, frame: &Frame, touches: Touches) -> bool
     }
 }
 
-/// Register 10 is its destination.
+/// True if register 10 is its destination.
 #[inline(always)]
 fn writes_r10(insn: &Insn) -> bool
     ensures { result ≡ writes_r10 insn.now }
@@ -210,8 +211,8 @@ fn writes_r10(insn: &Insn) -> bool
     }
 }
 
-/// It computes with a pointer, other than a copy, or a number added to it or subtracted from it,
-/// each in 64 bits.
+/// True if it computes with a pointer, other than a copy, or a number added to it or subtracted
+/// from it, each in 64 bits.
 #[inline(always)]
 fn computes_with_pointer(frame: &Frame, insn: &Insn) -> bool
     ensures { result ≡ computes_with_pointer frame.now insn.now }
@@ -226,7 +227,7 @@ fn computes_with_pointer(frame: &Frame, insn: &Insn) -> bool
     }
 }
 
-/// It compares a pointer.
+/// True if it compares a pointer.
 #[inline(always)]
 fn compares_pointer(frame: &Frame, insn: &Insn) -> bool
     ensures { result ≡ compares_pointer frame.now insn.now }
@@ -245,7 +246,7 @@ fn is_ptr(frame: &Frame, register: Register) -> bool
     frame.at(register).is_ptr()
 }
 
-/// It stores a pointer, other than whole in a slot of the stack that is known.
+/// True if it stores a pointer, other than whole in a slot of the stack that is known.
 #[inline(always)]
 fn stores_pointer(frame: &Frame, insn: &Insn) -> bool
     ensures { result ≡ stores_pointer frame.now insn.now }
@@ -259,7 +260,7 @@ fn stores_pointer(frame: &Frame, insn: &Insn) -> bool
     }
 }
 
-/// What it reads or writes may leave its region.
+/// True if memory that it reads or writes may leave its region.
 #[inline(always)]
 fn leaves_region(caps: &Caps, frame: &Frame, insn: &Insn) -> bool
     ensures { result ≡ leaves_region caps.now frame.now insn.now }
@@ -277,7 +278,7 @@ fn leaves(caps: &Caps, frame: &Frame, touches: Touches) -> bool
     }
 }
 
-/// An access may leave its region, or is through a number.
+/// True if an access may leave its region, or is through a number.
 #[inline(always)]
 fn access_leaves(caps: &Caps, frame: &Frame, access: &Access) -> bool
     ensures { result ≡ access_leaves caps.now frame.now access.now }
@@ -286,7 +287,7 @@ fn access_leaves(caps: &Caps, frame: &Frame, access: &Access) -> bool
     !kind_rules::stays(caps, frame.at(access.base), distance, access.bytes)
 }
 
-/// It writes into the region that is read only.
+/// True if it writes into the region that is read only.
 #[inline(always)]
 fn writes_read_only(caps: &Caps, frame: &Frame, insn: &Insn) -> bool
     ensures { result ≡ writes_read_only caps.now frame.now insn.now }
@@ -304,7 +305,7 @@ fn stores_read_only(frame: &Frame, touches: Touches) -> bool
     }
 }
 
-/// It calls an id that is no helper's.
+/// True if it calls an id that is no helper's.
 #[inline(always)]
 fn calls_unknown(insn: &Insn) -> bool
     ensures { result ≡ calls_unknown insn.now }
@@ -315,14 +316,14 @@ fn calls_unknown(insn: &Insn) -> bool
     }
 }
 
-/// It gives a helper an argument of the wrong kind.
+/// True if it gives a helper an argument of the wrong kind.
 fn passes_wrong_kind(caps: &Caps, frame: &Frame, insn: &Insn) -> bool
     ensures { result ≡ passes_wrong_kind caps.now frame.now insn.now }
 {
     asks(caps, frame, Fault::WrongKind, insn)
 }
 
-/// It calls a helper that may change the object, in a method that may not.
+/// True if it calls a helper that may change the object, in a method that may not.
 #[inline(always)]
 fn writes_in_reader(caps: &Caps, insn: &Insn) -> bool
     ensures { result ≡ writes_in_reader caps.now insn.now }
@@ -343,7 +344,7 @@ fn may_write(callee: Callee) -> bool
     }
 }
 
-/// It leaves the method with a pointer in register 0.
+/// True if it leaves the method with a pointer in register 0.
 #[inline(always)]
 fn returns_pointer(frame: &Frame, insn: &Insn) -> bool
     ensures { result ≡ returns_pointer frame.now insn.now }
@@ -355,14 +356,14 @@ fn returns_pointer(frame: &Frame, insn: &Insn) -> bool
     }
 }
 
-/// It reads a part of a pointer in the stack.
+/// True if it reads a part of a pointer in the stack.
 fn reads_pointer(caps: &Caps, frame: &Frame, insn: &Insn) -> bool
     ensures { result ≡ reads_pointer caps.now frame.now insn.now }
 {
     loads_pointer(caps, frame, touches_of(insn)) || asks(caps, frame, Fault::HasPointer, insn)
 }
 
-/// A load that isn't that of a known slot reads a part of a pointer.
+/// True if it is a load, not of one whole known slot, that may read a part of a pointer.
 #[inline(always)]
 fn loads_pointer(caps: &Caps, frame: &Frame, touches: Touches) -> bool
     ensures { result ≡ loads_pointer caps.now frame.now touches }
@@ -375,7 +376,7 @@ fn loads_pointer(caps: &Caps, frame: &Frame, touches: Touches) -> bool
     }
 }
 
-/// The bytes of an access are one slot of the stack that is known.
+/// True if the bytes of an access are one slot of the stack that is known.
 #[inline(always)]
 fn is_slot(frame: &Frame, access: &Access) -> bool
     ensures { result ≡ is_slot frame.now access.now }
@@ -386,7 +387,8 @@ fn is_slot(frame: &Frame, access: &Access) -> bool
         .is_some()
 }
 
-/// A load that stays in its region may touch a slot of the stack that has it.
+/// True if a load stays in its region and may touch a slot of the stack with that content.
+// A load that may leave its region is left to rule 10, though rule 5 is tried first.
 #[inline(always)]
 fn load_meets(content: Content, caps: &Caps, frame: &Frame, access: &Access) -> bool
     ensures { result ≡ load_meets content caps.now frame.now (kind_at frame.now access.now.base) (extended access.now.offset) access.now.bytes }

@@ -57,6 +57,7 @@ impl Domain for Bits {
             Row::RshBy(by) => rows::rsh(left, by),
             Row::ArshBy(by) => rows::arsh(left, by),
             Row::Cut => rows::cut(left),
+            // The table keeps no known bit for the other rows.
             _ => rows::every(),
         }
     }

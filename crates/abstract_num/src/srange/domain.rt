@@ -51,6 +51,7 @@ impl Domain for SRange {
         match row {
             Row::Add => rows::add(left, right),
             Row::Sub => rows::sub(left, right),
+            // The table keeps no signed range for the other rows.
             _ => rows::every(),
         }
     }

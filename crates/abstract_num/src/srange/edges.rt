@@ -7,7 +7,7 @@ ghost use Rattle.abstract_num.specs.proved.SignedFacts.{AreReaches, SRangeRefine
 use crate::fact::Fact;
 use crate::srange::SRange;
 
-/// The ranges between the ends, or none where two ends cross.
+/// The ranges between the ends, or none if two ends cross.
 #[inline(always)]
 fn between(low: i64, high: i64, other_low: i64, other_high: i64) -> Option<(SRange, SRange)>
     ensures { IsRefined (crosses ((low, high), (other_low, other_high))) (AreReaches ((low, high), (other_low, other_high))) result }
@@ -97,7 +97,7 @@ pub(super) fn at_least(left: SRange, right: SRange) -> Option<(SRange, SRange)>
     )
 }
 
-/// The low end, moved where it is `c`.
+/// The low end, moved inwards if it is `c`.
 #[inline(always)]
 fn raised(low: i64, c: i64) -> i64
     requires { low ≡ c → low <ℤ pos (2 ^ 63 - 1) }
@@ -106,7 +106,7 @@ fn raised(low: i64, c: i64) -> i64
     if low == c { next(low) } else { low }
 }
 
-/// The high end, moved where it is `c`.
+/// The high end, moved inwards if it is `c`.
 #[inline(always)]
 fn lowered(high: i64, c: i64) -> i64
     requires { high ≡ c → negsuc (2 ^ 63 - 1) <ℤ high }

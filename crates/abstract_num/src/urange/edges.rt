@@ -6,7 +6,7 @@ ghost use Rattle.abstract_num.specs.proved.UnsignedFacts.{AreSpans, URangeRefine
 use crate::fact::Fact;
 use crate::urange::URange;
 
-/// The ranges between the ends, or none where two ends cross.
+/// The ranges between the ends, or none if two ends cross.
 #[inline(always)]
 fn between(low: u64, high: u64, other_low: u64, other_high: u64) -> Option<(URange, URange)>
     ensures { IsRefined (crosses ((low, high), (other_low, other_high))) (AreSpans ((low, high), (other_low, other_high))) result }
@@ -41,6 +41,7 @@ pub(super) fn above(left: URange, right: URange) -> Option<(URange, URange)>
         return None;
     }
     between(
+        // `right.low` is below `left.high` here, so neither `+ 1` nor `- 1` overflows.
         left.low.max(right.low + 1),
         left.high,
         right.low,
@@ -67,6 +68,7 @@ pub(super) fn other_than(left: URange, right: URange, c: u64) -> Option<(URange,
     if left.low == left.high && left.low == c {
         None
     } else {
+        // The range isn't `c` alone, so an end that is `c` can move inwards.
         let low = if left.low == c {
             left.low + 1
         } else {

@@ -58,6 +58,7 @@ pub(super) fn mul(left: URange, right: URange) -> URange
 pub(super) fn div(left: URange, right: URange) -> URange
     ensures { IsSpan result (unsigned_row Row.Div left.low left.high right.low right.high) }
 {
+    // A division by 0 gives 0, so a divisor that may be 0 takes the low end to 0.
     if right.low >= 1 {
         span(left.low / right.high, left.high / right.low)
     } else {
@@ -68,13 +69,14 @@ pub(super) fn div(left: URange, right: URange) -> URange
 pub(super) fn rem(left: URange, right: URange) -> URange
     ensures { IsSpan result (unsigned_row Row.Mod left.low left.high right.low right.high) }
 {
+    // A remainder by 0 is the dividend, so a divisor that may be 0 bounds nothing.
     if right.low == 0 {
         return span(0, left.high);
     }
     span(0, left.high.min(right.high - 1))
 }
 
-/// The greatest number with as many binary digits as `n`.
+/// The greatest number whose highest set bit is that of `n`; 0 of 0.
 #[inline(always)]
 fn filled(n: u64) -> u64
     ensures { result ≡ 2 ^ digits n - 1 }
@@ -90,6 +92,7 @@ fn filled(n: u64) -> u64
 pub(super) fn or(left: URange, right: URange) -> URange
     ensures { IsSpan result (unsigned_row Row.Or left.low left.high right.low right.high) }
 {
+    // An `or` keeps every set bit of both, and sets none above the highest.
     span(left.low.max(right.low), filled(left.high.max(right.high)))
 }
 
@@ -122,6 +125,7 @@ pub(super) fn rsh(left: URange, by: u32) -> URange
 pub(super) fn arsh(left: URange, by: u32) -> URange
     ensures { IsSpan result (unsigned_row (Row.ArshBy by) left.low left.high 0 0) }
 {
+    // Below 2^63 the sign is 0, and the shift is a logical one.
     if left.high < 1 << 63 {
         span(left.low >> (by % 64), left.high >> (by % 64))
     } else {

@@ -73,7 +73,7 @@ fn moves_pointers(rt: HostRuntime) {
     );
 }
 
-/// Whether a helper's result is known, and its arguments aren't.
+/// True if a helper's result is any number, and its arguments are unset.
 fn is_forgotten(frame: &Frame) -> bool {
     has(frame, 0, Kind::Num(any()))
         && frame.kind(1).is_unset()
@@ -94,8 +94,8 @@ fn jumps(rt: HostRuntime) {
     assert!(rt; jumps_to(flow(&mut frame, &Insn::Jump { offset: 5 }, 2), 8));
 }
 
-/// Whether the jump at slot 2 goes to slot 8, where register 2 holds 4 and not 3; after the jump it
-/// holds 3 and not 4.
+/// True if the jump at slot 2 goes to slot 8, and register 2 holds 4 and not 3 there; on the edge
+/// that falls through it holds 3 and not 4.
 fn parts_at_3(edges: Edges, kinds: &Kinds, frame: &mut Frame) -> bool {
     match edges {
         Edges::Branches(target, compared) => {
@@ -117,7 +117,7 @@ fn refines_both_edges(rt: HostRuntime) {
     assert!(rt; parts_at_3(edges, &kinds, &mut frame));
 }
 
-/// Where a jump by the length, of at most 16, and that number goes.
+/// The edges of a jump that compares the length, at most 16, with that number.
 fn edges(rt: &impl Abort, alloc: Global, comparison: Comparison, number: i32) -> Edges {
     let insn = jump(rt, comparison, Operand::Immediate(number));
     flow(&mut entry(rt, alloc), &insn, 0)
@@ -129,7 +129,7 @@ fn goes_past_a_dead_edge(rt: HostRuntime) {
     assert!(rt; jumps_to(edges(&rt, rt.alloc(), Comparison::LessEqual, 16), 6));
 }
 
-/// Whether both frames know of register 2 what a kind says.
+/// True if register 2 has that kind along both edges.
 fn keep_kind(edges: Edges, kinds: &Kinds, frame: &mut Frame, kind: Kind) -> bool {
     match edges {
         Edges::Branches(_, compared) => {

@@ -5,7 +5,7 @@ use abstract_num::{between, constant};
 use abstract_regs::{Frame, Kind};
 use bpf_decode::Region;
 
-/// Whether the join of two kinds is the third.
+/// True if the join of two kinds is the third.
 fn joins_to(first: Kind, second: Kind, joined: Kind) -> bool {
     first.join(second) == joined
 }

@@ -201,7 +201,7 @@ fn second(both: Option<(Number, Number)>) -> Option<Number> {
     }
 }
 
-/// Whether the row is what the edge leaves of the number.
+/// True if the edge leaves of the number what the row wants.
 fn holds(bits: OpWidth, row: Row) -> bool {
     let (comparison, taken, six, by, want) = row;
     match number(six) {

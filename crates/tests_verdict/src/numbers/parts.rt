@@ -24,7 +24,7 @@ const ONCE: [(Six, Option<Six>); 8] = [
     ((0, 5, 6, 9, 0, ALL), None),
 ];
 
-/// What tightening gives of the first, once.
+/// Tightening the first once gives the second.
 #[test]
 fn tightened(rt: HostRuntime) {
     for (i, row) in ONCE.iter().enumerate() {
@@ -72,7 +72,7 @@ fn parts_of_a_number(rt: HostRuntime) {
     assert!(rt; x.unsigned().high == 9 && x.signed().low == -3 && x.bits().unknown == 5);
 }
 
-/// A number is constant where its unsigned range is, whatever its other parts say.
+/// A number is constant if its unsigned range is, whatever its other parts say.
 #[test]
 fn constant_by_the_range(rt: HostRuntime) {
     let x = number((5, 5, MIN, MAX, 0, ALL)).expect(&rt, "a number");

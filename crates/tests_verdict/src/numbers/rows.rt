@@ -174,7 +174,7 @@ const HALVES: [Row; 11] = [
     ),
 ];
 
-/// Whether the row is what the operation gives.
+/// True if the operation gives what the row wants.
 fn holds(bits: OpWidth, row: Row) -> bool {
     let (operation, (a, b), (c, d), want) = row;
     if b < a || d < c {
@@ -300,7 +300,7 @@ enum Change {
     Ordered(ByteOrder, EndWidth),
 }
 
-/// An operation on a range, or on a constant where the ends are one, and what it gives.
+/// An operation on a range, or on a constant if both ends are equal, and its result.
 type One = (Change, (u64, u64), Six);
 
 /// Any number of 32 bits.
@@ -345,7 +345,7 @@ const CHANGES: [One; 12] = [
     ),
 ];
 
-/// What an operation gives of a number.
+/// The number that an operation gives for a number.
 fn changed(change: &Change, x: Number) -> Option<Number> {
     match change {
         Change::Copied(bits) => copied(*bits, x),
@@ -355,7 +355,7 @@ fn changed(change: &Change, x: Number) -> Option<Number> {
     }
 }
 
-/// Whether the row is what the operation gives.
+/// True if the operation gives what the row wants.
 fn changes_so(row: &One) -> bool {
     let (change, (low, high), want) = row;
     if low == high {

@@ -114,7 +114,7 @@ fn known(set: u64) -> Option<KnownSet> {
     }
 }
 
-/// What is computed of `m` and each member of the set `j` is held.
+/// True if `z` holds the result for `m` and each member of the set `j`.
 fn row_held(z: &Number, bits: OpWidth, operation: Arithmetic, m: u64, j: u64) -> bool {
     for k in 0..8 {
         if !holds(z, alu(bits, operation, m, member(j, k))) {
@@ -124,7 +124,7 @@ fn row_held(z: &Number, bits: OpWidth, operation: Arithmetic, m: u64, j: u64) ->
     true
 }
 
-/// What is computed of the members of two sets is held.
+/// True if the abstract result holds that of each pair of members of two sets.
 fn operation_held(bits: OpWidth, operation: Arithmetic, x: &KnownSet, y: &KnownSet) -> bool {
     let Some(z) = arithmetic(bits, operation, x.number, y.number) else {
         return false;

@@ -1,4 +1,4 @@
-//! Branches: their operands and targets, and what is known where edges meet.
+//! Branches: their operands and targets, and the kinds at merge points.
 
 /// Rows as `super::check` reads them.
 pub const BRANCHES: &str = "# refused, with an input of one byte

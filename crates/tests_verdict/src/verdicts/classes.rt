@@ -45,7 +45,7 @@ static RULES: [(Rule, &str); 17] = [
     (Rule::PointerBytes, "17 PointerBytes"),
 ];
 
-/// Whether a rule prints so.
+/// True if a rule prints as that text.
 fn is_named(alloc: Global, rule: Rule, text: &str) -> bool {
     match rule.to_string(alloc) {
         Ok(printed) => printed.as_str() == text,
@@ -60,7 +60,7 @@ fn names_rules(rt: HostRuntime) {
     }
 }
 
-/// Whether a refusal prints so.
+/// True if a refusal prints as that text.
 fn is_printed(alloc: Global, refusal: &Refusal, text: &str) -> bool {
     match refusal.to_string(alloc) {
         Ok(printed) => printed.as_str() == text,
@@ -84,14 +84,14 @@ fn prints_refusals(rt: HostRuntime) {
     );
 }
 
-/// Puts three methods, of which the first is safe; whether all could be.
+/// Puts three methods, the first of them safe; true if all could be put.
 fn put_three(alloc: Global, methods: &mut Vec<Method>) -> bool {
     put(methods, method_of(alloc, "f", SAFE))
         && put(methods, method_of(alloc, "g", JUMP_AND_EXIT))
         && put(methods, method_of(alloc, "h", EXIT_ALONE))
 }
 
-/// A class of three methods, of which the first is safe.
+/// A class of three methods, the first of them safe.
 fn three(alloc: Global) -> Option<ClassImage> {
     let mut methods = Vec::new(alloc);
     if !put_three(alloc, &mut methods) {
@@ -139,7 +139,7 @@ fn put_two(alloc: Global, methods: &mut Vec<Method>, row: &Two) -> bool {
     put(methods, method_of(alloc, "f", row.1)) && put(methods, method_of(alloc, "g", row.2))
 }
 
-/// Whether `verify` says so of a class of a row's rule set and two methods.
+/// True if `verify` gives the row's verdict on a class of its rule set and two methods.
 fn is_two_judged(alloc: Global, row: &Two) -> bool {
     let mut methods = Vec::new(alloc);
     if !put_two(alloc, &mut methods, row) {
@@ -158,7 +158,7 @@ fn judges_each_method_by_itself(rt: HostRuntime) {
     }
 }
 
-/// Whether a method has the writer's name, caps and number of instructions.
+/// True if a method has the writer's name, caps and number of instructions.
 fn is_declared(found: &VerifiedMethod) -> bool {
     let caps = Caps {
         in_cap: 3,
@@ -179,7 +179,7 @@ fn place_of(op: &Op) -> usize {
     }
 }
 
-/// Whether operations are those of the writer's four slots.
+/// True if operations are those of the writer's four slots.
 fn are_writers(ops: &[Op]) -> bool {
     match ops {
         [jump, wide, half, exit] => {
@@ -189,7 +189,7 @@ fn are_writers(ops: &[Op]) -> bool {
     }
 }
 
-/// Whether a class has one method, which is found by its name and is the writer.
+/// True if a class has one method, which is found by its name and is the writer.
 fn keeps(class: &VerifiedClass) -> bool {
     match (class.methods(), class.method("f"), class.method("g")) {
         ([first], Some(found), None) => is_declared(found) && are_writers(first.ops()),
@@ -197,7 +197,7 @@ fn keeps(class: &VerifiedClass) -> bool {
     }
 }
 
-/// Whether a class is accepted with the writer as its method.
+/// True if a class is accepted with the writer as its method.
 fn keeps_writer(alloc: Global, class: &ClassImage) -> bool {
     match verify(alloc, class) {
         Ok(class) => keeps(&class),
@@ -216,7 +216,7 @@ fn keeps_what_is_declared(rt: HostRuntime) {
     assert!(rt; kept);
 }
 
-/// Whether a run on the flat machine with that input comes to its exit within that many steps.
+/// True if a run on the flat machine with that input reaches its exit within that many steps.
 fn ends(alloc: Global, caps: &Caps, code: &[u8], input: &[u8], limit: usize) -> bool {
     let layout = Layout {
         input: 0x1000,
@@ -241,7 +241,7 @@ fn ends(alloc: Global, caps: &Caps, code: &[u8], input: &[u8], limit: usize) -> 
     }
 }
 
-/// Whether a method with that input comes to its exit.
+/// True if a method with that input reaches its exit.
 fn exits(alloc: Global, method: &Method, caps: &Caps, input: &[u8]) -> bool {
     let instructions = method.instructions();
     match encode(alloc, instructions) {
@@ -250,7 +250,7 @@ fn exits(alloc: Global, method: &Method, caps: &Caps, input: &[u8]) -> bool {
     }
 }
 
-/// Whether a method comes to its exit on no input, and on the longest.
+/// True if a method reaches its exit on an empty input, and on the longest.
 fn exits_on_inputs(alloc: Global, method: &Method, caps: &Caps) -> bool {
     let most = [0xffu8; 4096];
     match most.get(..usize::from(caps.in_cap)) {
@@ -259,7 +259,7 @@ fn exits_on_inputs(alloc: Global, method: &Method, caps: &Caps) -> bool {
     }
 }
 
-/// Whether a class that was accepted has one method, which comes to its exit.
+/// True if a class that was accepted has one method, which reaches its exit.
 fn its_method_exits(alloc: Global, class: &VerifiedClass, image: &ClassImage) -> bool {
     match (class.methods(), image.methods()) {
         ([verified], [method]) => exits_on_inputs(alloc, method, &verified.caps()),
@@ -267,7 +267,7 @@ fn its_method_exits(alloc: Global, class: &VerifiedClass, image: &ClassImage) ->
     }
 }
 
-/// Whether the one method of a class comes to its exit; None of a class that isn't accepted.
+/// True if the one method of a class reaches its exit; None if the class isn't accepted.
 fn exits_if_verified(alloc: Global, image: &ClassImage) -> Option<bool> {
     match verify(alloc, image) {
         Ok(class) => Some(its_method_exits(alloc, &class, image)),
@@ -275,7 +275,7 @@ fn exits_if_verified(alloc: Global, image: &ClassImage) -> Option<bool> {
     }
 }
 
-/// Whether the one method of an image comes to its exit; None of bytes that are no image of a class
+/// True if the one method of an image reaches its exit; None if the bytes are no image of a class
 /// that is accepted.
 fn exits_if_accepted(alloc: Global, bytes: &[u8]) -> Option<bool> {
     match read_image(alloc, bytes) {

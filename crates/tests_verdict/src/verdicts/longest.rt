@@ -28,7 +28,7 @@ const SPILLING_ARM: u128 = 0x1502010000000000_7b3af8ff00000000;
 const NAMES: &str = "m10 m11 m12 m13 m14 m15 m16 m17 m18 m19 m20 m21 m22 m23 m24 m25 \
 m26 m27 m28 m29 m30 m31 m32 m33 m34 m35 m36 m37 m38 m39 m40 m41";
 
-/// What each method declares: the greatest caps.
+/// The declaration of each method: the greatest caps.
 const GREATEST: Declared = Declared {
     flags: 1,
     in_cap: 4096,
@@ -97,7 +97,7 @@ const ROWS: [Row; 12] = [
     (RuleSet::Two, MOV_R0_0, SPILLING_ARM, "ok"),
 ];
 
-/// Whether `verify` says so of a class of a row's method.
+/// True if `verify` gives the row's verdict on a class of its method.
 fn is_longest_judged(alloc: Global, row: &Row) -> bool {
     match class(alloc, row.0, "f", row.1, row.2) {
         None => false,
@@ -115,7 +115,7 @@ fn takes_each_slot_once(rt: HostRuntime) {
     }
 }
 
-/// Whether `exit` is refused at the last of 4,096 slots, and before it register 0 and the highest
+/// True if `exit` is refused at the last of 4,096 slots, and before it register 0 and the highest
 /// slot of the stack point to the input's first byte.
 fn is_last(refused: &RefusedSlot) -> bool {
     match &refused.known {
@@ -130,7 +130,7 @@ fn is_last(refused: &RefusedSlot) -> bool {
     }
 }
 
-/// Whether the highest slot of the stack points to the input's first byte.
+/// True if the highest slot of the stack points to the input's first byte.
 fn has_input(known: &Frame) -> bool {
     match known.slot(&known.kind(10), (-8i64).cast_unsigned(), 8) {
         None => false,
@@ -138,7 +138,7 @@ fn has_input(known: &Frame) -> bool {
     }
 }
 
-/// Whether it points to the input's first byte.
+/// True if it points to the input's first byte.
 fn is_input(kind: Kind) -> bool {
     match kind {
         Kind::Ptr(Region::Input, at) => at.unsigned().low == 0 && at.unsigned().high == 0,
@@ -146,7 +146,7 @@ fn is_input(kind: Kind) -> bool {
     }
 }
 
-/// Whether what the rule saw at the last slot is told of the one method of a class.
+/// True if `refused_slot` gives the last slot of a class's first method, with what the rule saw.
 fn tells_last(alloc: Global, class: &ClassImage) -> bool {
     match class.methods().get(0) {
         None => false,
@@ -167,7 +167,7 @@ fn tells_what_is_known_at_the_last_slot(rt: HostRuntime) {
     assert!(rt; is_told);
 }
 
-/// How many methods a class has that is accepted; none of one that isn't.
+/// The number of methods of a class that is accepted; 0 for one that isn't.
 fn count(alloc: Global, class: &ClassImage) -> usize {
     match verify(alloc, class) {
         Ok(class) => class.methods().len(),
@@ -175,8 +175,8 @@ fn count(alloc: Global, class: &ClassImage) -> usize {
     }
 }
 
-/// How many of 32 methods of 4,096 slots, each with an input and an output of at most 4,096 bytes,
-/// are in a class of that rule set that is accepted.
+/// The number of methods that are accepted of a class of that rule set with 4,096 slots in each
+/// method, and an input and an output of at most 4,096 bytes; 0 if it is refused.
 fn largest(alloc: Global, rules: RuleSet, pair: u128) -> usize {
     match class(alloc, rules, NAMES, MOV_R0_0, pair) {
         Some(class) => count(alloc, &class),
