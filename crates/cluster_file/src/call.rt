@@ -4,8 +4,8 @@ use object_store::ObjectName;
 use pg_log::ClientId;
 use std::marker::Model;
 
-/// A call as a file plans it: which client makes it, on which object, of which class and method,
-/// with which input. It keeps the class's word too, which a class that isn't loaded has alone.
+/// A call as a file plans it: its client, object, class, method and input. It keeps the class's
+/// word too: a class that isn't loaded has nothing else.
 #[derive(Drop)]
 pub struct Call {
     client: ClientId,

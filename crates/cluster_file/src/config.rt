@@ -4,8 +4,8 @@ ghost use Rattle.cluster_file.specs.Plan.{ended, field_in, first_line, last_in, 
 
 use file_words::number_in;
 
-/// The numbers of a file's first line, whatever a cluster may have. One above 2^64 - 1 counts as
-/// that.
+/// The numbers of a file's first line, whether or not a cluster may have them. A number above 2^64
+/// - 1 counts as that.
 #[derive(Clone, Copy, Drop)]
 pub struct Numbers {
     pub nodes: u64,
@@ -36,7 +36,7 @@ fn field_in<'a, 'b>(key: &str, words: &'b [&'a str]) -> Option<(u64, &'b [&'a st
     }
 }
 
-/// The numbers, where no word is left.
+/// The numbers, if no word is left.
 fn ended(numbers: Numbers, words: &[&str]) -> Option<Numbers>
     ensures { result ≡ ended numbers (map (λ w. w.now) words.now) }
 {
@@ -74,7 +74,7 @@ fn numbers_in_line(words: &[&str]) -> Option<Numbers>
     last_in(nodes, replicas, groups, words)
 }
 
-/// What the words of the first line say.
+/// The numbers in the words of the first line, if it is well-formed.
 pub(crate) fn first_line(words: &[&str]) -> Option<Numbers>
     ensures { result ≡ first_line (map (λ w. w.now) words.now) }
 {

@@ -1,8 +1,8 @@
-//! Cluster files as text: `read_plan` reads a file whole, its cluster, its clients' calls and its
+//! Cluster files as text: `read_plan` reads a whole file, its cluster, its clients' calls and its
 //! maps, or finds its first malformed line; `push_head`, `push_asked`, `push_replied`,
-//! `push_refused`, `bad_line` and `refused_line` give what is printed. The rules are
-//! `specs/Plan.antt` and `specs/Text.antt`; each call's result is pinned by them, and it fails for
-//! want of memory alone. What a plan does in threads is `cluster_tool`'s.
+//! `push_refused`, `bad_line` and `refused_line` give the printed text. The rules are
+//! `specs/Plan.antt` and `specs/Text.antt`; each call's result is pinned by them, and it fails only
+//! if memory is refused. `cluster_tool` runs a plan in threads.
 #![tactic(auto)]
 
 mod call;

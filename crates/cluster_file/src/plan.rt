@@ -8,8 +8,8 @@ use file_words::{ended_lines, words};
 use std::alloc::{AllocError, Global};
 use std::marker::Model;
 
-/// What a file says: the numbers of its first line, and what each further line does, in their
-/// order.
+/// The contents of a file: the numbers of its first line, and the step of each further line, in
+/// their order.
 #[derive(Drop)]
 pub struct Plan {
     numbers: Numbers,
@@ -45,14 +45,14 @@ impl Plan {
         self.numbers
     }
 
-    /// What each further line does.
+    /// The steps of the lines after the first, in their order.
     pub fn steps(&self) -> &[Step]
         ensures { result.now ≡ self.now.steps }
     {
         &self.steps
     }
 
-    /// How many clients it names, 0 to 64.
+    /// The number of clients that it names, 0 to 64.
     pub fn clients(&self) -> u32
         ensures { result ≡ clients_in 0 self.now.steps }
     {
@@ -60,7 +60,7 @@ impl Plan {
     }
 }
 
-/// What reading a file came to.
+/// The result of reading a file.
 #[derive(Drop)]
 pub enum Reading {
     /// It is well-formed.
@@ -69,7 +69,7 @@ pub enum Reading {
     Bad(usize),
 }
 
-/// Where reading the lines after the first ended.
+/// The end of reading the lines after the first.
 enum Ended {
     /// All are well-formed, and name this number of clients.
     All(u32),
@@ -77,7 +77,7 @@ enum Ended {
     Bad(usize),
 }
 
-/// The lines after the first, up to the first that is malformed.
+/// Reads the lines after the first, up to the first that is malformed.
 fn read_steps(
     alloc: Global,
     names: &[&str],
@@ -87,6 +87,7 @@ fn read_steps(
     ensures { IfOk result (λ e. StepsRead (map (λ n. n.now) names.now) (map (λ l. l.now) lines.now) steps.old.items steps.new.items e) }
 {
     let mut clients = 0;
+    // The first line is read already, so these begin with line 2.
     let mut number = 1;
     for line in lines {
         number += 1;
@@ -99,11 +100,12 @@ fn read_steps(
     Ok(Ended::All(clients))
 }
 
-/// Reads a file whole, where the classes go by these names, the one of id 0 first.
+/// Reads a whole file. The classes have these names, in the order of their ids from 0.
 pub fn read_plan(alloc: Global, names: &[&str], text: &str) -> Result<Reading, AllocError>
     ensures { IfOk result (λ r. IsReading (plan_of (map (λ n. n.now) names.now) text.now) r) }
 {
     let lines = ended_lines(alloc, text)?;
+    // Even an empty file has one line, so the other case is never met.
     let [first, rest @ ..] = lines.as_slice() else {
         return Ok(Reading::Bad(1));
     };

@@ -6,24 +6,25 @@ use file_words::{Nodes, bytes_in, class_of, id_in, nodes_in, object_in, words};
 use pg_log::ClientId;
 use std::alloc::{AllocError, Global};
 
-/// How many clients a file may name.
+/// The limit on the clients that a file names.
 pub(crate) const CLIENT_LIMIT: u32 = 64;
 
-/// What a line after the first does.
+/// The step of a line after the first.
 #[derive(Drop)]
 pub enum Step {
     /// A client makes a call.
     Call(Call),
     /// A map is made of these up nodes, once all calls above have ended. The line's number, from 1,
-    /// stands first.
+    /// comes first, for the text of a refusal.
     Map(usize, Nodes),
 }
 
-/// A client: one of those so far, or the next one, up to the 64th.
+/// A client: one of those named so far, or the next one, up to the 64th.
 fn client_in(clients: u32, word: &str) -> Option<ClientId>
     ensures { result ≡ client_in clients word.now }
 {
     let number = id_in(word)?;
+    // In 64 bits, so that the sum can't overflow.
     if u64::from(number) <= u64::from(clients) + 1 && number <= CLIENT_LIMIT {
         ClientId::new(number)
     } else {
@@ -76,7 +77,7 @@ fn call_in(
     }
 }
 
-/// What words do, where they are well-formed.
+/// The step of these words, if they are well-formed.
 fn step_in(
     alloc: Global,
     names: &[&str],
@@ -106,8 +107,7 @@ fn step_in(
     }
 }
 
-/// What a line does, if it is well-formed: the line of that number, before which `clients` clients
-/// were named.
+/// The step of line `number`, if it is well-formed. The lines before it named `clients` clients.
 pub(crate) fn read_step(
     alloc: Global,
     names: &[&str],
@@ -122,7 +122,7 @@ pub(crate) fn read_step(
 }
 
 impl Step {
-    /// How many clients are named after it, if `clients` were named before.
+    /// The number of clients named up to and including this step, if `clients` were named before.
     pub(crate) fn clients_after(&self, clients: u32) -> u32
         ensures { result ≡ clients_after clients self.now }
     {

@@ -15,7 +15,7 @@ pub fn bad_line(alloc: Global, number: usize) -> Result<String, AllocError>
     format!(in alloc; "line {number}: bad\n")
 }
 
-/// The line that says why a line is refused, which is printed as number and name.
+/// The line that says why a line is refused: the refusal, which prints as number and name.
 pub fn refused_line<E: Display + Drop>(
     alloc: Global,
     number: usize,
@@ -26,21 +26,21 @@ pub fn refused_line<E: Display + Drop>(
     format!(in alloc; "line {number}: refused {why}\n")
 }
 
-/// The digits, or `-` where there are none.
+/// The digits, or `-` if there are none.
 fn or_dash(digits: &str) -> &str
     ensures { result.now ≡ digits_or_dash digits.now }
 {
     if digits.is_empty() { "-" } else { digits }
 }
 
-/// Adds whose call it is, and which of its client's.
+/// Adds the client of a call, and the call's number among those of its client.
 pub fn push_head(text: &mut String, client: usize, number: usize) -> Result<(), AllocError>
     ensures { OnOk result (string_bytes text.new ≡ string_bytes text.old ++ head_text client number) }
 {
     write!(text, "client {client} call {number}")
 }
 
-/// Adds what a call asked: the group of its object, of that many groups, and the request in the
+/// Adds the request of a call: the group of its object, of `groups` groups, and the request in the
 /// words of the file.
 pub fn push_asked(
     alloc: Global,

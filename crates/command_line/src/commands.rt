@@ -148,7 +148,7 @@ fn dis_command<'a>(alloc: Global) -> Result<Command<'a>, AllocError>
     with_arg(with_arg(of_image, slots), explain_flag(alloc))
 }
 
-/// The option of a tenant's class, which may stand more than once.
+/// The option of a tenant's class, which may be given more than once.
 fn class_option<'a>(alloc: Global) -> Arg<'a>
     ensures rule { rule_of result ≡ class_rule }
     ensures local { result.global ≡ false }
@@ -188,7 +188,7 @@ fn cluster_command<'a>(alloc: Global) -> Result<Command<'a>, AllocError>
     with_arg(of_classes, stats)
 }
 
-/// The command without its subcommands, one of which has to be there.
+/// The command without its subcommands. Words have to name one of them.
 fn plain_command<'a>(alloc: Global) -> Command<'a>
     ensures { app_of result ≡ plain_line }
 {

@@ -42,7 +42,7 @@ pub(crate) fn value<'a>(alloc: Global, id: &'a str, value: &'a str, help: &'a st
     Arg::new(alloc, id).long(id).value_name(value).help(help)
 }
 
-/// An option that may stand more than once, each with one value.
+/// An option that may be given more than once, each time with one value.
 pub(crate) fn each<'a>(alloc: Global, id: &'a str, value: &'a str, help: &'a str) -> Arg<'a>
     ensures rule { rule_of result ≡ each_rule id.entry.now }
     ensures local { result.global ≡ false }

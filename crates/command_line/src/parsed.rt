@@ -37,11 +37,12 @@ impl<'a> ParsedWords<'a> {
         }
     }
 
-    /// Whether a flag is there.
+    /// True if a flag is set.
     pub fn is_set(&self, id: &str) -> bool
         ensures { result ≡ is_set_in (parsed_of self.now) id.now }
     {
         match self.one(id) {
+            // A flag that is given has the text `true`, as `clap` parses `SetTrue`.
             Some(text) => text == "true",
             None => false,
         }

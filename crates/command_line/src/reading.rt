@@ -29,7 +29,7 @@ fn told(command: &mut Command<'_>, message: &str) -> Unparsed {
     }
 }
 
-/// What that command reads of words.
+/// Parses words by this command.
 fn parse_by<'a, S: AsStr>(
     command: &mut Command<'a>,
     words: &'a [S],
@@ -41,13 +41,14 @@ fn parse_by<'a, S: AsStr>(
     match command.try_get_matches_from_mut(words) {
         Ok(matches) => match entered(matches) {
             Some(parsed) => Ok(parsed),
+            // `plain_command` requires a subcommand, so `clap` itself refuses words without one.
             None => Err(told(command, "a subcommand is wanted")),
         },
         Err(error) => Err(Unparsed::new(error)),
     }
 }
 
-/// What `radoscls` reads of words, the first of which is the program's own name.
+/// Parses the words of `radoscls`. The first is the program's own name.
 pub fn parse<'a, S: AsStr>(alloc: Global, words: &'a [S]) -> Result<ParsedWords<'a>, Unparsed>
     ensures parsed { IfOk result (λ p. IsParse (map S.text words.entry.now) (parsed_of p)) }
     ensures unparsed { IfErr result (λ e. (IsMemory e → ⊥) → IsNoParse (map S.text words.entry.now)) }
@@ -58,8 +59,8 @@ pub fn parse<'a, S: AsStr>(alloc: Global, words: &'a [S]) -> Result<ParsedWords<
     parsed
 }
 
-/// What is wrong with words that have a parse, by the program's own rules: that message, and the
-/// usage of the subcommand of that name.
+/// The refusal, by the program's own rules, of words that have a parse: this message, and the usage
+/// of the subcommand of this name.
 pub fn misused(alloc: Global, name: &str, message: &str) -> Unparsed {
     match command_with_usage(alloc, name) {
         Ok(mut command) => {
@@ -71,8 +72,9 @@ pub fn misused(alloc: Global, name: &str, message: &str) -> Unparsed {
     }
 }
 
-/// The subcommand of that name, whose usage begins with both words.
+/// The subcommand of this name, with a usage that begins with both words.
 fn command_with_usage<'a>(alloc: Global, name: &str) -> Result<Command<'a>, AllocError> {
     let words = format!(in alloc; "radoscls {name}")?;
+    // Built alone, the subcommand doesn't know the name of the program.
     command_named(alloc, name)?.bin_name(&words)
 }

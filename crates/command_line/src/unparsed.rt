@@ -6,8 +6,8 @@ use clap::error::{Error, ErrorKind};
 use std::alloc::{AllocError, AllocFailed};
 use std::fmt;
 
-/// Why words have no parse. It prints as the text for the user: usage, help, the version, or what is
-/// wrong with the words.
+/// The reason why words have no parse. It prints as the text for the user: usage, help, the
+/// version, or the error in the words.
 #[derive(Drop)]
 pub struct Unparsed {
     error: Error,
@@ -20,7 +20,7 @@ impl Unparsed {
         Unparsed { error }
     }
 
-    /// Whether memory was refused, and nothing is known of the words.
+    /// True if memory was refused, so that nothing is known of the words.
     pub fn is_memory(&self) -> bool
         ensures { IsTrue result ↔ IsMemory self.now }
     {

@@ -26,7 +26,7 @@ impl Bytes {
         Bytes { items }
     }
 
-    /// The bytes, of which nothing is kept here. It takes no memory.
+    /// Returns the bytes by value. It takes no memory.
     pub fn into_items(self) -> Vec<u8>
         ensures { result.items ≡ self }
     {
@@ -35,7 +35,7 @@ impl Bytes {
 }
 
 /// The bytes that a word spells: pairs of hexadecimal digits of either case, or `-` for no byte;
-/// nothing where it is neither.
+/// `None` if it is neither.
 pub fn bytes_in(alloc: Global, word: &str) -> Result<Option<Bytes>, AllocError>
     ensures { IfOk result (λ b. b ≡ bytes_in word.now) }
 {
@@ -44,6 +44,7 @@ pub fn bytes_in(alloc: Global, word: &str) -> Result<Option<Bytes>, AllocError>
     }
     match hex::decode(alloc, word) {
         Ok(bytes) => Ok(Some(Bytes::new(bytes))),
+        // A refusal of memory says nothing of the word, so it isn't taken for malformed.
         Err(FromHexError::OutOfMemory) => Err(AllocError),
         Err(_) => Ok(None),
     }

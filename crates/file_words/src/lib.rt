@@ -1,7 +1,7 @@
-//! The words of a line of a file of commands, and what a word may be: a number, an identifier, a
+//! The words of a line of a file of commands, and the kinds of words: a number, an identifier, a
 //! class's name, an object's name, bytes in hexadecimal, a list of nodes. `radoscls sim` and
 //! `radoscls cluster` read their files by it. The rules are `specs/Words.antt`; each call's result
-//! is pinned by them, and it fails for want of memory alone.
+//! is pinned by them, and it fails only if memory is refused.
 #![tactic(auto)]
 
 mod bytes;

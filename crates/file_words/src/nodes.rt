@@ -21,7 +21,7 @@ impl Model for Nodes {
 }
 
 impl Nodes {
-    /// Those nodes. It takes no memory.
+    /// These nodes. It takes no memory.
     pub fn new(items: Vec<NodeId>) -> Nodes
         ensures { result ≡ items.items }
     {
@@ -36,8 +36,8 @@ impl Nodes {
     }
 }
 
-/// The nodes of the words' numbers, in their order; nothing where a word is no number. A number
-/// past 15 is no node's, and is kept.
+/// The nodes of the words' numbers, in their order; `None` if a word is no number. A number above
+/// 15 is no node's, and is kept.
 pub fn nodes_in(alloc: Global, words: &[&str]) -> Result<Option<Nodes>, AllocError>
     ensures { IfOk result (λ ns. ns ≡ numbers_in (map (λ w. w.now) words.now)) }
 {

@@ -5,15 +5,15 @@ ghost use Rattle.file_words.specs.Words.{words, words_in, lines_of, ended_lines_
 
 use std::alloc::{AllocError, Global};
 
-/// The lines of a text: what stands between line feeds, so that an empty one may be the last. It
-/// fails for want of memory alone.
+/// The lines of a text, separated by line feeds, so that the last one may be empty. It fails only
+/// if memory is refused.
 pub fn lines(alloc: Global, text: &str) -> Result<Vec<&str>, AllocError>
     ensures { IfOk result (λ v. map (λ l. l.now) v.items ≡ lines_of text.now) }
 {
     text.split('\n').collect(alloc)
 }
 
-/// Whether there are two lines or more, and the last is empty.
+/// True if there are two lines or more, and the last is empty.
 fn ends_empty(lines: &[&str]) -> bool
     ensures { result ≡ ends_empty (map (λ l. l.now) lines.now) }
 {
@@ -32,8 +32,8 @@ fn drop_empty_end(lines: &mut Vec<&str>)
     }
 }
 
-/// The lines of a text, each ended by a line feed but for the last, which may go without: nothing
-/// stands after a line feed at the text's end. It fails for want of memory alone.
+/// The lines of a text, each ended by a line feed except that the last may go without: a line feed
+/// at the end of the text begins no further line. It fails only if memory is refused.
 pub fn ended_lines(alloc: Global, text: &str) -> Result<Vec<&str>, AllocError>
     ensures { IfOk result (λ v. map (λ l. l.now) v.items ≡ ended_lines_of text.now) }
 {
@@ -42,14 +42,14 @@ pub fn ended_lines(alloc: Global, text: &str) -> Result<Vec<&str>, AllocError>
     Ok(lines)
 }
 
-/// What stands between tabs.
+/// The parts of a text between tabs.
 fn at_tabs(alloc: Global, text: &str) -> Result<Vec<&str>, AllocError>
     ensures { IfOk result (λ v. map (λ l. l.now) v.items ≡ slice_split (λ b. b == 9) text.now) }
 {
     text.split('\t').collect(alloc)
 }
 
-/// What stands between spaces.
+/// The parts of a text between spaces.
 fn at_spaces(alloc: Global, text: &str) -> Result<Vec<&str>, AllocError>
     ensures { IfOk result (λ v. map (λ l. l.now) v.items ≡ slice_split (λ b. b == 32) text.now) }
 {
@@ -80,7 +80,7 @@ fn push_words_in<'a>(
     push_words(words, &parts)
 }
 
-/// The words of a line: what stands between spaces and tabs. It fails for want of memory alone.
+/// The words of a line, separated by spaces and tabs. It fails only if memory is refused.
 pub fn words(alloc: Global, line: &str) -> Result<Vec<&str>, AllocError>
     ensures { IfOk result (λ v. map (λ w. w.now) v.items ≡ words line.now) }
 {

@@ -4,7 +4,7 @@ ghost use Rattle.sim_trace.specs.Drawing.{is_client, fate};
 
 use std::alloc::AllocError;
 
-/// Who has a column.
+/// A party with a column.
 #[derive(Clone, Copy, PartialEq, Eq, Drop)]
 pub enum Column {
     /// A client, by its number.
@@ -16,12 +16,14 @@ pub enum Column {
 }
 
 impl Column {
-    /// Columns stand by rising rank.
+    /// Columns are in the order of rising rank.
     pub(crate) fn rank(self) -> u64
         ensures { result ≡ rank self }
     {
         match self {
             Column::Client(number) => u64::from(number),
+            // Clients' numbers are below 2^32, so nodes come after all clients, and the monitor
+            // last.
             Column::Node(number) => 0x1_0000_0000 + u64::from(number),
             Column::Monitor => 0x2_0000_0000,
         }
@@ -37,7 +39,7 @@ impl Column {
         }
     }
 
-    /// What comes of a message to it that is never delivered.
+    /// The text for a message to it that is never delivered.
     pub(crate) fn fate(self) -> &'static str
         ensures { result.now ≡ fate self }
     {

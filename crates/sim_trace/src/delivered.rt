@@ -1,4 +1,4 @@
-//! Which messages are delivered.
+//! The messages that are delivered.
 ghost use Rattle.std.specs.Prelude.{◌≡◌, ◌<◌, ◌==◌, ◌||◌, ℕ, suc, false, IfOk, length, slice_index_or};
 ghost use Rattle.std.specs.List.{list_any};
 ghost use Rattle.sim_trace.specs.Drawing.{delivered, names_it};
@@ -7,7 +7,7 @@ use crate::message::Message;
 use crate::step::{Step, What};
 use std::alloc::{AllocError, Global};
 
-/// For each message, whether some step delivers it, or tries to.
+/// For each message, true if some step delivers it, or tries to.
 pub(crate) fn delivered(
     alloc: Global,
     messages: &[Message],
@@ -21,7 +21,7 @@ pub(crate) fn delivered(
     Ok(arrived)
 }
 
-/// Notes what steps deliver, where nothing is noted yet.
+/// Notes the messages that steps deliver. Nothing is noted yet.
 fn note_all(arrived: &mut [bool], steps: &[Step])
     requires { (k : ℕ) → k < length arrived.old → slice_index_or arrived.old k false ≡ false }
     ensures { (k : ℕ) → k < length arrived.old → slice_index_or arrived.new k false ≡ list_any (λ s. names_it (suc k) s.what) steps.now }
@@ -31,7 +31,7 @@ fn note_all(arrived: &mut [bool], steps: &[Step])
     }
 }
 
-/// Notes what a step delivers.
+/// Notes the message that a step delivers, if it does.
 fn note(arrived: &mut [bool], what: What)
     ensures { (k : ℕ) → k < length arrived.old → slice_index_or arrived.new k false ≡ (slice_index_or arrived.old k false || names_it (suc k) what) }
 {
@@ -48,6 +48,7 @@ fn note(arrived: &mut [bool], what: What)
 fn note_number(arrived: &mut [bool], number: usize)
     ensures { (k : ℕ) → k < length arrived.old → slice_index_or arrived.new k false ≡ (slice_index_or arrived.old k false || number == suc k) }
 {
+    // Messages are numbered from 1.
     if 0 < number && number <= arrived.len() {
         arrived[number - 1] = true;
     }

@@ -13,8 +13,8 @@ use crate::stopped::note_stop;
 use crate::text::push_repeated;
 use std::alloc::{AllocError, Global};
 
-/// What a step is drawn by: the columns, the messages, for each message whether some step delivers
-/// it, and for each column whether its node is stopped then.
+/// The inputs for drawing a step: the columns, the messages, for each message if some step delivers
+/// it, and for each column if its node is stopped then.
 #[derive(Drop)]
 struct Chart<'a> {
     alloc: Global,
@@ -26,9 +26,9 @@ struct Chart<'a> {
 }
 
 /// The run as a message sequence: the names of the columns, then a line for each step. A message is
-/// drawn where it arrives, each time; one that no step delivers below the step that sent it, a
-/// reply as it reaches its client, any other as lost. The line of a step ends with the numbers of
-/// the messages that it sent.
+/// drawn at each arrival. One that no step delivers is drawn below the step that sent it, a reply
+/// as it reaches its client, any other as lost. The line of a step ends with the numbers of the
+/// messages that it sent.
 pub fn draw(alloc: Global, messages: &[Message], steps: &[Step]) -> Result<String, AllocError>
     ensures { IfOk result (λ s. string_bytes s ≡ drawn messages.now steps.now) }
 {
@@ -65,6 +65,7 @@ fn push_steps(
     let mut stopped = vec![in alloc; false; columns.len()]?;
     let mut first = 0;
     for step in steps {
+        // Before the line is drawn, so that a stop shows in the line of its own step.
         note_stop(columns, step.what, &mut stopped);
         let chart = Chart {
             alloc,
@@ -119,6 +120,7 @@ fn name(alloc: Global, column: Column) -> Result<String, AllocError>
 fn message_at(messages: &[Message], number: usize) -> Option<&Message>
     ensures { option_copied result ≡ message_at messages.now number }
 {
+    // Messages are numbered from 1.
     if number == 0 {
         return None;
     }
@@ -141,7 +143,7 @@ fn push_sends(out: &mut String, first: usize, count: usize) -> Result<(), AllocE
     Ok(())
 }
 
-/// A message's kind: the first word of what it says.
+/// A message's kind: the first word of its text.
 fn kind(text: &str) -> &str
     ensures { result.now ≡ kind text.now }
 {
@@ -151,7 +153,7 @@ fn kind(text: &str) -> &str
     }
 }
 
-/// The label of a message, where its arrow is long enough.
+/// The label of a message on an arrow that is long enough.
 fn long_label(alloc: Global, number: usize, message: &Message) -> Result<String, AllocError>
     ensures { IfOk result (λ s. string_bytes s ≡ long_label number message.now) }
 {
@@ -166,12 +168,13 @@ fn has_arrived(arrived: &[bool], place: usize) -> bool
     arrived[place]
 }
 
-/// How many messages a step sent, of those from one on.
+/// The number of messages from `first` on that a step sent.
 fn sent_by(messages: &[Message], first: usize, step: &Step) -> usize
     requires { first ≤ length messages.now }
     ensures value { result ≡ sent_by messages.now first step.now }
     ensures within { first + result ≤ length messages.now }
 {
+    // A step may claim more messages than there are.
     step.sent.min(messages.len() - first)
 }
 
@@ -198,7 +201,7 @@ impl Chart<'_> {
         push_arrow(out, self.stopped, arrow)
     }
 
-    /// A message that is delivered, and what it says.
+    /// A message that is delivered, and its text.
     fn push_delivery(
         &self,
         out: &mut String,
@@ -226,7 +229,7 @@ impl Chart<'_> {
         out.push_str(message.text.as_str())
     }
 
-    /// What happened.
+    /// Appends the picture of a step's event.
     fn push_picture(&self, out: &mut String, what: What) -> Result<(), AllocError>
         ensures { OnOk result (string_bytes out.new ≡ string_bytes out.old ++ picture self.now.columns.now self.now.messages.now self.now.stopped.now what) }
     {
@@ -278,7 +281,7 @@ impl Chart<'_> {
     }
 
     #[tactic(auto, using(crate::proofs::Counted::lost_rows_more))]
-    /// Of `count` messages from one on, those that no step delivers.
+    /// Of `count` messages from `first` on, those that no step delivers.
     fn push_all_lost(&self, out: &mut String, first: usize, count: usize) -> Result<(), AllocError>
         requires within { first + count ≤ length self.now.messages.now }
         ensures { OnOk result (string_bytes out.new ≡ string_bytes out.old ++ lost_rows self.now.columns.now self.now.messages.now self.now.stopped.now self.now.arrived.now first count) }

@@ -1,7 +1,6 @@
-//! Draws what happened in a group as a message sequence in text: a column for each client, each
-//! node and the monitor, and an arrow for each message where it arrives; a stopped node's line is
-//! dotted. `draw` takes the messages and, step by step, what happened; what it draws is the
-//! definition `drawn`.
+//! Draws the events of a group as a message sequence in text: a column for each client, each node
+//! and the monitor, and an arrow for each message at its arrival; a stopped node's line is dotted.
+//! `draw` takes the messages and the steps; its result is the definition `drawn`.
 #![tactic(auto)]
 
 mod column;

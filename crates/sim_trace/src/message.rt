@@ -1,12 +1,12 @@
 use crate::column::Column;
 
-/// A message that was sent. Messages are numbered from 1, in the order in which they were.
+/// A message that was sent. Messages are numbered from 1, in the order of sending.
 #[derive(Drop)]
 pub struct Message {
-    /// Who sends it.
+    /// The sender.
     pub from: Column,
-    /// Whom it is for.
+    /// The receiver.
     pub to: Column,
-    /// What it says: its kind, and after a blank more.
+    /// The message's text: its kind, and more after a blank.
     pub text: String,
 }

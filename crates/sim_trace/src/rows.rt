@@ -5,14 +5,14 @@ ghost use Rattle.sim_trace.specs.Rows.{repeated, rest, mark_row, bar_at, right_h
 use crate::text::{bar, push_bars, push_repeated};
 use std::alloc::AllocError;
 
-/// From the column of one place to that of another. One that doesn't arrive ends before it is
-/// there.
+/// An arrow from the column of one place to that of another. One that doesn't arrive ends before
+/// its receiver's line.
 #[derive(Clone, Copy)]
 pub(crate) struct Arrow<'a> {
     pub start: usize,
     pub end: usize,
     pub arrives: bool,
-    /// What stands on it where it is long enough, and what else.
+    /// The text on an arrow that is long enough, and the text on a shorter one.
     pub long: &'a str,
     pub short: &'a str,
 }
@@ -41,11 +41,12 @@ fn bar_at(stopped: &[bool], place: usize) -> &'static str
     }
 }
 
-/// Something at the column of a place.
+/// A mark at the column of a place.
 pub(crate) fn push_mark(out: &mut String, stopped: &[bool], place: usize) -> Result<(), AllocError>
     ensures { OnOk result (string_bytes out.new ≡ string_bytes out.old ++ mark_row stopped.now place) }
 {
     push_bars(out, before(stopped, place))?;
+    // A column is 12 characters wide: its mark or line, and 11 blanks.
     out.push_str("*           ")?;
     push_bars(out, from(from(stopped, place), 1))
 }
@@ -53,6 +54,7 @@ pub(crate) fn push_mark(out: &mut String, stopped: &[bool], place: usize) -> Res
 fn right_head(arrives: bool) -> &'static str
     ensures { result.now ≡ right_head arrives }
 {
+    // The blanks keep the head of a lost message off the receiver's line.
     if arrives { ">" } else { "x  " }
 }
 
@@ -62,17 +64,19 @@ fn left_head(arrives: bool) -> &'static str
     if arrives { "<" } else { "  x" }
 }
 
-/// How many characters that many columns have. There is no memory for more than numbers go.
+/// The width of this number of columns, in characters. Fails as if memory were refused if it is no
+/// `usize`.
 fn width_of(cells: usize) -> Result<usize, AllocError>
     ensures { IfOk result (λ n. n ≡ 12 * cells) }
 {
     cells.checked_mul(12).ok_or(AllocError)
 }
 
-/// The label of an arrow of that width.
+/// The label of an arrow of this width.
 fn label_on<'a>(width: usize, head: &str, arrow: Arrow<'a>) -> &'a str
     ensures { result.now ≡ label_on width head.now arrow.entry.short.now arrow.entry.long.now }
 {
+    // 4: the line at the start, the two dashes next to the label, and one more before the head.
     let room = width.saturating_sub(4).saturating_sub(head.len());
     if arrow.long.len() <= room {
         arrow.long
@@ -81,7 +85,7 @@ fn label_on<'a>(width: usize, head: &str, arrow: Arrow<'a>) -> &'a str
     }
 }
 
-/// Fills what a width has left after a head and a label.
+/// Fills the rest of a width after a head and a label.
 fn push_rest(
     out: &mut String,
     width: usize,
@@ -137,7 +141,7 @@ fn push_to_itself(out: &mut String, start: &str, head: &str, label: &str) -> Res
     push_rest(out, 12, head, label, " ")
 }
 
-/// An arrow, where it goes to a column further right.
+/// An arrow to a column further right.
 fn push_right(out: &mut String, stopped: &[bool], arrow: Arrow<'_>) -> Result<(), AllocError>
     requires { arrow.start < arrow.end }
     ensures { OnOk result (string_bytes out.new ≡ string_bytes out.old ++ arrow_row stopped.now arrow.entry.start arrow.entry.end arrow.entry.arrives arrow.entry.short.now arrow.entry.long.now) }
@@ -150,7 +154,7 @@ fn push_right(out: &mut String, stopped: &[bool], arrow: Arrow<'_>) -> Result<()
     push_bars(out, from(stopped, arrow.end))
 }
 
-/// An arrow, where it goes to a column further left.
+/// An arrow to a column further left.
 fn push_left(out: &mut String, stopped: &[bool], arrow: Arrow<'_>) -> Result<(), AllocError>
     requires { arrow.end < arrow.start }
     ensures { OnOk result (string_bytes out.new ≡ string_bytes out.old ++ arrow_row stopped.now arrow.entry.start arrow.entry.end arrow.entry.arrives arrow.entry.short.now arrow.entry.long.now) }

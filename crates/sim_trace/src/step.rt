@@ -1,15 +1,15 @@
 use crate::column::Column;
 
-/// What happened.
+/// The event of a step.
 #[derive(Clone, Copy, Drop)]
 pub enum What {
     /// Something at one party, as a map that a node sees.
     At(Column),
     /// The first, a client, asks the second, a node.
     Asked(Column, Column),
-    /// The message of that number arrives at its receiver.
+    /// The message of this number arrives at its receiver.
     Arrived(usize),
-    /// The message of that number comes to its receiver, which is stopped.
+    /// The message of this number gets to its receiver, which is stopped.
     Bounced(usize),
     /// A node stops: its line is dotted from then on.
     Stopped(Column),
@@ -20,10 +20,10 @@ pub enum What {
 /// A step of a run.
 #[derive(Drop)]
 pub struct Step {
-    /// What happened.
+    /// The event.
     pub what: What,
-    /// What is said of it; of a message that arrives, after what that says.
+    /// Its text; for a message that arrives, the text follows the message's own.
     pub text: String,
-    /// How many messages it sent, of those that no step before it sent.
+    /// The number of messages that it sent, not counting those of earlier steps.
     pub sent: usize,
 }

@@ -1,4 +1,4 @@
-//! Which columns' nodes are stopped.
+//! The columns with stopped nodes.
 ghost use Rattle.std.specs.Prelude.{◌≡◌, slice_set};
 ghost use Rattle.sim_trace.specs.Drawing.{stopped_after};
 
@@ -6,7 +6,7 @@ use crate::column::Column;
 use crate::columns::place_of;
 use crate::step::What;
 
-/// Notes at the column of a place whether its node is stopped, if there is such a column.
+/// Notes for the column of a place if its node is stopped, if there is such a column.
 fn set(stopped: &mut [bool], place: usize, is_stopped: bool)
     ensures { stopped.new ≡ slice_set stopped.old place is_stopped }
 {

@@ -15,14 +15,14 @@ pub(crate) fn push_repeated(out: &mut String, n: usize, text: &str) -> Result<()
     Ok(())
 }
 
-/// A column's line, where it is drawn.
+/// The character of a column's line: dotted if its node is stopped.
 pub(crate) fn bar(is_stopped: bool) -> &'static str
     ensures { result.now ≡ bar is_stopped }
 {
     if is_stopped { ":" } else { "|" }
 }
 
-/// Columns at which nothing is drawn: for each, whether its node is stopped.
+/// Columns with nothing but their lines: for each, true if its node is stopped.
 pub(crate) fn push_bars(out: &mut String, stopped: &[bool]) -> Result<(), AllocError>
     ensures { OnOk result (string_bytes out.new ≡ string_bytes out.old ++ bars stopped.now) }
 {

@@ -13,7 +13,7 @@ use std::alloc::Global;
 use std::marker::Brand;
 use std::process::Abort;
 
-/// A call of the lock class on the one object, and what it is answered.
+/// A call of the lock class on the one object, and its answer.
 struct Row {
     client: u32,
     number: u32,
@@ -89,7 +89,7 @@ pub(crate) fn activated() -> Event {
     })
 }
 
-/// How many messages an event sends, or why it is refused.
+/// The number of messages that an event sends, or its refusal.
 fn take<N: BoardName>(
     board: &Board,
     table: &ClassTable,
@@ -103,7 +103,7 @@ fn take<N: BoardName>(
         .map(|sent: Messages| sent.items().len())
 }
 
-/// Whether a reply is what the row says.
+/// True if a reply is as the row says.
 fn is_of<N: BoardName>(reply: &Reply<N>, row: &Row) -> bool {
     reply.place() == row.place
         && reply.code() == row.code
@@ -112,7 +112,7 @@ fn is_of<N: BoardName>(reply: &Reply<N>, row: &Row) -> bool {
         && reply.request().number().get() == row.number
 }
 
-/// Whether a post answers the request, and no other with the same client and number.
+/// True if a post answers this request, and no other with the same client and number.
 fn answers_it_alone<N: BoardName, R: Abort>(
     rt: &R,
     alloc: Global,
@@ -124,7 +124,8 @@ fn answers_it_alone<N: BoardName, R: Abort>(
     post.answers(&same) && !post.answers(&other)
 }
 
-/// Whether the row's call, which was taken, is answered as the row says, with one place more.
+/// True if the row's call, which was taken, is answered as the row says, and the log is one place
+/// longer.
 fn is_answered<N: BoardName, R: Abort>(
     rt: &R,
     alloc: Global,
@@ -141,8 +142,8 @@ fn is_answered<N: BoardName, R: Abort>(
     is_right && answers_it_alone(rt, alloc, &Post::Reply(reply), row)
 }
 
-/// Whether nothing is answered before the interval is activated, nor at a place that isn't
-/// committed, and all rows are.
+/// True if nothing is answered before the interval is activated or at an uncommitted place, and all
+/// rows are answered.
 fn locks<N: BoardName, R: Abort>(
     rt: &R,
     alloc: Global,
@@ -178,7 +179,7 @@ struct Tokens {
     seen: Seen,
 }
 
-/// How many requests a token sees once it heard of the cell, if all went as it should.
+/// The number of requests that a token sees once it heard of the cell, if all went as it should.
 fn seen_after<N: BoardName, R: Abort>(
     rt: &R,
     alloc: Global,

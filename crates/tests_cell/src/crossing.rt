@@ -1,5 +1,5 @@
-//! What the threads of a cluster hand to one another, and what they share under locks, may cross
-//! threads.
+//! The values that threads of a cluster hand to one another, and those that they share under locks,
+//! may cross threads.
 use carried::operation_crosses;
 use commit_board::board_crosses;
 use group_cell::{cell_crosses, post_crosses};
@@ -8,6 +8,7 @@ use std::marker::Brand;
 
 #[test]
 fn what_a_cluster_shares_may_cross(_rt: HostRuntime) {
+    // The laws do nothing: they were proved when the crate was checked.
     operation_crosses();
     board_crosses();
     book_crosses();

@@ -1,4 +1,4 @@
-//! Tests alone, of what lies under the locks of a cluster: a group's cell, and the book of maps.
+//! Only tests, of the values under the locks of a cluster: a group's cell, and the book of maps.
 #![tactic(auto)]
 
 #[cfg(test)]

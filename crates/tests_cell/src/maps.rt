@@ -1,4 +1,4 @@
-//! The maps of 64 groups of five nodes, three of which act for a group.
+//! The maps of 64 groups on five nodes; three nodes act for each group.
 use group_world::{Epoch, MonitorError};
 use map_book::{MapBook, MapError};
 use placement::NodeId;
@@ -14,8 +14,8 @@ fn nodes<R: Abort>(rt: &R, alloc: Global, numbers: &[u64]) -> Vec<NodeId> {
     nodes
 }
 
-/// How many groups have a new interval by a map of these up nodes, if there is a map for each group
-/// and all are of that epoch.
+/// The number of groups with a new interval by a map of these up nodes, if there is a map for each
+/// group and all have this epoch.
 fn told<R: Abort>(
     rt: &R,
     alloc: Global,
@@ -31,7 +31,7 @@ fn told<R: Abort>(
     Some(maps.iter().filter(|new| new.is_new_interval).count())
 }
 
-/// Whether these nodes act for a group by its newest map, in this order.
+/// True if these nodes act for a group by its newest map, in this order.
 fn is_kept_by<R: Abort>(
     rt: &R,
     alloc: Global,
@@ -72,13 +72,13 @@ fn many_maps(rt: HostRuntime) {
     }
 }
 
-/// What a map of these up nodes is refused by, as it prints.
+/// The refusal of a map of these up nodes, if it is refused.
 fn refusal<R: Abort>(rt: &R, alloc: Global, book: &mut MapBook, up: &[u64]) -> Option<MapError> {
     let up = nodes(rt, alloc, up);
     book.new_map(&up).err()
 }
 
-/// Whether a refusal prints so.
+/// True if a refusal prints as this text.
 fn prints<R: Abort>(rt: &R, alloc: Global, error: MapError, text: &str) -> bool {
     error.to_string(alloc).expect(rt, "memory").as_str() == text
 }
@@ -102,7 +102,7 @@ fn refusals_print_number_and_name(rt: HostRuntime) {
     assert!(rt; prints(&rt, alloc, MapError::NoMemory, "4 NoMemory"));
 }
 
-/// Whether only the newest interval of a group is activated.
+/// True if only the newest interval of a group can be activated.
 fn activates_the_newest(book: &mut MapBook, group: usize, newest: u32, other: u32) -> bool {
     group < book.groups()
         && book.activate(group, Epoch::new(other)) == Err(MonitorError::NotNewest)

@@ -1,4 +1,4 @@
-//! What goes out of a cell by one operation.
+//! The messages and replies that a cell sends out for one operation.
 ghost use Rattle.std.specs.Prelude.{◌≡◌, []};
 
 use crate::cells::{activated, request, table};
@@ -13,7 +13,7 @@ use std::alloc::Global;
 use std::marker::Brand;
 use std::process::Abort;
 
-/// What went out.
+/// An item that was sent out.
 #[derive(Clone, Copy, PartialEq, Eq, Drop)]
 enum Out {
     Nothing,
@@ -23,7 +23,7 @@ enum Out {
     Refused(u32, HandleError),
 }
 
-/// An item of what went out.
+/// An item, as the test compares it.
 fn out_of<N: BoardName>(item: &Option<Outgoing<N>>) -> Out {
     match item {
         None => Out::Nothing,
@@ -38,7 +38,7 @@ fn out_of<N: BoardName>(item: &Option<Outgoing<N>>) -> Out {
     }
 }
 
-/// Whether these items went out, and no others.
+/// True if exactly these items were sent out.
 fn are<N: BoardName>(items: &[Option<Outgoing<N>>], wanted: &[Out]) -> bool {
     items.len() == wanted.len()
         && items
@@ -47,14 +47,14 @@ fn are<N: BoardName>(items: &[Option<Outgoing<N>>], wanted: &[Out]) -> bool {
             .all(|(item, out)| out_of(item) == *out)
 }
 
-/// A turn's event, and what is to go out by it.
+/// A turn's event, and the items that it should send.
 #[derive(Drop)]
 struct Turn<'a> {
     event: Event,
     wanted: &'a [Out],
 }
 
-/// Whether a turn sends what it is to. It doesn't where memory is refused.
+/// True if a turn sends the items that it should. It doesn't if memory is refused.
 fn sends<N: BoardName>(
     alloc: Global,
     board: &Board,
@@ -82,7 +82,7 @@ fn first_map<R: Abort>(rt: &R, alloc: Global, acting: &[u64]) -> Event {
     Event::Map(GroupMap::new(one, one, nodes, Epoch::new(0), Vec::new(alloc)))
 }
 
-/// Whether a node that acts alone asks the monitor, again where nobody answered, and answers its
+/// True if a node that acts alone asks the monitor, asks again if nobody answered, and answers its
 /// client.
 fn works_alone<N: BoardName, R: Abort>(
     rt: &R,
@@ -120,7 +120,7 @@ fn works_alone<N: BoardName, R: Abort>(
     right && sends(alloc, board, table, &mut cell, unknown)
 }
 
-/// Whether the first of three acting nodes sends its empty list to the others, and refuses a client
+/// True if the first of three acting nodes sends its empty list to the others, and refuses a client
 /// until they have it.
 fn leads_three<N: BoardName, R: Abort>(
     rt: &R,

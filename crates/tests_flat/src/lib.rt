@@ -1,4 +1,4 @@
-//! Tests alone, of the flat machine: rows of its instructions and helpers, and whole runs.
+//! Only tests, of the flat machine: rows of its instructions and helpers, and whole runs.
 #![tactic(auto)]
 
 #[cfg(test)]

@@ -14,7 +14,7 @@ use verifier::{VerifiedClass, VerifiedMethod};
 
 /// An owner, another, and nobody. A row is a request (client, object, class, method and input), a
 /// bar, and its reply (code and output). Bytes are hexadecimal, `-` for none, and `*N` after them
-/// stands for N zero bytes.
+/// adds N zero bytes.
 const LOCKS: &str = "1 a lock unlock - | -2 -
 1 a lock lock - | 0 -
 2 a lock lock - | -16 -
@@ -145,7 +145,7 @@ fn longest_value<R: Abort>(rt: &R, alloc: Global) -> Vec<u8> {
     value
 }
 
-/// Whether a call answers with that value, in the eight steps of `getxattr`.
+/// True if a call outputs this value, in the eight steps of `getxattr`.
 fn answers_with(outcome: &Outcome, value: &[u8]) -> bool {
     outcome.code == 4096
         && outcome.steps == 8
@@ -153,7 +153,7 @@ fn answers_with(outcome: &Outcome, value: &[u8]) -> bool {
         && has_one_xattr(outcome.change.after())
 }
 
-/// Whether `getxattr` of the name `x` answers with the value that an object has of that name.
+/// True if `getxattr` of the name `x` outputs the value of that xattr of an object.
 fn gets<R: Abort>(rt: &R, alloc: Global, class: &VerifiedClass, value: &[u8]) -> bool {
     let object = calls::set_xattr(alloc, None, b"x", value).expect(rt, "an object");
     let outcome = call(alloc, class, "getxattr", Some(&object), 1, b"x").expect(rt, "an answer");
@@ -216,13 +216,13 @@ adopt 1; 2 1 0 lock | 1
 length | 2
 code 1 | -16";
 
-/// What was done in between is undone: the lock is the owner's still.
+/// The adoption undid the calls in between, so the lock is still the owner's.
 #[test]
 fn a_lock_stands_after_an_adoption(rt: HostRuntime) {
     check(&rt, rt.alloc(), ADOPTED);
 }
 
-/// Whether an object has one xattr and nothing else.
+/// True if an object has one xattr and nothing else.
 fn has_one_xattr(object: Option<&Object>) -> bool {
     match object {
         None => false,
@@ -232,7 +232,7 @@ fn has_one_xattr(object: Option<&Object>) -> bool {
     }
 }
 
-/// What a client's call of `lock` answers.
+/// The outcome of a client's call of `lock`.
 fn locked<R: Abort>(
     rt: &R,
     alloc: Global,
@@ -243,7 +243,7 @@ fn locked<R: Abort>(
     call(alloc, class, "lock", object, client, &[]).expect(rt, "an answer")
 }
 
-/// Whether the lock was taken, in 20 steps.
+/// True if the lock was taken, in 20 steps.
 fn takes_lock(outcome: &Outcome) -> bool {
     outcome.code == 0
         && outcome.steps == 20
@@ -265,7 +265,7 @@ fn answer_of<R: Abort>(
     answer
 }
 
-/// Whether another is refused the lock in 16 steps, and the owner has it still in 15.
+/// True if another client is refused the lock in 16 steps, and the owner keeps it, in 15.
 fn is_kept<R: Abort>(
     rt: &R,
     alloc: Global,
@@ -276,7 +276,7 @@ fn is_kept<R: Abort>(
         && answer_of(rt, alloc, class, object, 1) == (0, 15)
 }
 
-/// Whether the lock is taken, and then refused and kept.
+/// True if the lock is taken, and then refused to another and kept.
 fn is_lock<R: Abort>(rt: &R, alloc: Global, class: &VerifiedClass) -> bool {
     let first = locked(rt, alloc, class, None, 1);
     let is_lock = takes_lock(&first) & is_kept(rt, alloc, class, first.change.after());
@@ -302,7 +302,7 @@ setxattr rw 4096 0 18
 stat r 0 0 2
 write rw 4096 0 10";
 
-/// Whether a method is as the words declare it.
+/// True if a method is as the words declare it.
 fn is_method(method: &VerifiedMethod, words: &mut SplitWhitespace<'_>) -> bool {
     let caps = method.caps();
     next(words) == method.name()
@@ -312,13 +312,13 @@ fn is_method(method: &VerifiedMethod, words: &mut SplitWhitespace<'_>) -> bool {
         && is_number(next(words), method.count() as u64)
 }
 
-/// Whether a method is as a line declares it.
+/// True if a method is as a line declares it.
 fn is_declared(method: &VerifiedMethod, line: &str) -> bool {
     let mut words = line.split_whitespace();
     is_method(method, &mut words)
 }
 
-/// Whether a class has those methods and no more.
+/// True if a class has these methods and no more.
 fn declares(class: &VerifiedClass, text: &str) -> bool {
     let mut lines = text.lines();
     for method in class.methods() {
@@ -329,7 +329,7 @@ fn declares(class: &VerifiedClass, text: &str) -> bool {
     lines.next().is_none()
 }
 
-/// Whether these are both classes, in their order.
+/// True if these are both built-in classes, in their order.
 fn are_both(classes: &[VerifiedClass]) -> bool {
     match classes {
         [lock, obj] => declares(lock, LOCK_METHODS) && declares(obj, OBJ_METHODS),
@@ -374,7 +374,7 @@ exit
 .method unlock rw 0 0
 ";
 
-/// Whether the class of a text is disassembled to a text that begins so.
+/// True if the class of a text disassembles to a text with this beginning.
 fn is_listed<R: Abort>(rt: &R, alloc: Global, text: &str, listed: &str) -> bool {
     let image = assemble_class(alloc, text).expect(rt, "a class");
     let plain = disassemble_class(alloc, &image).expect(rt, "memory");
@@ -386,7 +386,7 @@ fn lists_the_method_lock(rt: HostRuntime) {
     assert!(rt; is_listed(&rt, rt.alloc(), LOCK, LOCK_LISTED));
 }
 
-/// Whether the text of each class begins with its first method.
+/// True if the text of each class begins with its first method.
 fn are_texts() -> bool {
     LOCK.starts_with(".method lock rw 0 0\n") && OBJ.starts_with(".method getxattr r 64 4096\n")
 }

@@ -46,7 +46,7 @@ fn call_of<R: Abort>(rt: &R, alloc: Global, line: &Line<'_>) -> Request {
     request(rt, alloc, &parts)
 }
 
-/// Whether the reply at a place has that code and that output.
+/// True if the reply at a place has this code and this output.
 fn is_reply<C: Classes, R: Abort>(
     rt: &R,
     alloc: Global,
@@ -64,7 +64,7 @@ fn is_reply<C: Classes, R: Abort>(
     }
 }
 
-/// Whether the request of a line is appended at its place, from 0 on, and has its reply.
+/// True if the request of a line is appended at its place, counted from 0, and gets its reply.
 pub(super) fn is_called<C: Classes, R: Abort>(
     rt: &R,
     alloc: Global,

@@ -30,6 +30,7 @@ pub(super) fn class<R: Abort>(
 /// The table of one class.
 pub(super) fn table_of<R: Abort>(rt: &R, alloc: Global, class: VerifiedClass) -> ClassTable {
     let mut table = ClassTable::new(alloc);
+    // The only class has the id 0.
     let _ = table.add(class).expect(rt, "room");
     table
 }

@@ -11,10 +11,10 @@ const NODE_2: Column = Column::Node(2);
 
 const CLIENT: Column = Column::Client(1);
 
-/// A reply that is never delivered reaches its client; m5 is lost; m4 comes to a stopped node, whose
-/// line is dotted until it goes on; m1 comes twice. A kind stands on its arrow where that leaves a
-/// dash before the head: beside the number, over one column, in up to 7 characters (m6, and not m7),
-/// over two in 19 (m10, and not m11), and in two less where the message is lost (m8, and not m9).
+/// A reply that is never delivered reaches its client; m5 is lost; m4 gets to a stopped node, whose
+/// line is dotted until it goes on; m1 arrives twice. An arrow shows its kind if that leaves a dash
+/// before the head: next to the number, over one column, in up to 7 characters (m6, and not m7),
+/// over two in 19 (m10, and not m11), and in two less if the message is lost (m8, and not m9).
 const DRAWN: &str = "\
 c1          1           2           mon         event
 |--req----->|           |           |           req 1 1 7 a lock lock - => m1
@@ -63,7 +63,7 @@ fn messages<R: Abort>(rt: &R, alloc: Global, table: &[(Column, Column, &str)]) -
     messages
 }
 
-/// What happened, what is said of it, and how many messages it sent.
+/// The event of each step, its text, and the number of messages it sent.
 const STEPS: [(What, &str, usize); 11] = [
     (What::Asked(CLIENT, NODE_1), "req 1 1 7 a lock lock -", 1),
     (What::Arrived(1), "", 1),

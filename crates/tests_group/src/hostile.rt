@@ -1,5 +1,5 @@
-//! Images with one byte changed, to each value: refused, or written as they were read; and what is
-//! accepted runs.
+//! Images with one byte changed, to each value: each is refused, or written back unchanged, and
+//! accepted classes run.
 use bpf_asm::assemble_class;
 use bpf_decode::{ClassImage, read_image, write_image};
 use builtin_classes::LOCK;
@@ -14,12 +14,12 @@ const TWO: [u8; 33] = [
     0x95, 0, 0, 0, 0, 0, 0, 0,
 ];
 
-/// As many zeros, and bytes of ff, as an input has at most.
+/// The longest input of zeros, and the longest of 0xff.
 static ZEROS: [u8; 4096] = [0; 4096];
 
 static ONES: [u8; 4096] = [0xff; 4096];
 
-/// Whether a method answers on an input, in no more steps than it has instructions.
+/// True if a method returns on an input, in no more steps than it has instructions.
 fn answers(alloc: Global, class: &VerifiedClass, method: &VerifiedMethod, input: &[u8]) -> bool {
     match call(alloc, class, method.name(), None, 7, input) {
         Ok(outcome) => outcome.steps <= method.count(),
@@ -27,8 +27,7 @@ fn answers(alloc: Global, class: &VerifiedClass, method: &VerifiedMethod, input:
     }
 }
 
-/// Whether a method answers on no input, on the longest of zeros, and on the longest of bytes of
-/// ff.
+/// True if a method returns on an empty input, on the longest of zeros, and on the longest of 0xff.
 fn answers_three(alloc: Global, class: &VerifiedClass, method: &VerifiedMethod) -> bool {
     let most = usize::from(method.caps().in_cap).min(ZEROS.len());
     answers(alloc, class, method, &[])
@@ -36,7 +35,7 @@ fn answers_three(alloc: Global, class: &VerifiedClass, method: &VerifiedMethod) 
         && answers(alloc, class, method, &ONES[..most])
 }
 
-/// Whether each method of a class answers so.
+/// True if each method of a class returns on all three inputs.
 fn all_answer(alloc: Global, class: &VerifiedClass) -> bool {
     for method in class.methods() {
         if !answers_three(alloc, class, method) {
@@ -46,7 +45,7 @@ fn all_answer(alloc: Global, class: &VerifiedClass) -> bool {
     true
 }
 
-/// What becomes of bytes that are read as an image.
+/// The fate of bytes that are read as an image.
 #[derive(Clone, Copy, PartialEq, Eq)]
 enum Fate {
     /// They are no image, or that of a class that isn't safe.
@@ -57,7 +56,7 @@ enum Fate {
     Wrong,
 }
 
-/// What becomes of a class that was read.
+/// The fate of a class that was read.
 fn verdict(alloc: Global, image: &ClassImage) -> Fate {
     match verify(alloc, image) {
         Err(_) => Fate::Refused,
@@ -66,7 +65,7 @@ fn verdict(alloc: Global, image: &ClassImage) -> Fate {
     }
 }
 
-/// Whether a class's image is those bytes.
+/// True if a class's image is written as these bytes.
 fn is_written(alloc: Global, image: &ClassImage, bytes: &[u8]) -> bool {
     match write_image(alloc, image) {
         Ok(written) => written.as_slice() == bytes,
@@ -82,8 +81,8 @@ fn come_of(alloc: Global, bytes: &[u8]) -> Fate {
     }
 }
 
-/// Sets the byte at a place to each of its values, and then back: how many images are accepted.
-/// None if one is wrong.
+/// Sets the byte at a place to each of its values, and then back. Returns the number of accepted
+/// images, or `None` if one is wrong.
 fn accepted_at(alloc: Global, bytes: &mut [u8], place: usize) -> Option<usize> {
     let kept = bytes.get(place).copied()?;
     let mut accepted = 0usize;
@@ -99,8 +98,7 @@ fn accepted_at(alloc: Global, bytes: &mut [u8], place: usize) -> Option<usize> {
     Some(accepted)
 }
 
-/// The same of a place, and of each that follows it by a number of places, in turn: how many in
-/// all.
+/// The same for every `step`th place from `first` on, one place at a time. Returns the sum.
 fn accepted(alloc: Global, bytes: &mut [u8], first: usize, step: usize) -> Option<usize> {
     let mut sum = 0usize;
     for place in 0..bytes.len() {
@@ -112,8 +110,8 @@ fn accepted(alloc: Global, bytes: &mut [u8], first: usize, step: usize) -> Optio
 }
 
 /// Accepted are 37 names, 3 flags, 273 capacities of the input and 273 of the output, `mov` and
-/// `mov32`, 1,024 immediates, the other rule set, and the image as it stands at each of the other
-/// 22 places.
+/// `mov32`, 1,024 immediates, the other rule set, and the unchanged image at each of the other 22
+/// places.
 #[test]
 fn two_instructions(rt: HostRuntime) {
     let mut bytes = TWO;
@@ -126,11 +124,11 @@ fn lock_image(rt: &impl Abort, alloc: Global) -> Vec<u8> {
     write_image(alloc, &image).expect(rt, "memory")
 }
 
-/// Into how many tests the image of `lock` is divided, since each has a minute.
+/// The number of tests that share the image of `lock`, since each test has a minute.
 const PARTS: usize = 4;
 
-/// Whether the image of `lock` is accepted as it stands at each place of a part, and otherwise
-/// changed at some.
+/// True if the unchanged image of `lock` is accepted for each place of a part, and a changed one
+/// for some.
 fn part_is_right<R: Abort>(rt: &R, alloc: Global, part: usize) -> bool {
     let mut bytes = lock_image(rt, alloc);
     let places = bytes.len() / PARTS;

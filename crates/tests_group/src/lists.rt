@@ -38,7 +38,7 @@ fn full_list<R: Abort>(rt: &R, alloc: Global, last: u32) -> Vec<Request> {
     list
 }
 
-/// Puts the first requests of a text after those that there are. A semicolon stands between two.
+/// Appends the first requests of a text to a list. Semicolons separate them.
 fn add<R: Abort>(rt: &R, alloc: Global, list: &mut Vec<Request>, text: &str, most: usize) {
     for part in text.split_terminator(';').take(most) {
         list.push(request_of(rt, alloc, part)).expect(rt, "memory");
@@ -52,7 +52,7 @@ pub(super) fn list<R: Abort>(rt: &R, alloc: Global, text: &str) -> Vec<Request> 
     list
 }
 
-/// So many of the first requests, and those that follow them, or a full list.
+/// The list of a text: a number of the first requests and then more requests, or a full list.
 pub(super) fn list_of<R: Abort>(rt: &R, alloc: Global, first: &str, text: &str) -> Vec<Request> {
     match text.strip_prefix("full ") {
         Some(last) => full_list(rt, alloc, number_of(rt, last)),

@@ -38,9 +38,10 @@ const WRITE: [u8; 40] = [
     0, 0, 0, 3, 0, 0, 0, 0x95, 0, 0, 0, 0, 0, 0, 0,
 ];
 
-/// Puts a class of one method after those that there are.
+/// Adds a class of one method to the table.
 fn add<R: Abort>(rt: &R, alloc: Global, table: &mut ClassTable, flags: u8, code: &[u8]) {
     let class = class(rt, alloc, flags, 3, code);
+    // Ids follow the order of adding, so the tests know them.
     let _ = table.add(class).expect(rt, "room");
 }
 
@@ -78,7 +79,7 @@ fn request_with<R: Abort>(rt: &R, alloc: Global, input: &[u8]) -> Request {
     request(rt, alloc, &parts)
 }
 
-/// Whether its parts are those that it was made of.
+/// True if the parts of a request are those that it was made of.
 fn has_parts(one: &Request) -> bool {
     one.client().get() == 3
         && one.number().get() == 4
@@ -95,7 +96,7 @@ fn parts_of_a_request(rt: HostRuntime) {
     drop(one);
 }
 
-/// Whether a request is its copy.
+/// True if a request equals its copy.
 fn is_copied<R: Abort>(rt: &R, alloc: Global, one: &Request) -> bool {
     let copy = one.copy().expect(rt, "memory");
     let is_copied = one.is(&copy);
@@ -103,7 +104,7 @@ fn is_copied<R: Abort>(rt: &R, alloc: Global, one: &Request) -> bool {
     is_copied
 }
 
-/// Whether a request is that of the same parts with that input.
+/// True if a request equals one of the same parts with this input.
 fn is_with<R: Abort>(rt: &R, alloc: Global, one: &Request, input: &[u8]) -> bool {
     let other = request_with(rt, alloc, input);
     let is_with = one.is(&other);
@@ -127,6 +128,7 @@ fn printed_refusal(rt: HostRuntime) {
 
 #[test]
 fn laws_do_nothing(rt: HostRuntime) {
+    // The laws do nothing: they were proved when the crate was checked.
     legal_lists();
     folds();
     replies();

@@ -18,7 +18,7 @@ pub(super) fn nodes<R: Abort>(rt: &R, alloc: Global, text: &str) -> Vec<NodeId> 
     nodes
 }
 
-/// Whether nodes have the numbers of a text.
+/// True if nodes have the numbers of a text.
 pub(super) fn are_nodes(nodes: &[NodeId], text: &str) -> bool {
     let mut words = text.split_whitespace();
     for node in nodes {

@@ -10,7 +10,7 @@ use std::alloc::Global;
 use std::process::Abort;
 use std::str::SplitWhitespace;
 
-/// A group, a node, and the score: what SplitMix64 gives at the state that both numbers make. The
+/// A group, a node, and the score: SplitMix64's output at the state that both numbers make. The
 /// third to fifth are the generator's first outputs from the seed 0.
 const SCORES: [(u64, u64, u64); 5] = [
     (0, 0, 0),
@@ -20,8 +20,8 @@ const SCORES: [(u64, u64, u64); 5] = [
     (0xdaa6_6d2c_7ddf, 0x743f, 0x06c4_5d18_8009_454f),
 ];
 
-/// A group, replicas, groups and epoch; the nodes that are up; and the acting set. Those that are
-/// up stand in falling order, so that the order comes from the scores.
+/// A group, replicas, groups and epoch; the nodes that are up; and the acting set. The up nodes are
+/// in falling order, so that the order of the acting set comes from the scores.
 const ACTING: &str = "0 3 64 1 | 4 3 2 1 0 | 2 4 1
 1 3 64 1 | 4 3 2 1 0 | 2 0 4
 2 2 64 1 | 4 3 2 1 0 | 4 1
@@ -32,9 +32,8 @@ const ACTING: &str = "0 3 64 1 | 4 3 2 1 0 | 2 4 1
 0 3 64 1 | 0 | 0
 5 3 64 1 | 15 14 13 12 11 10 9 8 7 6 5 4 3 2 1 0 | 6 10 5";
 
-/// Each is one number away from a map that is right, on both sides of its range where it has two;
-/// then no node is up, and every number is outside its range; and then every number is its range's
-/// last.
+/// Each is one number away from a valid map, on both sides of its range if it has two; then no node
+/// is up, and every number is outside its range; and then every number is the last of its range.
 const LIMITS: &str = "0 3 64 0 | 0 1 | Limit
 0 3 64 4294967296 | 0 1 | Limit
 0 3 64 1 | 0 16 | Limit
@@ -49,7 +48,7 @@ const LIMITS: &str = "0 3 64 0 | 0 1 | Limit
 0 0 0 0 | | NoneUp
 63 3 64 4294967295 | 15 | 15";
 
-/// Whether a name's group is that one, of 64 groups.
+/// True if a name belongs to this group, of 64 groups.
 fn is_group(name: &str, group: u64) -> bool {
     group_of(name.as_bytes(), 64) == group
 }
@@ -93,7 +92,7 @@ fn name_of(error: PlacementError) -> &'static str {
     }
 }
 
-/// Whether the acting set is of those nodes, or refused by that name.
+/// True if the acting set is these nodes, or is refused by an error of this name.
 fn are_acting(alloc: Global, map: &ClusterMap, group: u64, wanted: &str) -> bool {
     match acting(alloc, map, group) {
         Ok(found) => are_nodes(&found, wanted),
@@ -101,7 +100,7 @@ fn are_acting(alloc: Global, map: &ClusterMap, group: u64, wanted: &str) -> bool
     }
 }
 
-/// Whether the acting set is as a line says.
+/// True if the acting set is as a line says.
 fn is_right<R: Abort>(rt: &R, alloc: Global, line: &str) -> bool {
     let (numbers, rest) = halves(line, '|');
     let (up, wanted) = halves(rest, '|');
@@ -139,11 +138,12 @@ const REFUSALS: [PlacementError; 3] = [
 fn printed(rt: HostRuntime) {
     let text = "1 NoneUp\n2 Limit\n3 NoMemory";
     assert!(rt; are_printed(&rt, rt.alloc(), &REFUSALS, text));
+    // The laws do nothing: they were proved when the crate was checked.
     ranking();
     acting_sets_act();
 }
 
-/// Nodes, and whether they may act: one to three, each below 16, none twice.
+/// Nodes, and `yes` if they may act: one to three, each below 16, none twice.
 const MAY_ACT: &str = "| no
 0 | yes
 15 | yes
@@ -162,7 +162,7 @@ fn lists_that_may_act(rt: HostRuntime) {
     }
 }
 
-/// Whether the number of a node is among those, of which none stands twice.
+/// True if the number of a node is among these, and no number is there twice.
 fn is_among(nodes: &[NodeId], number: u64) -> bool {
     placement::are_nodes(nodes) && has(NodeId::new(number), nodes)
 }

@@ -1,14 +1,14 @@
-//! What values print.
+//! The printed forms of values.
 use std::alloc::Global;
 use std::fmt::Display;
 use std::process::Abort;
 
-/// Whether a value prints as that text.
+/// True if a value prints as this text.
 pub(super) fn prints<T: Display, R: Abort>(rt: &R, alloc: Global, value: &T, text: &str) -> bool {
     value.to_string(alloc).expect(rt, "memory").as_str() == text
 }
 
-/// Whether values print as the lines of a text.
+/// True if values print as the lines of a text.
 pub(super) fn are_printed<T: Display, R: Abort>(
     rt: &R,
     alloc: Global,

@@ -6,7 +6,7 @@ use pg_log::NoMemory;
 use placement::NodeId;
 use replication::{Ack, UnpackError, commit_point, packed_lists};
 
-/// Whether the least of three members' acknowledged lengths is that one.
+/// True if the least of three members' acknowledged lengths is `least`.
 fn is_least(lengths: [usize; 3], least: usize) -> bool {
     commit_point(&lengths) == least
 }
@@ -33,5 +33,6 @@ fn acknowledged(rt: HostRuntime) {
         length: 4,
     };
     assert!(rt; ack.epoch == 2 && ack.sender.get() == 3 && ack.length == 4);
+    // The law does nothing: it was proved when the crate was checked.
     packed_lists();
 }

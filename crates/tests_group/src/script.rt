@@ -1,4 +1,4 @@
-//! What the lines of a text do with a group, and what each of them gives.
+//! The operations of a script's lines on a group, and their results.
 ghost use mathlib.Core.List.{IsPrefix};
 
 use super::calls::is_called;
@@ -18,13 +18,13 @@ use std::alloc::Global;
 use std::mem::replace;
 use std::process::Abort;
 
-/// The lines of a text, and the list of which they take the first requests. A line is what is done,
-/// a bar, and what that gives:
+/// The lines of a text, and the list whose first requests they take. A line is an operation, a bar,
+/// and its result:
 ///
 /// - `append REQUEST`, `at PLACE REQUEST`, `adopt LIST`, `replay LIST`: the answer, or the
-///   refusal's name. A list is how many are taken of the first requests, and what follows them, or
+///   refusal's name. A list is a number of the first requests, and the requests after them, or
 ///   `full` and the client of a full list's last request.
-/// - `fill LIST`: each of the list is appended; how many the log has then.
+/// - `fill LIST`: each of the list is appended; the log's length after that.
 /// - `copy`: the group becomes its copy.
 /// - `length`: the log's.
 /// - `code PLACE`, `reply CLIENT NUMBER`: the code; place and code, and no output.
@@ -109,7 +109,7 @@ fn line_of<'a>(line: &'a str, number: u32, first: &'a str) -> Line<'a> {
     }
 }
 
-/// Whether what a line does with a group gives what it wants.
+/// True if the operation of a line on a group has the result that the line says.
 fn is_done<C: Classes, R: Abort>(
     rt: &R,
     alloc: Global,
@@ -129,7 +129,7 @@ fn is_done<C: Classes, R: Abort>(
     }
 }
 
-/// Whether a group has what a line finds in it.
+/// True if a group has the state that a line says.
 fn is_found<C: Classes, R: Abort>(
     rt: &R,
     alloc: Global,
@@ -144,7 +144,7 @@ fn is_found<C: Classes, R: Abort>(
     }
 }
 
-/// Whether the log has that length, and so has its copied list, with which it begins.
+/// True if the log has this length, and so has its copied list, with which it begins.
 fn has_length<C: Classes, R: Abort>(rt: &R, alloc: Global, group: &Group<C>, wanted: &str) -> bool {
     let list = copy_log(alloc, group.entries()).expect(rt, "memory");
     is_number(wanted, group.len() as u64)
@@ -152,7 +152,7 @@ fn has_length<C: Classes, R: Abort>(rt: &R, alloc: Global, group: &Group<C>, wan
         & group.begins_with(&list)
 }
 
-/// Whether an answer is that one: a place or a length, or a refusal's name.
+/// True if an answer is as wanted: a place or a length, or a refusal's name.
 fn is_answer(answer: Result<usize, LogError>, wanted: &str) -> bool {
     match answer {
         Ok(place) => is_number(wanted, place as u64),
@@ -160,7 +160,7 @@ fn is_answer(answer: Result<usize, LogError>, wanted: &str) -> bool {
     }
 }
 
-/// Whether a request is appended so.
+/// True if appending a line's request is answered as the line says.
 fn is_appended<C: Classes, R: Abort>(
     rt: &R,
     alloc: Global,
@@ -184,7 +184,7 @@ fn rep_of<R: Abort>(rt: &R, alloc: Global, text: &str) -> Rep {
     }
 }
 
-/// Whether a request that comes for a place is answered so.
+/// True if a request that arrives for a place is answered as the line says.
 fn is_placed<C: Classes, R: Abort>(
     rt: &R,
     alloc: Global,
@@ -199,7 +199,7 @@ fn is_placed<C: Classes, R: Abort>(
     is_place(answer, line.wanted)
 }
 
-/// Whether that is the answer, `none` to a request that comes too early.
+/// True if the answer is as wanted, `none` for a request that arrives too early.
 fn is_place(answer: Result<Option<usize>, LogError>, wanted: &str) -> bool {
     match answer.transpose() {
         None => wanted == "none",
@@ -207,14 +207,14 @@ fn is_place(answer: Result<Option<usize>, LogError>, wanted: &str) -> bool {
     }
 }
 
-/// A list, and how a group takes it.
+/// A list, and the operation by which a group takes it.
 #[derive(Clone, Copy)]
 struct Taking<'a> {
     verb: Verb,
     list: &'a [Request],
 }
 
-/// Takes a list, and gives what is answered.
+/// Takes a list. Returns the answer.
 fn take<C: Classes, R: Abort>(
     rt: &R,
     alloc: Global,
@@ -232,7 +232,7 @@ fn take<C: Classes, R: Abort>(
     }
 }
 
-/// Whether a list is taken so.
+/// True if adopting or replaying a list is answered as the line says.
 fn is_taken<C: Classes, R: Abort>(
     rt: &R,
     alloc: Global,
@@ -252,8 +252,8 @@ fn is_taken<C: Classes, R: Abort>(
     is_tested & is_answer(take(rt, alloc, table, group, taking), line.wanted)
 }
 
-/// Whether the test of a list tells the refusal that its replay answers, or none where that answers
-/// a length.
+/// True if the test of a list gives the same refusal as its replay, or none if the replay gives a
+/// length.
 fn is_tested<R: Abort>(
     rt: &R,
     alloc: Global,
@@ -278,6 +278,7 @@ fn fill<C: Classes, R: Abort>(
     requires { IsPrefix table.now C.classes }
 {
     for request in copy_requests(alloc, list).expect(rt, "memory") {
+        // The length at the end tells that all were appended.
         let _ = group.append(table, request).expect(rt, "room");
     }
     Ok(group.len())
@@ -297,13 +298,13 @@ fn becomes<C: Classes>(
     }
 }
 
-/// Whether the group becomes its copy.
+/// Returns true if the group was replaced by its copy.
 fn becomes_copy<C: Classes>(alloc: Global, group: &mut Group<C>) -> bool {
     let copy = group.copy(alloc);
     becomes(group, copy).is_ok()
 }
 
-/// Whether the reply at a place has that code.
+/// True if the reply at a place has this code.
 fn has_code<C: Classes>(group: &Group<C>, place: usize, wanted: &str) -> bool {
     match group.reply_at(place) {
         None => false,
@@ -311,7 +312,7 @@ fn has_code<C: Classes>(group: &Group<C>, place: usize, wanted: &str) -> bool {
     }
 }
 
-/// Whether the request of a client and a number has that place and code, and no output.
+/// True if the request of a client and a number has this place and code, and no output.
 fn is_logged<C: Classes, R: Abort>(rt: &R, group: &Group<C>, line: &Line<'_>) -> bool {
     let (who, value) = halves(line.said, ' ');
     let who = client(rt, number_of(rt, who));
@@ -323,7 +324,7 @@ fn is_logged<C: Classes, R: Abort>(rt: &R, group: &Group<C>, line: &Line<'_>) ->
     }
 }
 
-/// Whether that is the place and the code, and the reply at the place has the code too.
+/// True if the place and the code are as wanted, and the reply at the place has the code too.
 fn is_reply<C: Classes>(group: &Group<C>, place: usize, code: i64, wanted: &str) -> bool {
     let (place_word, code_word) = halves(wanted, ' ');
     is_number(place_word, place as u64)
@@ -331,7 +332,7 @@ fn is_reply<C: Classes>(group: &Group<C>, place: usize, code: i64, wanted: &str)
         & has_code(group, place, code_word)
 }
 
-/// Whether the object `object` is that one.
+/// True if the object `object` has these contents.
 fn has_object<C: Classes, R: Abort>(rt: &R, alloc: Global, group: &Group<C>, wanted: &str) -> bool {
     let name = ObjectName::new(alloc, "object").expect(rt, "memory");
     is_object(group.object(&name), wanted)

@@ -1,6 +1,6 @@
-//! What a line of a script does.
+//! The verbs of a script's lines.
 
-/// What a line does, by its first word.
+/// The operation of a line, by its first word.
 #[derive(Clone, Copy)]
 pub(super) enum Verb {
     Append,

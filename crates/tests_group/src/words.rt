@@ -22,17 +22,18 @@ pub(super) fn next_long<R: Abort>(rt: &R, words: &mut SplitWhitespace<'_>) -> u6
     next(words).parse::<u64>().expect(rt, "a number")
 }
 
-/// Whether a word says that number.
+/// True if a word is this number in decimal.
 pub(super) fn is_number(word: &str, number: u64) -> bool {
     word.parse::<u64>().ok() == Some(number)
 }
 
-/// Whether a word says that code.
+/// True if a word is this code in decimal.
 pub(super) fn is_code(word: &str, code: i64) -> bool {
     word.parse::<i64>().ok() == Some(code)
 }
 
-/// What stands before a mark, and what stands after it.
+/// Splits a text at the first mark, and trims both halves. Without a mark, the second half is
+/// empty.
 pub(super) fn halves(text: &str, mark: char) -> (&str, &str) {
     let (before, behind) = text.split_once(mark).unwrap_or((text, ""));
     (before.trim(), behind.trim())

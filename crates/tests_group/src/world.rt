@@ -52,7 +52,7 @@ fn map<R: Abort>(rt: &R, alloc: Global) -> GroupMap {
     GroupMap::new(Epoch::new(4), Epoch::new(3), acting, Epoch::new(1), before)
 }
 
-/// Whether a map has the parts of that one.
+/// True if a map has the parts that it was made of.
 fn has_parts(map: &GroupMap) -> bool {
     map.epoch().get() == 4
         && map.interval().get() == 3
@@ -61,7 +61,7 @@ fn has_parts(map: &GroupMap) -> bool {
         && map.prev_acting().len() == 3
 }
 
-/// Whether a map's copy has those parts.
+/// True if a map's copy has the same parts.
 fn is_copied<R: Abort>(rt: &R, alloc: Global, map: &GroupMap) -> bool {
     let copy = map.copy(alloc).expect(rt, "memory");
     let is_copied = has_parts(&copy);
@@ -76,7 +76,7 @@ fn parts_of_a_map(rt: HostRuntime) {
     drop(map);
 }
 
-/// Whether it is one request, with number 7.
+/// True if it is one request, with number 7.
 fn is_seventh(items: &[Request]) -> bool {
     items.len() == 1 && items[0].number().get() == 7
 }
@@ -107,7 +107,7 @@ fn packet() -> Packet {
     }
 }
 
-/// Whether it is one message, to the monitor.
+/// True if it is one message, to the monitor.
 fn is_to_monitor(items: &[Packet]) -> bool {
     items.len() == 1 && items[0].receiver == Party::Monitor
 }
@@ -122,7 +122,7 @@ fn lists_of_messages(rt: HostRuntime) {
     see(&rt, is_one & is_to_monitor(&items), "one message");
 }
 
-/// Whether an answer is that code and those bytes.
+/// True if an answer has this code and this output.
 fn is_answer(answer: &CallReply, code: i64, output: &[u8]) -> bool {
     answer.code() == code && answer.output() == output
 }
@@ -141,7 +141,7 @@ fn printed_refusals(rt: HostRuntime) {
     assert!(rt; are_printed(&rt, rt.alloc(), &MONITOR_REFUSALS, MONITOR_TEXT));
 }
 
-/// Whether refusals have those numbers and names.
+/// True if refusals have their numbers and names.
 fn are_named() -> bool {
     HandleError::NoMemory.number() == 8
         && HandleError::Peering.name() == "Peering"
@@ -174,6 +174,7 @@ fn numbers_and_names(rt: HostRuntime) {
 
 #[test]
 fn laws_do_nothing(rt: HostRuntime) {
+    // The laws do nothing: they were proved when the crate was checked.
     agreement();
     nothing_is_cut();
     worked_runs();

@@ -1,8 +1,8 @@
-//! What clients ask of objects.
+//! The requests of clients to objects.
 
 use std::alloc::{AllocError, Global};
 
-/// How many xattrs the calls name.
+/// The number of xattrs that the calls name.
 pub const NAMES: usize = 5;
 
 /// Their names. The last one is the owner of the lock.
@@ -22,7 +22,7 @@ pub enum Asks {
     Remove,
     /// The xattr of that number.
     Get(usize),
-    /// The xattr of that number becomes that many times the byte.
+    /// The xattr of this number gets `count` bytes of `byte`.
     Set { name: usize, byte: u8, count: u8 },
     /// A class that isn't loaded.
     NoClass,
@@ -32,7 +32,7 @@ pub enum Asks {
     LongInput,
 }
 
-/// The name of that number, the last one's where there is none.
+/// The name of the xattr of this number, or the last one's if there is none.
 fn xattr(name: usize) -> &'static str {
     match XATTRS.get(name) {
         Some(name) => *name,
@@ -122,7 +122,7 @@ impl Asks {
     }
 }
 
-/// Adds a byte that many times.
+/// Appends a byte `count` times.
 pub fn push_times(bytes: &mut Vec<u8>, byte: u8, count: u8) -> Result<(), AllocError> {
     for _ in 0..count {
         bytes.push(byte)?;

@@ -1,8 +1,8 @@
-//! What can be wrong with a run.
+//! The faults that a run can have.
 
 use std::fmt;
 
-/// What is wrong: of which client's call, or of which group.
+/// A fault, with the client's call or the group that has it.
 #[derive(Clone, Copy, Debug, PartialEq, Eq, Drop)]
 pub enum Fault {
     /// A thread says so.
@@ -13,13 +13,13 @@ pub enum Fault {
     /// The entry at that place of the group is nobody's call, or one of another group, or one that
     /// is refused by each node.
     Nobodys(usize, usize),
-    /// The entry at that place of the group stands after it already, or after a later call of its
-    /// client.
+    /// The entry at this place of the group comes after itself already, or after a later call of
+    /// its client.
     Order(usize, usize),
     /// The entry at that place of the group has another code than the list gives.
     Code(usize, usize),
-    /// The client's call of that number was answered at another place than it stands at, or stands
-    /// nowhere.
+    /// The client's call of this number was answered at another place than it has in the list, or
+    /// isn't in the list.
     Place(u32, usize),
     /// It was answered by another code or output than the list gives.
     Answer(u32, usize),
@@ -29,8 +29,8 @@ pub enum Fault {
     Refusal(u32, usize),
     /// It was made after the trouble, and isn't answered.
     Unanswered(u32, usize),
-    /// The entry at that place of the group began after a call had been answered that stands behind
-    /// it.
+    /// The entry at this place of the group began after the answer of a call that comes later in
+    /// the list.
     Time(usize, usize),
 }
 

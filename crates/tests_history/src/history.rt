@@ -1,4 +1,4 @@
-//! What a run leaves to be judged.
+//! The state that a run leaves to be judged.
 
 use crate::history_judge::is_one_list;
 use crate::made::Made;
@@ -11,14 +11,14 @@ pub struct Client {
     pub made: Vec<Made>,
 }
 
-/// What the nodes that act for a group have, the primary first.
+/// The logs of the nodes that act for a group, the primary's first.
 #[derive(Drop)]
 pub struct Kept {
     pub lists: Vec<Vec<LoggedEntry>>,
 }
 
 impl Kept {
-    /// Whether all have the primary's list, to its end.
+    /// True if all have the primary's list, to its end.
     pub fn is_one_list(&self) -> bool {
         let Some(list) = self.lists.first() else {
             return true;
@@ -32,12 +32,12 @@ impl Kept {
     }
 }
 
-/// The clients with their calls, the group of each object, and what the nodes keep of each group.
+/// The clients with their calls, the group of each object, and the logs of each group.
 #[derive(Drop)]
 pub struct History {
     pub clients: Vec<Client>,
     pub groups: Vec<usize>,
     pub kept: Vec<Kept>,
-    /// How many entries a log has at most.
+    /// The limit on a log's entries.
     pub limit: usize,
 }

@@ -8,13 +8,13 @@ use osd::LoggedEntry;
 use rados_client::ExecError;
 use std::alloc::{AllocError, Global};
 
-/// Where each call stands in its group's list, by the client's place and the call's.
+/// The place of each call in its group's list, by the client's index and the call's.
 #[derive(Drop)]
 struct Places {
     of: Vec<Vec<Option<usize>>>,
 }
 
-/// What is wrong with a history, if anything is.
+/// The first fault of a history, if it has one.
 pub fn fault_of(alloc: Global, history: &History) -> Result<Option<Fault>, AllocError> {
     let mut places = Places::new(alloc, history)?;
     for group in 0..history.kept.len() {
@@ -25,7 +25,7 @@ pub fn fault_of(alloc: Global, history: &History) -> Result<Option<Fault>, Alloc
     Ok(fault_of_ends(history, &places))
 }
 
-/// What is wrong with a group, if anything is. It notes where calls stand.
+/// The first fault of a group, if it has one. Notes the places of its calls.
 fn fault_in(
     alloc: Global,
     history: &History,
@@ -55,13 +55,13 @@ fn group_of(history: &History, made: &Made) -> Option<usize> {
     history.groups.get(made.object as usize).copied()
 }
 
-/// Whether it is a call of that group.
+/// True if it is a call of this group.
 fn is_of(history: &History, group: usize, made: &Made) -> bool {
     group_of(history, made) == Some(group)
 }
 
-/// Whether all nodes that act for a group keep one list, as far as each has come, and all have what
-/// was answered.
+/// True if all nodes that act for a group have the same list, up to the shorter length, and all
+/// have the answered calls.
 fn are_replicas(history: &History, group: usize, list: &[LoggedEntry]) -> bool {
     let least = answered_in(history, group);
     let Some(kept) = history.kept.get(group) else {
@@ -75,7 +75,7 @@ fn are_replicas(history: &History, group: usize, list: &[LoggedEntry]) -> bool {
     true
 }
 
-/// Whether two lists are the same as far as both go.
+/// True if two lists are equal up to the shorter length.
 pub fn is_one_list(one: &[LoggedEntry], other: &[LoggedEntry]) -> bool {
     for (one, other) in one.iter().zip(other) {
         if *one != *other {
@@ -85,7 +85,7 @@ pub fn is_one_list(one: &[LoggedEntry], other: &[LoggedEntry]) -> bool {
     true
 }
 
-/// After how many entries the last answered call of a group stands.
+/// The number of entries up to the last answered call of a group.
 fn answered_in(history: &History, group: usize) -> usize {
     let mut most = 0;
     for client in &history.clients {
@@ -98,7 +98,7 @@ fn answered_in(history: &History, group: usize) -> usize {
     most
 }
 
-/// After how many entries an answered call stands.
+/// The number of entries up to an answered call, 0 for any other.
 fn after(made: &Made) -> usize {
     match &made.end {
         End::Replied(place, _) => place.saturating_add(1),
@@ -107,7 +107,7 @@ fn after(made: &Made) -> usize {
 }
 
 impl Places {
-    /// No call stands anywhere.
+    /// No call has a place.
     fn new(alloc: Global, history: &History) -> Result<Places, AllocError> {
         let mut of = Vec::new(alloc);
         for client in &history.clients {
@@ -116,13 +116,12 @@ impl Places {
         Ok(Places { of })
     }
 
-    /// Where a call stands.
+    /// The place of a call, if it has one.
     fn get(&self, client: usize, call: usize) -> Option<usize> {
         *self.of.get(client)?.get(call)?
     }
 
-    /// Notes where a call stands. False where it, or a later call of its client, stands in the
-    /// group already.
+    /// Notes the place of a call. Returns false if it has one already.
     fn put(&mut self, client: usize, call: usize, place: usize) -> bool {
         let Some(calls) = self.of.get_mut(client) else {
             return false;
@@ -134,16 +133,16 @@ impl Places {
     }
 }
 
-/// What a list has come to.
+/// The state after the calls of a list so far.
 #[derive(Drop)]
 struct Run {
     objects: Vec<Object>,
-    /// How many numbers of each client are used up.
+    /// The next free number of each client.
     used: Vec<usize>,
 }
 
 impl Run {
-    /// Of no call.
+    /// The state before any call.
     fn new(alloc: Global, history: &History) -> Result<Run, AllocError> {
         let mut objects = Vec::new(alloc);
         for _ in &history.groups {
@@ -155,8 +154,8 @@ impl Run {
         })
     }
 
-    /// Whether the call comes after all of its client's that stand here. If so, it stands here from
-    /// now on.
+    /// True if the call comes after all earlier ones of its client in the list. If so, it counts as
+    /// one of them.
     fn follows(&mut self, client: usize, call: usize) -> bool {
         match self.used.get_mut(client) {
             Some(used) if *used <= call => {
@@ -167,7 +166,7 @@ impl Run {
         }
     }
 
-    /// What the list answers a call.
+    /// The answer of the objects to a call, by the list so far.
     fn reply(
         &mut self,
         alloc: Global,
@@ -203,7 +202,7 @@ fn made_at(history: &History, client: usize, call: usize) -> Option<&Made> {
     history.clients.get(client)?.made.get(call)
 }
 
-/// Runs the list of a group, and tells what is wrong with its first wrong entry, if there is one.
+/// Runs the list of a group. Returns the fault of its first wrong entry, if there is one.
 fn wrong_entry(
     alloc: Global,
     history: &History,
@@ -236,7 +235,7 @@ struct Entry {
 }
 
 impl Entry {
-    /// What is wrong with it after the list before it, if anything is.
+    /// The fault of the entry after the entries before it, if it has one.
     fn fault(
         &self,
         alloc: Global,
@@ -266,7 +265,7 @@ impl Entry {
         Fault::Nobodys(self.group, self.place)
     }
 
-    /// What is wrong with the entry of a call that the list answers so.
+    /// The fault of the entry of a call to which the list gives this answer.
     fn compare(&self, made: &Made, call: usize, answer: &Answer) -> Option<Fault> {
         if self.entry.code != answer.code {
             return Some(Fault::Code(self.group, self.place));
@@ -284,9 +283,9 @@ impl Entry {
     }
 }
 
-/// The first entry of a list, from its end, that began after a call was answered that stands behind
-/// it.
+/// The last entry of a list that began after the answer of a call later in the list.
 fn wrong_time(history: &History, group: usize, list: &[LoggedEntry]) -> Option<Fault> {
+    // From the end, so that one pass keeps the earliest answer of all later entries.
     let mut answered = u64::MAX;
     for (place, entry) in list.iter().enumerate().rev() {
         let (client, call) = call_of(history, entry)?;
@@ -299,7 +298,7 @@ fn wrong_time(history: &History, group: usize, list: &[LoggedEntry]) -> Option<F
     None
 }
 
-/// What is wrong with the end of a call, if anything is.
+/// The first fault of the ends of calls, if there is one.
 fn fault_of_ends(history: &History, places: &Places) -> Option<Fault> {
     for (at, client) in history.clients.iter().enumerate() {
         for (call, made) in client.made.iter().enumerate() {
@@ -313,7 +312,7 @@ fn fault_of_ends(history: &History, places: &Places) -> Option<Fault> {
     None
 }
 
-/// What is wrong with the end of a call that stands there.
+/// The fault of the end of a call with a place in the list.
 fn wrong_end(
     history: &History,
     places: &Places,
@@ -338,7 +337,7 @@ fn wrong_end(
     }
 }
 
-/// Whether a call may be refused by that.
+/// True if this refusal of the call is allowed.
 fn may_be_refused(history: &History, places: &Places, made: &Made, why: ExecError) -> bool {
     match why {
         ExecError::LogFull => is_full(history, places, made),
@@ -346,8 +345,8 @@ fn may_be_refused(history: &History, places: &Places, made: &Made, why: ExecErro
     }
 }
 
-/// Whether the log of a call's group may have been full: with what stands in no list any more it
-/// has as many entries as a log has at most.
+/// True if the log of a call's group may have been full: its entries, and the calls that may have
+/// been logged and were lost, are at least the limit.
 fn is_full(history: &History, places: &Places, made: &Made) -> bool {
     let Some(group) = group_of(history, made) else {
         return false;
@@ -360,7 +359,7 @@ fn is_full(history: &History, places: &Places, made: &Made) -> bool {
         >= history.limit
 }
 
-/// How many calls of a group stand nowhere that a node may have had.
+/// The number of calls of a group that are in no list, though a node may have had them.
 fn missing_in(history: &History, places: &Places, group: usize) -> usize {
     let mut missing: usize = 0;
     for (at, client) in history.clients.iter().enumerate() {

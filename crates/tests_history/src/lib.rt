@@ -1,6 +1,6 @@
-//! Judges histories of calls for the thrasher and its kin, without a thread: what a run of a cluster
-//! leaves, against a model of the objects, and the lines that the command `cluster` prints, against
-//! the file that was played. Nothing here has a contract: it is a test.
+//! Judges histories of calls for the thrasher and its kin, without a thread: the state that a run
+//! of a cluster leaves, against a model of the objects, and the lines that the command `cluster`
+//! prints, against the file that was played. Nothing here has a contract: it is a test.
 #![tactic(auto)]
 
 mod asks;

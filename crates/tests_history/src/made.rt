@@ -1,14 +1,14 @@
-//! The calls that clients made, and how they ended.
+//! The calls of clients, and their ends.
 
 use crate::asks::Asks;
 use crate::object::Answer;
 use rados_client::{ExecError, Reply};
 use std::alloc::{AllocError, Global};
 
-/// How a call ended.
+/// The end of a call.
 #[derive(Debug, Drop)]
 pub enum End {
-    /// It stands at that place, and was answered so.
+    /// It has this place, and this answer.
     Replied(usize, Answer),
     /// It was refused, or isn't answered.
     Refused(ExecError),
@@ -26,11 +26,11 @@ pub struct Made {
     pub began: u64,
     pub ended: u64,
     pub end: End,
-    /// Whether it is a call after the trouble, which has to be answered.
+    /// True for a call after the trouble, which has to be answered.
     pub is_last: bool,
 }
 
-/// How the session says that a call ended.
+/// The end of a call by the session's answer.
 pub fn end_of(alloc: Global, answer: Result<Reply, ExecError>) -> Result<End, AllocError> {
     match answer {
         Ok(reply) => {
@@ -55,7 +55,7 @@ impl Made {
         }
     }
 
-    /// Whether nobody knows what became of it.
+    /// True if nobody knows whether the call ran.
     pub fn is_open(&self) -> bool {
         matches!(
             self.end,
@@ -63,8 +63,8 @@ impl Made {
         )
     }
 
-    /// Notes how it, or a repeat, ended. A repeat of an answered call may be unanswered, or be
-    /// refused by a node that came to know the call late; an answer is the same again.
+    /// Notes the end of it, or of a repeat. A repeat of an answered call may be unanswered, or be
+    /// refused by a node that came to know the call late; an answer has to be the same again.
     pub fn note(&mut self, end: End, tick: u64) {
         let is_reply = matches!(end, End::Replied(_, _));
         match &self.end {
@@ -82,7 +82,7 @@ impl Made {
     }
 }
 
-/// Whether both are the same answer at the same place.
+/// True if both are the same answer at the same place.
 fn is_same(one: &End, other: &End) -> bool {
     match (one, other) {
         (End::Replied(one, first), End::Replied(other, second)) => {

@@ -1,4 +1,4 @@
-//! What the built-in classes do with an object, as plain as it can be said.
+//! A model of the built-in classes on an object, as simple as possible.
 
 use crate::asks::{Asks, NAMES, push_times};
 use std::alloc::{AllocError, Global};
@@ -12,6 +12,7 @@ const MOST: u64 = 65_536;
 /// The bytes that are read at once, at most.
 const MOST_READ: u32 = 4_096;
 
+// Codes are Linux's error numbers, negated.
 const ENOENT: i64 = -2;
 
 const EBUSY: i64 = -16;
@@ -24,7 +25,7 @@ const ERANGE: i64 = -34;
 
 const ENODATA: i64 = -61;
 
-/// What a call answers: the code and the output.
+/// The answer of a call: the code and the output.
 #[derive(Debug, PartialEq, Eq, Drop)]
 pub struct Answer {
     pub code: i64,
@@ -47,7 +48,7 @@ fn full(output: Vec<u8>) -> Answer {
     }
 }
 
-/// An object: whether it is there, its data, and the values of its xattrs.
+/// An object: true if it is there, its data, and the values of its xattrs.
 #[derive(Drop)]
 pub struct Object {
     is_there: bool,
@@ -65,7 +66,7 @@ impl Object {
         }
     }
 
-    /// Does what a client asks. A call that nodes refuse does nothing.
+    /// Applies a client's request. A call that nodes refuse does nothing.
     pub fn reply(&mut self, alloc: Global, client: u32, asks: Asks) -> Result<Answer, AllocError> {
         match asks {
             Asks::Lock => Ok(bare(alloc, self.lock(alloc, client)?)),
@@ -89,7 +90,7 @@ impl Object {
         }
     }
 
-    /// Who has the lock, if the xattr is there and says so: ERANGE where it is too long.
+    /// The owner of the lock, if the xattr is there and names one: ERANGE if it is too long.
     fn owner(&self) -> Option<Result<u64, i64>> {
         let value = self.xattrs.get(OWNER)?.as_ref()?;
         if value.len() > 8 {
@@ -102,7 +103,7 @@ impl Object {
         Some(Ok(owner))
     }
 
-    /// Locks: EBUSY where another client has the lock.
+    /// Locks: EBUSY if another client has the lock.
     fn lock(&mut self, alloc: Global, client: u32) -> Result<i64, AllocError> {
         match self.owner() {
             Some(Ok(owner)) if owner == u64::from(client) => Ok(0),
@@ -115,7 +116,7 @@ impl Object {
         }
     }
 
-    /// Unlocks, where the client has the lock.
+    /// Unlocks, if the client has the lock.
     fn unlock(&mut self, client: u32) -> i64 {
         if !self.is_there {
             return ENOENT;

@@ -1,17 +1,16 @@
-//! What many clients call.
+//! The calls of many clients.
 
 use crate::asks::Asks;
 use std::alloc::{AllocError, Global};
 use std::fmt::Write;
 
-/// How many objects there are.
+/// The number of objects.
 pub const OBJECTS: u32 = 6;
 
 /// The nodes that are up from the first, second and third map on. All three are up at first.
 const MAPS: [&str; 3] = ["0 1", "1 2", "0 1 2"];
 
-/// How many clients there are, how often each calls between two maps, and how many groups there
-/// are.
+/// The number of clients, of calls of each between two maps, and of groups.
 #[derive(Clone, Copy)]
 pub struct Size {
     pub clients: u32,
@@ -23,9 +22,9 @@ pub struct Size {
 #[derive(Clone, Copy)]
 pub struct Planned {
     pub client: u32,
-    /// Which of its client's calls it is, from 0 on.
+    /// Its number among the calls of its client, from 0 on.
     pub number: u32,
-    /// How many maps come before it.
+    /// The number of maps before it.
     pub maps: usize,
     pub object: u32,
     pub asks: Asks,
@@ -45,7 +44,8 @@ struct Dice {
 }
 
 impl Dice {
-    /// A number below 65,536.
+    /// A number below 65,536: the high half of a linear congruential generator, since its low bits
+    /// have short periods.
     fn throw(&mut self) -> u32 {
         self.state = self
             .state
@@ -54,7 +54,7 @@ impl Dice {
         self.state >> 16
     }
 
-    /// What is asked: a lock, an unlock, a write or a read.
+    /// Chooses the request: a lock, an unlock, a write or a read.
     fn asks(&mut self) -> Asks {
         match self.throw() % 4 {
             0 => Asks::Lock,
@@ -99,7 +99,7 @@ impl Plan {
         Ok(text)
     }
 
-    /// Adds the lines of the calls that come after that many maps.
+    /// Adds the lines of the calls after this number of maps.
     fn push_lines(&self, alloc: Global, text: &mut String, maps: usize) -> Result<(), AllocError> {
         for call in &self.calls {
             if call.maps == maps {
@@ -110,7 +110,7 @@ impl Plan {
     }
 }
 
-/// Adds a client's calls: that many before, between and after the maps.
+/// Adds a client's calls, the same number before, between and after the maps.
 fn push_calls(
     calls: &mut Vec<Planned>,
     dice: &mut Dice,

@@ -1,4 +1,4 @@
-//! What was printed, compared with logs that run in the order of their places.
+//! Compares the printed lines with logs that run in the order of their places.
 
 use crate::object::{Answer, Object};
 use crate::plan::{OBJECTS, Plan, Planned, push_hex};
@@ -6,12 +6,12 @@ use std::alloc::{AllocError, Global};
 use std::fmt;
 use std::fmt::Write;
 
-/// How what was printed is judged.
+/// The verdict on the printed lines.
 #[derive(Clone, Copy, Drop)]
 pub enum Verdict {
     /// It is right.
     Right,
-    /// There are that many lines, not one for each call.
+    /// There is this number of lines, not one for each call.
     Count(usize),
     /// The line of that number, from 1, is the first that is found wrong.
     Wrong(usize),
@@ -29,6 +29,7 @@ impl fmt::Display for Verdict {
 
 /// The group of an object: the low bits of its name's FNV-1a hash of 64 bits.
 fn group_of(object: u32, groups: u32) -> u64 {
+    // The offset basis and, below, the prime of FNV-1a.
     let mut hash: u64 = 0xcbf2_9ce4_8422_2325;
     for byte in [
         u64::from(b'o'),
@@ -48,7 +49,7 @@ fn place_in(line: &str) -> Option<usize> {
     }
 }
 
-/// Judges what was printed of a plan.
+/// Judges the printed lines of a plan.
 pub fn judge(alloc: Global, plan: &Plan, printed: &str) -> Result<Verdict, AllocError> {
     let lines: Vec<&str> = printed.lines().collect(alloc)?;
     if lines.len() != plan.calls.len() {
@@ -86,7 +87,7 @@ fn wrong_of(
     wrong_in(alloc, plan, lines, &places)
 }
 
-/// Notes a line at its place. False where that is none, or taken.
+/// Notes a line at its place. Returns false if the line has no place, or the place is taken.
 fn takes_place(places: &mut Vec<Option<usize>>, at: usize, line: &str) -> bool {
     let Some(place) = place_in(line) else {
         return false;
@@ -97,18 +98,18 @@ fn takes_place(places: &mut Vec<Option<usize>>, at: usize, line: &str) -> bool {
     }
 }
 
-/// What a list has come to.
+/// The state after the calls of a list so far.
 #[derive(Drop)]
 struct Run {
     objects: Vec<Object>,
-    /// How many calls of each client stand in it.
+    /// The next number due of each client.
     made: Vec<u32>,
-    /// How many maps came before its last call.
+    /// The number of maps before its last call.
     maps: usize,
 }
 
 impl Run {
-    /// Of no call.
+    /// The state before any call.
     fn new(alloc: Global, clients: u32) -> Result<Run, AllocError> {
         let mut objects = Vec::new(alloc);
         for _ in 0..OBJECTS {
@@ -121,7 +122,7 @@ impl Run {
         })
     }
 
-    /// The line of the next call, at that place. None where the call can't come here.
+    /// The line of the next call, at this place. `None` if the call can't come here.
     fn line(
         &mut self,
         alloc: Global,
@@ -139,8 +140,8 @@ impl Run {
         Ok(Some(line_of(alloc, call, place, &answer)?))
     }
 
-    /// Whether the call comes after all of its client's that stand here. If so, it stands here from
-    /// now on.
+    /// True if the call comes after all earlier ones of its client in the list. If so, it counts as
+    /// one of them.
     fn follows(&mut self, call: &Planned) -> bool {
         match self.made.get_mut(call.client.wrapping_sub(1) as usize) {
             Some(made) if *made <= call.number => {
@@ -171,8 +172,8 @@ fn line_of(
     Ok(line)
 }
 
-/// Runs the list of those lines in the order of their places, and tells which line it doesn't give,
-/// if one.
+/// Runs the calls of these lines in the order of their places. Returns the first line that differs
+/// from its call's, if there is one.
 fn wrong_in(
     alloc: Global,
     plan: &Plan,

@@ -1,5 +1,4 @@
-//! A small history, and how it is judged as it is, and with each of some changes that make it
-//! wrong.
+//! A small history, judged as it is, and with each of some changes that make it wrong.
 
 use crate::asks::Asks;
 use crate::fault::Fault;
@@ -12,7 +11,7 @@ use osd::LoggedEntry;
 use rados_client::ExecError;
 use std::alloc::{AllocError, Global};
 
-/// How a call ended: as its row says, by a refusal, or by two answers.
+/// The end of a call: as its row says, by a refusal, or by two answers.
 #[derive(Clone, Copy)]
 enum How {
     Replied,
@@ -20,7 +19,7 @@ enum How {
     Twice,
 }
 
-/// A call: its client, its object, what it asks, when it began and ended, and what it is answered.
+/// A call: its client, its object, its request, the times of its beginning and end, and its answer.
 #[derive(Clone, Copy)]
 struct Row {
     client: u32,
@@ -56,10 +55,10 @@ const ROWS: [Row; CALLS] = [
     Row { client: 1, object: 1, asks: Asks::Unlock, began: 9, ended: 11, how: How::Replied, place: 0, code: -2,  output: b"" },
 ];
 
-/// How many calls there are.
+/// The number of calls.
 const CALLS: usize = 6;
 
-/// What the primaries keep: the group, the client, its number and the code.
+/// The entries of the primaries: the group, the client, its number and the code.
 const ENTRIES: [(usize, u32, u32, i64); CALLS] = [
     (0, 1, 1, 0),
     (0, 2, 1, -16),
@@ -74,15 +73,15 @@ const ENTRIES: [(usize, u32, u32, i64); CALLS] = [
 struct Sample {
     rows: [Row; CALLS],
     entries: [(usize, u32, u32, i64); CALLS],
-    /// What the backups keep.
+    /// The entries of the backups.
     backups: [(usize, u32, u32, i64); CALLS],
-    /// Whether the calls come after the trouble.
+    /// True if the calls come after the trouble.
     is_last: bool,
-    /// How many entries a log has at most.
+    /// The limit on a log's entries.
     limit: usize,
 }
 
-/// How many changes there are, the first of which changes nothing.
+/// The number of changes. The first changes nothing.
 pub const CHANGES: usize = 20;
 
 impl Sample {
@@ -100,7 +99,7 @@ impl Sample {
         sample
     }
 
-    /// Changes what was answered, or when.
+    /// Changes the answers, or their times.
     fn change_answers(&mut self, change: usize) {
         match change {
             // Another place, which has another call.
@@ -126,13 +125,13 @@ impl Sample {
                 self.rows[5].how = How::Refused(ExecError::LogFull);
                 self.limit = 1;
             }
-            // What nodes refuse is answered.
+            // A call that nodes refuse is answered.
             11 => self.rows[5].asks = Asks::NoClass,
             _ => {}
         }
     }
 
-    /// Changes what nodes keep.
+    /// Changes the logs of the nodes.
     fn change_entries(&mut self, change: usize) {
         match change {
             // Another code, at all nodes.
@@ -142,7 +141,7 @@ impl Sample {
                 self.entries[2] = ENTRIES[3];
                 self.entries[3] = ENTRIES[2];
             }
-            // A call stands twice.
+            // A call is in the list twice.
             14 => self.entries[4] = ENTRIES[1],
             // A call of nobody's, and one of another group.
             15 => self.entries[2].1 = 3,
@@ -204,7 +203,7 @@ impl Sample {
         Ok(made)
     }
 
-    /// What a primary and a backup keep of a group.
+    /// The logs of a primary and a backup of a group.
     fn kept(&self, alloc: Global, group: usize) -> Result<Kept, AllocError> {
         let mut lists = Vec::new(alloc);
         lists.push(list(alloc, &self.entries, group)?)?;
@@ -232,13 +231,13 @@ fn list(
     Ok(list)
 }
 
-/// What is wrong with the small history after the change of that number, if anything is.
+/// The fault of the small history after this change, if it has one.
 pub fn fault_of_change(alloc: Global, change: usize) -> Result<Option<Fault>, AllocError> {
     let history = Sample::with(change).history(alloc)?;
     fault_of(alloc, &history)
 }
 
-/// Prints how the small history is judged with each change.
+/// Prints the verdict on the small history with each change.
 pub fn tell_of_samples<R: Print + AllocGlobal>(rt: &R) -> Result<()> {
     for change in 0..CHANGES {
         match fault_of_change(rt.alloc(), change)? {

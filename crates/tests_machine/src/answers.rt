@@ -7,7 +7,7 @@ use std::alloc::Global;
 use std::process::Abort;
 use verifier::VerifiedClass;
 
-/// What a call is given: the object on which it runs, or none, and its input.
+/// The arguments of a call: the object on which it runs, or none, and its input.
 #[derive(Clone, Copy)]
 pub struct Given<'a> {
     pub object: Option<&'a Object>,
@@ -20,20 +20,20 @@ impl<'a> Given<'a> {
     }
 }
 
-/// What a call is given, where what the object holds stands for the object.
+/// The arguments of a call, with the contents of the object instead of the object.
 #[derive(Clone, Copy)]
 pub struct GivenContents<'a> {
     pub contents: Option<Contents>,
     pub input: &'a [u8],
 }
 
-/// What a call answers.
+/// An expectation about the outcome of a call.
 pub trait Expected {
-    /// Whether the outcome of a call that is given those is so.
+    /// True if the outcome of a call with these arguments is the expected one.
     fn is_so(&self, rt: &impl Abort, alloc: Global, given: &Given<'_>, outcome: &Outcome) -> bool;
 }
 
-/// Whether a call answers so.
+/// True if a call with these arguments has the expected outcome.
 pub fn answers<E: Expected>(
     rt: &impl Abort,
     alloc: Global,
@@ -56,7 +56,7 @@ pub fn answers_once<E: Expected>(
     answers(rt, alloc, &class, given, expected)
 }
 
-/// Whether a call on an object that holds those, or on none, answers so.
+/// True if a call on an object with these contents, or on no object, has the expected outcome.
 pub fn answers_beside<E: Expected>(
     rt: &impl Abort,
     alloc: Global,

@@ -5,7 +5,7 @@ use std::alloc::Global;
 use std::process::Abort;
 use verifier::{VerifiedClass, verify};
 
-/// What a method declares: its flags, and the lengths of its input and output.
+/// The declaration of a method: its flags, and the lengths of its input and output.
 #[derive(Clone, Copy)]
 pub struct Declared {
     pub flags: u8,

@@ -1,4 +1,4 @@
-//! Calls of verified methods beside the plain run of their raw bytes, on programs that loops make.
+//! Compares calls of verified methods with the plain run of their raw bytes, on generated programs.
 
 mod helper_calls;
 mod operands;
@@ -18,21 +18,21 @@ use std::process::Abort;
 use txn::Change;
 use verifier::{VerifiedClass, verify};
 
-/// What the programs declare.
+/// The declaration that all compared programs share.
 const CAPS: Caps = Caps {
     in_cap: 24,
     out_cap: 40,
     writes: true,
 };
 
-/// Those, as their method declares them.
+/// The same capacities, as a method declares them.
 const DECLARED: Declared = Declared {
     flags: 3,
     in_cap: CAPS.in_cap,
     out_cap: CAPS.out_cap,
 };
 
-/// The class of that code, where it is safe.
+/// The class of this code, or `None` if the verifier refuses it.
 fn verified(rt: &impl Abort, alloc: Global, code: &[u8]) -> Option<VerifiedClass> {
     let image = image_of(rt, alloc, code, DECLARED);
     verify(alloc, &image).ok()
@@ -41,14 +41,14 @@ fn verified(rt: &impl Abort, alloc: Global, code: &[u8]) -> Option<VerifiedClass
 /// Names of xattrs that the programs use.
 const NAMES: [&[u8]; 8] = [b"n", b"nm", b"m", b"k", b"a", b"ab", b"\0", b"\0\0"];
 
-/// Whether a call answered that code and output, after that many steps.
+/// True if a call returned this code and output, after this number of steps.
 fn has_answered(outcome: &Outcome, code: u64, output: &[u8], steps: usize) -> bool {
     outcome.code == code.cast_signed()
         && outcome.steps == steps
         && outcome.output.as_slice() == output
 }
 
-/// Whether a change is from the first object to the second.
+/// True if a change is from the first object to the second.
 fn is_change(
     rt: &impl Abort,
     alloc: Global,
@@ -60,7 +60,7 @@ fn is_change(
         && same(rt, alloc, change.after(), after, &NAMES)
 }
 
-/// Whether a call answered as a run of the bytes ended, beside that object.
+/// True if a call on this object has the same outcome as a plain run of the bytes.
 fn is_ending(
     rt: &impl Abort,
     alloc: Global,
@@ -82,7 +82,8 @@ fn is_ending(
     }
 }
 
-/// How the plain run of a code ends in a layout. One that is none is as a run that is stuck.
+/// The ending of the plain run of a code in a layout. An invalid layout or a too long input counts
+/// as a stuck run.
 fn ending_of(
     rt: &impl Abort,
     alloc: Global,
@@ -110,7 +111,7 @@ pub struct PlainRun<'a> {
 }
 
 impl Expected for PlainRun<'_> {
-    /// Whether a call answered as the plain run ends.
+    /// True if the call has the same outcome as the plain run.
     fn is_so(&self, rt: &impl Abort, alloc: Global, given: &Given<'_>, outcome: &Outcome) -> bool {
         let ending = ending_of(rt, alloc, self.code, self.layout, given);
         is_ending(rt, alloc, given.object, outcome, &ending)

@@ -1,4 +1,4 @@
-//! Objects by what they hold.
+//! Objects by their contents.
 
 use object_store::{Object, calls};
 use std::alloc::Global;
@@ -8,7 +8,7 @@ use txn::Change;
 /// A name, or a key, and its value.
 pub type Pair = (&'static [u8], &'static [u8]);
 
-/// What an object holds.
+/// The contents of an object.
 #[derive(Clone, Copy)]
 pub struct Contents {
     pub data: &'static [u8],
@@ -72,12 +72,12 @@ fn data_of(rt: &impl Abort, alloc: Global, object: &Object) -> Vec<u8> {
     data
 }
 
-/// Whether an object has those data.
+/// True if an object has exactly these data.
 fn has_data(rt: &impl Abort, alloc: Global, object: &Object, data: &[u8]) -> bool {
     data_of(rt, alloc, object).as_slice() == data
 }
 
-/// Whether an object has those xattrs and no more.
+/// True if an object has exactly these xattrs.
 fn has_xattrs(object: &Object, xattrs: &[Pair]) -> bool {
     let mut all = object.xattr_count() == xattrs.len();
     for (name, value) in xattrs {
@@ -86,7 +86,7 @@ fn has_xattrs(object: &Object, xattrs: &[Pair]) -> bool {
     all
 }
 
-/// Whether an object has those keys and no more.
+/// True if an object has exactly these keys.
 fn has_keys(object: &Object, keys: &[Pair]) -> bool {
     let mut all = object.key_count() == keys.len();
     for (key, value) in keys {
@@ -95,7 +95,7 @@ fn has_keys(object: &Object, keys: &[Pair]) -> bool {
     all
 }
 
-/// Whether there is an object, and it holds exactly those.
+/// True if there is an object, and it has exactly these contents.
 fn holds_all(rt: &impl Abort, alloc: Global, object: Option<&Object>, contents: &Contents) -> bool {
     match object {
         None => false,
@@ -107,7 +107,7 @@ fn holds_all(rt: &impl Abort, alloc: Global, object: Option<&Object>, contents: 
     }
 }
 
-/// Whether an object holds exactly those; none is an absent one.
+/// True if an object has exactly these contents; no contents mean no object.
 fn holds(
     rt: &impl Abort,
     alloc: Global,
@@ -120,7 +120,7 @@ fn holds(
     }
 }
 
-/// Whether a change is from an object of the first contents to one of the second.
+/// True if a change is from an object of the first contents to one of the second.
 pub fn is_change(
     rt: &impl Abort,
     alloc: Global,
@@ -131,12 +131,12 @@ pub fn is_change(
     holds(rt, alloc, change.before(), before) && holds(rt, alloc, change.after(), after)
 }
 
-/// Whether two objects have the same data.
+/// True if two objects have the same data.
 fn same_data(rt: &impl Abort, alloc: Global, one: &Object, other: &Object) -> bool {
     has_data(rt, alloc, other, &data_of(rt, alloc, one))
 }
 
-/// Whether two objects have the same values of these xattrs, and as many in all.
+/// True if two objects have the same values of these xattrs, and the same number of xattrs.
 fn same_xattrs(one: &Object, other: &Object, names: &[&[u8]]) -> bool {
     let mut all = one.xattr_count() == other.xattr_count();
     for name in names {
@@ -145,7 +145,7 @@ fn same_xattrs(one: &Object, other: &Object, names: &[&[u8]]) -> bool {
     all
 }
 
-/// Whether two objects have the same keys with the same values.
+/// True if two objects have the same keys with the same values.
 fn same_keys(one: &Object, other: &Object) -> bool {
     let mut all = one.key_count() == other.key_count();
     let mut key: &[u8] = b"";
@@ -160,7 +160,8 @@ fn same_keys(one: &Object, other: &Object) -> bool {
     all
 }
 
-/// Whether two objects are equal, of whose xattrs these names are compared; none is an absent one.
+/// True if two objects are equal, with only the xattrs of these names compared, or if both are
+/// absent.
 pub fn same(
     rt: &impl Abort,
     alloc: Global,

@@ -1,5 +1,5 @@
-//! Tests alone: calls of `interp`, and calls of verified methods beside the plain run of their raw
-//! bytes, on programs that loops make.
+//! Only tests: calls of `interp`, and calls of verified methods compared with the plain run of
+//! their raw bytes, on generated programs.
 #![tactic(auto)]
 
 #[cfg(test)]

@@ -12,7 +12,7 @@ use placement::NodeId;
 use std::alloc::Global;
 use std::process::Abort;
 
-/// How many entries a log has at most.
+/// The limit on a log's entries.
 const FULL: u32 = 65_536;
 
 /// A number of a request in the middle.
@@ -40,7 +40,7 @@ fn put<R: Abort>(rt: &R, alloc: Global, number: u32) -> Event {
     Event::Request(request(rt, alloc, asked))
 }
 
-/// What a node does at an event.
+/// The answer of a node to an event.
 fn handled<C: Classes>(
     table: &ClassTable,
     node: &mut GroupNode<C>,
@@ -48,11 +48,12 @@ fn handled<C: Classes>(
 ) -> Result<Messages, HandleError>
     requires { table.now ≡ C.classes }
 {
+    // For the proof: a group's entries are legal, which `handle` requires of the node's log.
     let _ = node.group().entries();
     node.handle(table, event)
 }
 
-/// What a node sends at an event.
+/// The messages that a node sends at an event.
 fn sent<C: Classes, R: Abort>(
     rt: &R,
     table: &ClassTable,
@@ -66,8 +67,8 @@ fn sent<C: Classes, R: Abort>(
         .into_items()
 }
 
-/// What a node sends at the last of these messages, which come to it one after another. At each it
-/// sends one.
+/// The message that a node sends at the last of these messages, received one after another. It
+/// sends one at each.
 fn answer<C: Classes, R: Abort>(
     rt: &R,
     table: &ClassTable,
@@ -114,7 +115,7 @@ fn activated<R: Abort>(rt: &R, monitor: &mut Monitor, packet: &Packet) -> Event 
     })
 }
 
-/// Whether a message is the Rep of that place, to node 2.
+/// True if a message is the Rep of this place, to node 2.
 fn is_rep(packet: &Packet, place: usize) -> bool {
     if let MessageKind::Rep(interval, at, request) = &packet.message.kind {
         return packet.receiver == Party::Node(NodeId::new(2))
@@ -125,7 +126,7 @@ fn is_rep(packet: &Packet, place: usize) -> bool {
     false
 }
 
-/// Whether these are the Reps of all places, in their order.
+/// True if these are the Reps of all places, in order.
 fn are_reps(packets: &[Packet]) -> bool {
     packets
         .iter()
@@ -134,7 +135,7 @@ fn are_reps(packets: &[Packet]) -> bool {
         && packets.len() == FULL as usize
 }
 
-/// Whether a message is the Reply of that place.
+/// True if a message is the Reply of this place.
 fn is_reply(packet: &Packet, place: usize) -> bool {
     if let MessageKind::Reply(_, number, at, answer) = &packet.message.kind {
         return number.get() as usize == place.wrapping_add(1)
@@ -144,7 +145,7 @@ fn is_reply(packet: &Packet, place: usize) -> bool {
     false
 }
 
-/// Whether these are the Replies of all places, in their order.
+/// True if these are the Replies of all places, in order.
 fn are_replies(packets: &[Packet]) -> bool {
     packets
         .iter()
@@ -153,7 +154,7 @@ fn are_replies(packets: &[Packet]) -> bool {
         && packets.len() == FULL as usize
 }
 
-/// Whether a message carries a full list, as Log or as Install.
+/// True if a message carries a full list, as Log or as Install.
 fn has_full_list(packet: &Packet) -> bool {
     if let MessageKind::Log(_, list) = &packet.message.kind {
         return list.len() == FULL as usize;
@@ -164,7 +165,7 @@ fn has_full_list(packet: &Packet) -> bool {
     false
 }
 
-/// Whether a node is active, and all of a full log is committed.
+/// True if a node is active, and all of a full log is committed.
 fn is_done<C: Classes>(node: &GroupNode<C>) -> bool {
     node.status() == Status::Active && node.committed() == FULL as usize
 }
@@ -193,7 +194,7 @@ impl<C: Classes> Trio<C> {
         assert!(rt; sent(rt, table, &mut self.first, activated).is_empty());
     }
 
-    /// Node 1 logs a full log's requests, and what it sends of each is lost. It takes no further
+    /// Node 1 logs a full log's requests, and its messages for each are lost. It takes no further
     /// one, and is silent at one that it has.
     fn fill<R: Abort>(&mut self, rt: &R, table: &ClassTable)
         requires { table.now ≡ C.classes }

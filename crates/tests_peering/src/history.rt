@@ -1,5 +1,5 @@
-//! Long histories of a group on three, four and five nodes, made by chance from a seed, of which a
-//! plain program checks after each event what `agreement` says.
+//! Long histories of a group on three, four and five nodes, made at random from a seed. After each
+//! event a plain program checks the statements of `agreement`.
 
 pub(crate) mod account;
 mod dice;
@@ -11,11 +11,12 @@ mod witness;
 use reached::Reached;
 use story::go_through;
 
-/// How many events a history has.
+/// The number of events in a history.
 const EVENTS: usize = 2_000;
 
-/// What each history reaches, at least.
+/// The least that each history has to reach.
 const WANTED: Reached = Reached {
+    // So that a change of the generator can't leave a case out unnoticed.
     intervals: 6,
     committed: 50,
     answered_again: 15,

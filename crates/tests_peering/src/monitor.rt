@@ -14,7 +14,7 @@ const BAD: &str = "
 16
 3 3";
 
-/// Whether the monitor's next map is of those nodes, and has that epoch and that interval.
+/// True if the monitor's next map has these nodes, this epoch and this interval.
 fn is_made(monitor: &mut Monitor, acting: &[NodeId], epoch: u32, interval: u32) -> bool {
     match monitor.new_map(acting) {
         Err(_) => false,
@@ -24,7 +24,7 @@ fn is_made(monitor: &mut Monitor, acting: &[NodeId], epoch: u32, interval: u32) 
     }
 }
 
-/// Whether the monitor's next map is of the nodes of a text, and has that epoch and that interval.
+/// True if the monitor's next map has the nodes of a text, this epoch and this interval.
 fn makes<R: Abort>(
     rt: &R,
     alloc: Global,
@@ -37,7 +37,7 @@ fn makes<R: Abort>(
     is_made(monitor, &acting, epoch, interval)
 }
 
-/// Whether the monitor refuses to make a map of the nodes of a text.
+/// True if the monitor refuses to make a map of the nodes of a text.
 fn is_bad<R: Abort>(rt: &R, alloc: Global, monitor: &mut Monitor, numbers: &str) -> bool {
     let acting = nodes(rt, alloc, numbers);
     match monitor.new_map(&acting) {
@@ -67,8 +67,7 @@ fn greatest_acting_list(rt: HostRuntime) {
     );
 }
 
-/// Whether that many maps are made, each of another acting list than the one before, and each
-/// activated.
+/// True if `count` maps are made and activated, each with another acting list than the one before.
 fn makes_many<R: Abort>(rt: &R, alloc: Global, monitor: &mut Monitor, count: u32) -> bool {
     let (one, other) = (nodes(rt, alloc, "1 2"), nodes(rt, alloc, "2 1"));
     let mut all = true;
@@ -89,12 +88,12 @@ fn many_maps(rt: HostRuntime) {
     );
 }
 
-/// What the monitor answers when it is asked to activate an interval.
+/// The refusal of the monitor to activate an interval, if it refuses.
 fn activates(monitor: &mut Monitor, interval: u32) -> Option<MonitorError> {
     monitor.activate(Epoch::new(interval)).err()
 }
 
-/// Whether the monitor refuses to activate an interval that isn't its newest.
+/// True if the monitor refuses to activate an interval that isn't its newest.
 fn is_not_newest(monitor: &mut Monitor, interval: u32) -> bool {
     activates(monitor, interval) == Some(MonitorError::NotNewest)
 }
@@ -106,7 +105,7 @@ fn activation_before_any_map(rt: HostRuntime) {
     see(&rt, is_not_newest(&mut monitor, 1), "1");
 }
 
-/// Whether a copy goes on where the monitor made a map of node 1.
+/// True if a copy of a monitor that made a map of node 1 goes on from there.
 fn is_copied<R: Abort>(rt: &R, alloc: Global, monitor: &Monitor) -> bool {
     let mut copy = monitor.copy(alloc).expect(rt, "memory");
     activates(&mut copy, 1).is_none() && makes(rt, alloc, &mut copy, "1", 2, 1)
@@ -132,7 +131,7 @@ const APART: &str = "
 2 1 = 4 3 1
 1 2 = 5 5 1";
 
-/// Whether the newest map has those numbers.
+/// True if the newest map has these numbers.
 fn is_newest(monitor: &Monitor, numbers: &[NodeId]) -> bool {
     let map = monitor.newest();
     match numbers {
@@ -145,7 +144,7 @@ fn is_newest(monitor: &Monitor, numbers: &[NodeId]) -> bool {
     }
 }
 
-/// Whether making the monitor's next map changes nothing, and keeping it makes it the newest.
+/// True if making the monitor's next map changes nothing, and keeping it makes it the newest.
 fn is_kept(alloc: Global, monitor: &mut Monitor, acting: &[NodeId], numbers: &[NodeId]) -> bool {
     let before = monitor.newest().epoch();
     let Ok(map) = monitor.next_map(alloc, acting) else {
@@ -156,7 +155,7 @@ fn is_kept(alloc: Global, monitor: &mut Monitor, acting: &[NodeId], numbers: &[N
     is_apart && is_newest(monitor, numbers)
 }
 
-/// Whether a line's map is made so.
+/// True if a line's map is made as the line says.
 fn is_as_said<R: Abort>(rt: &R, alloc: Global, monitor: &mut Monitor, line: &str) -> bool {
     match line.split_once(" = ") {
         None => false,
@@ -177,5 +176,6 @@ fn maps_made_apart(rt: HostRuntime) {
             see(&rt, activates(&mut monitor, 1).is_none(), "interval 1");
         }
     }
+    // The law does nothing: it was proved when the crate was checked.
     monitor_crosses();
 }

@@ -35,7 +35,7 @@ const PUT: Row = Row {
     acked: Some(1),
 };
 
-/// What comes to an installed node with an empty log, in this order.
+/// The Reps that an installed node with an empty log receives, in this order.
 const ROWS: [Row; 11] = [
     // no class is loaded by that id, the class has no such method, the input is too long
     Row {
@@ -72,7 +72,7 @@ const ROWS: [Row; 11] = [
         acked: None,
         ..PUT
     },
-    // an earlier place, whatever stands there
+    // an earlier place, with any request in it
     PUT,
     Row { class: 1, ..PUT },
     Row {
@@ -128,8 +128,8 @@ fn length_of(sent: &[Packet]) -> Option<usize> {
     }
 }
 
-/// Whether a node answers the Rep of a row so, and its log has the length that was acknowledged
-/// last.
+/// True if a node answers the Rep of a row as the row says, and its log has the length that was
+/// acknowledged last.
 fn is_right<C: Classes, R: Abort>(
     rt: &R,
     alloc: Global,
@@ -146,7 +146,7 @@ fn is_right<C: Classes, R: Abort>(
     acked == row.acked && node.len() == acked.unwrap_or(before) && sent.items().len() <= 1
 }
 
-/// Whether all Reps are answered as the rows say.
+/// True if all Reps are answered as the rows say.
 #[derive(Drop)]
 struct Rows<'a, R> {
     rt: &'a R,
@@ -161,6 +161,7 @@ impl<R: Abort> GroupWork for Rows<'_, R> {
     fn work<C: Classes>(self, table: &ClassTable, _group: Group<C>) -> bool {
         let (rt, alloc) = (self.rt, self.alloc);
         let mut node: GroupNode<C> = GroupNode::new(alloc, NodeId::new(2));
+        // For the proof: a group's entries are legal, which `handle` requires of the node's log.
         let _ = node.group().entries();
         let installed = node
             .handle(table, install(rt, alloc, false))

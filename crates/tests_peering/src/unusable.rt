@@ -24,7 +24,7 @@ struct Row {
     is_unusable: bool,
     /// Its interval after.
     interval: u32,
-    /// How many messages it sends.
+    /// The number of messages it sends.
     sent: usize,
 }
 
@@ -108,7 +108,7 @@ pub(super) fn install<R: Abort>(rt: &R, alloc: Global, is_unusable: bool) -> Eve
     })
 }
 
-/// How many messages a node sends at the Install.
+/// The number of messages that a node sends at the Install.
 fn sent<C: Classes, R: Abort>(
     rt: &R,
     alloc: Global,
@@ -118,24 +118,26 @@ fn sent<C: Classes, R: Abort>(
 ) -> usize
     requires { table.now ≡ C.classes }
 {
+    // For the proof: a group's entries are legal, which `handle` requires of the node's log.
     let _ = node.group().entries();
     let event = install(rt, alloc, is_unusable);
     node.handle(table, event).expect(rt, "memory").items().len()
 }
 
-/// Whether a node does as its row says.
+/// True if a node does as its row says.
 fn is_right<C: Classes, R: Abort>(rt: &R, alloc: Global, table: &ClassTable, row: Row) -> bool
     requires { table.now ≡ C.classes }
 {
     let mut node: GroupNode<C> = GroupNode::new(alloc, NodeId::new(row.node));
     if row.has_installed {
+        // The row is about the second Install, so the messages of the first are not compared.
         let _ = sent(rt, alloc, table, &mut node, false);
     }
     let messages = sent(rt, alloc, table, &mut node, row.is_unusable);
     messages == row.sent && node.epoch().get() == row.interval
 }
 
-/// Whether all nodes do as the rows say.
+/// True if all nodes do as the rows say.
 #[derive(Drop)]
 struct Rows<'a, R> {
     rt: &'a R,

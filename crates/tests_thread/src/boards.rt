@@ -1,4 +1,4 @@
-//! What writers have committed, among threads.
+//! Commits of several writers, read by several threads.
 ghost use Rattle.std.specs.Prelude.{◌≡◌, ◌<◌, ◌≤◌, [], length};
 
 use crate::locks::request;
@@ -7,10 +7,10 @@ use std::alloc::Global;
 use std::process::Abort;
 use std::thread::{Threads, join};
 
-/// How many requests each thread commits.
+/// The number of requests that each thread commits.
 const MANY: u64 = 1000;
 
-/// Commits a request that many times: which one makes no difference to the board.
+/// Commits a request `times` times. The board counts only, so it may be the same each time.
 fn commit_many<R: Abort>(rt: &R, alloc: Global, board: &Board, writer: &mut Writer, times: u64)
     requires board { writer.old.board ≡ board.now }
     requires new { writer.old.list ≡ [] }
@@ -37,7 +37,7 @@ fn write<R: Abort>(rt: &R, alloc: Global, board: &Board, mut writer: Writer) -> 
     (writer, note)
 }
 
-/// A looking thread: whether the row only grew, up to what is committed in all.
+/// A looking thread. Returns true if the row only grew, up to the number of all commits.
 fn watch(board: &Board, mut seen: Seen) -> (Seen, bool)
     requires board { seen.board ≡ board.now }
     requires rows { 1 ≤ board.now.words }
@@ -53,7 +53,7 @@ fn watch(board: &Board, mut seen: Seen) -> (Seen, bool)
     (seen, rising)
 }
 
-/// What a token that knows nothing finds in the first row, once it was committed three times.
+/// The count that a token without any knowledge finds in the first row, after three commits there.
 fn found_late<R: Abort>(
     rt: &R,
     alloc: Global,
@@ -97,8 +97,8 @@ struct TwoWriters {
     second: Writer,
 }
 
-/// Whether two rows have counts of their own, once the second was committed five times and the
-/// first twice.
+/// True if two rows have counts of their own, after five commits to the second and two to the
+/// first.
 fn are_apart<R: Abort>(
     rt: &R,
     alloc: Global,
@@ -133,7 +133,7 @@ fn neighbouring_rows_have_counts_of_their_own(rt: HostRuntime) {
     assert!(rt; are_apart(&rt, rt.alloc(), &board, two, seen));
 }
 
-/// What is found in the first row by a token that heard of it over another one's note.
+/// The count in the first row for a token that heard of it through another token's note.
 fn heard(board: &Board, mut writer: Writer, note: Note, mut late: Seen, mut seen: Seen) -> u64
     requires writer { writer.board ≡ board.now }
     requires note { note.board ≡ board.now }
@@ -148,7 +148,7 @@ fn heard(board: &Board, mut writer: Writer, note: Note, mut late: Seen, mut seen
     board.look(&mut seen, 0)
 }
 
-/// Checks that a token hears of what another thread commits while a third looks.
+/// Checks that a token hears of the commits of another thread while a third looks.
 fn carry_notes<R: Threads + Abort + Sync>(
     rt: &R,
     alloc: Global,

@@ -1,5 +1,5 @@
-//! Tests alone, of what threads share: a group under a lock, queues of operations, the board of
-//! what is committed.
+//! Only tests, of the values that threads share: a group under a lock, queues of operations, the
+//! board of commits.
 #![tactic(auto)]
 
 #[cfg(test)]

@@ -14,13 +14,13 @@ use std::process::Abort;
 use std::sync::{Barrier, Mutex, Wait};
 use std::thread::{Threads, map_indices};
 
-/// How many threads append. Each is a client: 1, 2 and so on.
+/// The number of threads that append. Each is a client: 1, 2 and so on.
 const THREADS: u32 = 8;
 
-/// How many requests each appends, numbered from 1 on.
+/// The number of requests that each appends, numbered from 1 on.
 const EACH: u32 = 100;
 
-/// What `lock` answers a client while another has the lock.
+/// The code of `lock` for a client while another has the lock.
 const EBUSY: i64 = -16;
 
 /// A client's request for the lock of the one object.
@@ -54,7 +54,8 @@ fn append_each<C: Classes, R: Wait + Abort>(
     }
 }
 
-/// Whether the group that all threads together make, which begin once all are there, is right.
+/// True if the group is right that all threads make together, after a barrier that starts them at
+/// once.
 fn appended<C: Classes + Send + Sync, R: Threads + Wait + Abort + Sync>(
     rt: &R,
     alloc: Global,
@@ -62,6 +63,7 @@ fn appended<C: Classes + Send + Sync, R: Threads + Wait + Abort + Sync>(
 ) -> bool
     requires { IsPrefix table.now C.classes }
 {
+    // For the proof: threads may share a lock on a group, and may share a table.
     group_crosses::<C>();
     table_crosses();
     let group = Mutex::new(Group::<C>::new(alloc));
@@ -76,7 +78,7 @@ fn appended<C: Classes + Send + Sync, R: Threads + Wait + Abort + Sync>(
     are_right(group.into_inner().entries())
 }
 
-/// How many entries a client has, if they are numbered 1, 2 and so on in their order.
+/// The number of entries of a client, if they are numbered 1, 2 and so on in their order.
 fn rising(entries: &[Entry], client: u32) -> Option<u32> {
     let mut last = 0u32;
     for entry in entries {
@@ -90,7 +92,7 @@ fn rising(entries: &[Entry], client: u32) -> Option<u32> {
     Some(last)
 }
 
-/// Whether the client of the first entry got the lock each time, and every other client never.
+/// True if the client of the first entry got the lock each time, and every other client never.
 fn is_held_by_first(entries: &[Entry]) -> bool {
     let mut owner = None;
     for entry in entries {
@@ -103,9 +105,10 @@ fn is_held_by_first(entries: &[Entry]) -> bool {
     true
 }
 
-/// Whether all entries are there, each client's in their order, and the first one's client alone
-/// got the lock.
+/// True if all entries are there, each client's in order, and only the first one's client got the
+/// lock.
 fn are_right(entries: &[Entry]) -> bool {
+    // Eight threads append 100 requests each.
     let mut all = entries.len() == 800;
     for client in 1..=THREADS {
         all = all && rising(entries, client) == Some(EACH);

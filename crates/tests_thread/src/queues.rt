@@ -13,7 +13,7 @@ use std::thread::{Threads, join, yield_now};
 
 const SHARDS: usize = 5;
 
-/// How many operations each of the four senders sends.
+/// The number of operations that each of the four senders sends.
 const EACH: usize = 25_000;
 
 /// An operation with its sender, and its number among all of this sender's.
@@ -63,8 +63,8 @@ fn send_all<R: Wait>(rt: &R, shards: &OpShards<Job>, mut pass: SendPass<Job>, se
     }
 }
 
-/// Takes of each shard in turn, until all takers together have taken all. Answers what it took, in
-/// its order.
+/// Takes from each shard in turn, until all takers together have taken all. Returns the operations
+/// that it took, in order.
 fn take_all<R: Wait + Abort>(
     rt: &R,
     alloc: Global,
@@ -79,7 +79,7 @@ fn take_all<R: Wait + Abort>(
     jobs
 }
 
-/// Puts what it takes after the operations that there are.
+/// Appends the operations that it takes.
 fn take_into<R: Wait + Abort>(
     rt: &R,
     shards: &OpShards<Job>,
@@ -125,8 +125,7 @@ fn send_two<R: Threads + Wait + Sync>(
     );
 }
 
-/// The passes of two senders, the first of them with the number `sender`, and of a taker beside
-/// them.
+/// The passes of two senders, the first of them with the number `sender`, and of a taker.
 #[derive(Drop)]
 struct Crew {
     first: SendPass<Job>,
@@ -135,7 +134,7 @@ struct Crew {
     take: TakePass<Job>,
 }
 
-/// Runs a crew. Answers what its taker took.
+/// Runs a crew. Returns the operations that its taker took.
 fn run_crew<R: Threads + Wait + Abort + Sync>(
     rt: &R,
     alloc: Global,
@@ -171,7 +170,7 @@ struct TwoCrews {
     two: Crew,
 }
 
-/// Runs two crews beside a third taker.
+/// Runs two crews and a third taker.
 fn run_crews<R: Threads + Wait + Abort + Sync>(
     rt: &R,
     alloc: Global,
@@ -202,8 +201,8 @@ fn run_crews<R: Threads + Wait + Abort + Sync>(
     )
 }
 
-/// Whether an operation is no earlier than what is due of its sender and shard; the one after it is
-/// due then.
+/// True if an operation is no earlier than the next one due of its sender and shard. Then the one
+/// after it is due.
 fn is_due(next: &mut [usize], job: &Job) -> bool {
     let place = job
         .sender
@@ -219,8 +218,9 @@ fn is_due(next: &mut [usize], job: &Job) -> bool {
     }
 }
 
-/// Whether the operations of each sender and shard stand in the order in which they were sent.
+/// True if the operations of each sender and shard are in the order in which they were sent.
 fn in_order(jobs: &[Job]) -> bool {
+    // One for each of four senders and five shards.
     let mut next = [0usize; 20];
     let mut all = true;
     for job in jobs {
@@ -250,7 +250,7 @@ fn count(counts: &mut [u8], jobs: &[Job]) -> bool {
     all
 }
 
-/// Whether each is 1.
+/// True if each count is 1.
 fn are_ones(counts: &[u8]) -> bool {
     let mut all = true;
     for count in counts {
@@ -259,7 +259,7 @@ fn are_ones(counts: &[u8]) -> bool {
     all
 }
 
-/// Whether each operation was taken once in all, and each taker's are in order.
+/// True if each operation was taken exactly once, and each taker's operations are in order.
 fn is_complete(
     rt: &impl Abort,
     alloc: Global,
@@ -310,7 +310,7 @@ fn each_once_and_in_order(rt: HostRuntime) {
     assert!(rt; is_complete(&rt, alloc, &first, &second, &third));
 }
 
-/// The group of the operation that comes back; none where it is accepted.
+/// The group of the operation that comes back; `None` if it is accepted.
 fn given_back<R: Wait>(
     rt: &R,
     shards: &OpShards<Job>,
@@ -343,7 +343,7 @@ fn taken_of<R: Wait>(
     }
 }
 
-/// Whether the second of two operations of one shard comes back, and one of the other shard
+/// True if the second of two operations of one shard comes back, and one of the other shard
 /// doesn't.
 fn gives_back_nine<R: Wait>(rt: &R, shards: &OpShards<Job>, mut send: SendPass<Job>) -> bool
     requires { send.queues ≡ shards.now.queues }
@@ -361,8 +361,8 @@ fn a_full_queue_gives_back(rt: HostRuntime) {
     assert!(rt; gives_back_nine(&rt, &shards, send));
 }
 
-/// Sends an operation of the group, and before each time one of group 1, until it is accepted or
-/// comes back so often. Whether it was accepted.
+/// Sends an operation of the group, each time after one of group 1, until it is accepted, at most
+/// `tries` times. Returns true if it was accepted.
 fn is_sent_within<R: Wait>(
     rt: &R,
     shards: &OpShards<Job>,
@@ -375,8 +375,10 @@ fn is_sent_within<R: Wait>(
     ensures grew { Grew pass.old pass.new }
     ensures sent { IsTrue result → WasSent pass.old pass.new (λ job. job.group ≡ group) }
 {
+    // For the proof: a request that was sent in one round was sent in all rounds together.
     sending_goes_on::<Job, usize, Brand>(&group);
     for _ in 0..tries {
+        // It may come back: only the operation of `group` counts.
         let _ = shards.submit(rt, pass, request(1));
         match shards.submit(rt, pass, request(group)) {
             Ok(()) => return true,
@@ -395,8 +397,7 @@ fn a_loop_says_what_it_sent(rt: HostRuntime) {
     assert!(rt; first && !again);
 }
 
-/// Whether an operation of group 7 that was sent is taken once of shard 1 of two, and not of shard
-/// 0.
+/// True if a sent operation of group 7 is taken once from shard 1 of two, and not from shard 0.
 fn takes_seven_once<R: Wait>(
     rt: &R,
     shards: &OpShards<Job>,
@@ -424,8 +425,8 @@ fn an_empty_queue_gives_none(rt: HostRuntime) {
     assert!(rt; takes_seven_once(&rt, &shards, send, take));
 }
 
-/// Whether two takers take operations of groups 1 and 2 that were sent, one before and one after
-/// they are put together.
+/// True if two takers take the operations of groups 1 and 2, one before and one after the two are
+/// joined.
 fn take_one_each<R: Wait>(
     rt: &R,
     shards: &OpShards<Job>,
@@ -460,5 +461,6 @@ fn takers_put_together(rt: HostRuntime) {
 
 #[test]
 fn queues_and_passes_may_cross(_rt: HostRuntime) {
+    // The law does nothing: it was proved when the crate was checked.
     queues_cross::<Job>();
 }

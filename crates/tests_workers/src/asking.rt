@@ -1,4 +1,4 @@
-//! What the tests ask by.
+//! The requests of the tests, and their replies.
 
 use group_cell::{Post, Reply};
 use object_store::ObjectName;
@@ -9,11 +9,11 @@ use std::sync::Wait;
 use std::sync::atomic::{AtomicBool, Ordering};
 use std::thread::yield_now;
 
-/// The turns that a test waits before it fails: so many that only a fault reaches them, however
-/// busy the machine is.
+/// The turns that a test waits before it fails. Only a fault reaches this number, however busy the
+/// machine is.
 pub const TURNS: u32 = 30_000_000;
 
-/// A cluster of that many nodes, all of which act, with one group a shard.
+/// A cluster of `nodes` nodes that all act, with one group for each shard.
 pub fn config(nodes: usize, shards: usize, workers: usize) -> Config {
     Config {
         nodes: nodes as u64,
@@ -55,14 +55,14 @@ pub fn name_in<N: ClusterName, R: Wait>(
     None
 }
 
-/// Gives the other threads so many turns.
+/// Yields to the other threads `turns` times.
 pub fn pause(turns: u32) {
     for _ in 0..turns {
         yield_now();
     }
 }
 
-/// Whether that comes true.
+/// True if the flag becomes true within `TURNS` turns.
 pub fn comes(flag: &AtomicBool) -> bool {
     for _ in 0..TURNS {
         if flag.load(Ordering::SeqCst) {
@@ -73,8 +73,8 @@ pub fn comes(flag: &AtomicBool) -> bool {
     false
 }
 
-/// Whether a request that was sent once is answered by a reply: its place and its code.
-/// `Some(None)` where it is refused.
+/// The place and the code of the reply to a request that is sent once. `Some(None)` if it is
+/// refused.
 pub fn reply_to<N: ClusterName, R: Wait>(
     running: &Running<N, R>,
     opened: &Opened<N>,

@@ -30,7 +30,7 @@ impl Ended {
         self.count.load(Ordering::SeqCst) == WORKERS
     }
 
-    /// Ends the workers right after the nudges, and answers whether all end by that.
+    /// Ends the workers right after the nudges. Returns true if all end by that.
     fn finish<N: ClusterName, R: Wait>(&self, running: &Running<N, R>) -> bool {
         let Some(mut opened) = running.open() else {
             return false;

@@ -28,6 +28,7 @@ struct Held {
 
 impl Gate for Held {
     fn before(&self, number: u64) {
+        // The low 32 bits are the request's number, the high ones its client's.
         if number % (1 << 32) != u64::from(FIRST) || self.came.swap(true, Ordering::SeqCst) {
             return;
         }
@@ -46,7 +47,7 @@ impl Gate for Held {
 struct SideBySide {
     alloc: Global,
     gate: Held,
-    /// The place of the call that is held: 1 where both calls are of one log.
+    /// The place of the held call: 1 if both calls are of one log.
     place: usize,
     /// The calls that have ended.
     ended: AtomicU64,

@@ -1,6 +1,5 @@
-//! Tests alone, of the workers of a cluster: which operations they take, when they wait and are
-//! woken, and how they end. Each ends by itself: it counts its turns, and fails where they are used
-//! up.
+//! Only tests, of the workers of a cluster: the operations that they take, their waits and wakes,
+//! and their ends. Each test ends by itself: it counts its turns, and fails if they are used up.
 #![tactic(auto)]
 
 #[cfg(test)]

@@ -19,10 +19,10 @@ const GROUPS: Config = Config {
     tries: 1000,
 };
 
-/// How often both make a map.
+/// The number of maps that both make.
 const ROUNDS: u32 = 40;
 
-/// How often a request is sent until its primary is through with peering, at most.
+/// The limit on the tries of a request until its primary has done peering.
 const ASKS: u32 = 100;
 
 /// Two makers of maps, and others who look at the newest maps all the time, so that the makers wait
@@ -37,7 +37,7 @@ struct Makers {
 }
 
 impl Makers {
-    /// Waits until that round has begun, or ended. False where there are no more.
+    /// Waits until this round has begun, or ended. Returns false if there are no more rounds.
     fn waits(&self, rounds: &AtomicU32, round: u32) -> bool {
         for _ in 0..TURNS {
             if rounds.load(Ordering::SeqCst) >= round {
@@ -51,7 +51,7 @@ impl Makers {
         false
     }
 
-    /// Whether the node that is asked answers as the one of the newest map does.
+    /// True if the node that is asked answers as the primary by the newest map does.
     fn is_answered<N: ClusterName, R: Wait>(
         &self,
         running: &Running<N, R>,

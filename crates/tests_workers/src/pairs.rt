@@ -1,4 +1,4 @@
-//! Two workers side by side: what one has doesn't keep the other from the rest.
+//! Two workers side by side: an operation that one holds doesn't keep the other from the rest.
 
 use crate::asking::{TURNS, answer, comes, config, lock, name_in, pause, reply_to};
 use crate::play::{Play, ends, played, serves};
@@ -189,7 +189,7 @@ impl Gate for Skipped {
 }
 
 impl Skipped {
-    /// Whether both requests are queued while a worker is held with a map, which has nothing go out
+    /// True if both requests are queued while a worker is held with a map. The map sends nothing,
     /// since its node is stopped.
     fn are_queued<N: ClusterName, R: Wait>(
         &self,
@@ -205,7 +205,7 @@ impl Skipped {
                 .is_ok()
     }
 
-    /// Whether the second request comes while the first is held.
+    /// True if the second request comes while the first is held.
     fn calls<N: ClusterName, R: Wait>(&self, running: &Running<N, R>) -> bool {
         let Some(mut client) = client_in(running, self.alloc, 0) else {
             return false;
@@ -251,7 +251,7 @@ fn a_worker_that_skipped_a_shard_is_woken_for_it(rt: HostRuntime) {
 }
 
 /// A worker is held with the answer to a request: it has the shard again since the gate let it
-/// pass. Tells whether another one comes to the gate meanwhile.
+/// pass. Tells if another one comes to the gate meanwhile.
 #[derive(Drop)]
 struct Served {
     alloc: Global,
@@ -335,8 +335,8 @@ impl Gate for Inside {
 }
 
 impl Inside {
-    /// Whether the maps of the two nodes come one after the other, the first ones and those that a
-    /// nudge hands on.
+    /// True if the maps of the two nodes come one after the other, both the first ones and those
+    /// that a nudge hands on.
     fn calls<N: ClusterName, R: Wait>(&self, running: &Running<N, R>) -> bool {
         let Some(mut client) = client_in(running, self.alloc, 0) else {
             return false;

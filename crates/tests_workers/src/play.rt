@@ -9,19 +9,19 @@ use std::marker::Brand;
 use std::sync::Wait;
 use std::thread::{Threads, join};
 
-/// What nine threads do with a cluster, each its part. A part that a play doesn't need does
+/// A play of nine threads with a cluster, each with its part. A part that a play doesn't need does
 /// nothing.
 pub trait Play {
-    /// What comes before the threads, and whether it comes out as it should.
+    /// Runs the part before the threads. Returns true if it went as it should.
     fn begins<N: ClusterName, R: Wait>(&self, _running: &Running<N, R>) -> bool {
         true
     }
 
-    /// What the thread of that number does, 0 to 8, and whether it comes out as it should.
+    /// Runs the part of the thread `number`, 0 to 8. Returns true if it went as it should.
     fn part<N: ClusterName, R: Wait>(&self, running: &Running<N, R>, number: usize) -> bool;
 }
 
-/// Serves as the worker of that number.
+/// Serves as the worker of this number.
 pub fn serves<N: ClusterName, R: Wait, G: Gate>(
     running: &Running<N, R>,
     worker: usize,
@@ -31,7 +31,7 @@ pub fn serves<N: ClusterName, R: Wait, G: Gate>(
     true
 }
 
-/// Ends the workers once all calls are made, and answers how these came out.
+/// Ends the workers once all calls are made. Returns true if the calls went as they should.
 pub fn ends<N: ClusterName, R: Wait>(running: &Running<N, R>, done: bool) -> bool {
     running.finish();
     done

@@ -11,10 +11,10 @@ use std::rt::Files;
 use std::sync::Wait;
 use std::thread::yield_now;
 
-/// The looks until the workers sleep, at most.
+/// The limit on looks until the workers sleep.
 const LOOKS: u32 = 1_000;
 
-/// The calls after each of which the workers sleep again.
+/// The number of calls. The workers sleep again after each.
 const CALLS: u32 = 5;
 
 /// Three workers of two queues are left alone, called, and left alone again.
@@ -24,15 +24,16 @@ struct Asleep<H> {
 }
 
 impl<H: Files + AllocGlobal + Clone + Drop> Asleep<H> {
-    /// Whether a thread of the process runs, or would if a processor were free.
+    /// True if a thread of the process runs, or would if a processor were free.
     fn runs(&self, thread: &DirEntry<H, Global>) -> io::Result<bool> {
         let name = thread.file_name();
         let path = format!(in self.host.alloc(); "/proc/self/task/{name}/stat")?;
         let stat = read_to_string(&self.host, path.as_str())?;
+        // The state follows the name in parentheses; R is running or ready to run.
         Ok(stat.contains(") R "))
     }
 
-    /// How many threads of the process run.
+    /// The number of threads of the process that run.
     fn running(&self) -> io::Result<u32> {
         let mut count = 0u32;
         for thread in read_dir(&self.host, "/proc/self/task")? {
@@ -43,9 +44,10 @@ impl<H: Files + AllocGlobal + Clone + Drop> Asleep<H> {
         Ok(count)
     }
 
-    /// Whether the workers sleep in a while.
+    /// Returns true if the workers sleep within `LOOKS` looks.
     fn sleep(&self) -> bool {
         for _ in 0..LOOKS {
+            // The one that runs is this thread, which looks.
             if self.running().is_ok_and(|count| count == 1) {
                 return true;
             }
@@ -54,7 +56,7 @@ impl<H: Files + AllocGlobal + Clone + Drop> Asleep<H> {
         false
     }
 
-    /// Whether the client's call is answered, and the workers sleep after it.
+    /// True if the client's call is answered, and the workers sleep afterwards.
     fn sleep_after<N: ClusterName, R: Wait>(
         &self,
         running: &Running<N, R>,

@@ -1,4 +1,4 @@
-//! In which order a worker takes operations, and what its gate gets.
+//! The order in which a worker takes operations, and the numbers that its gate gets.
 
 use crate::asking::{TURNS, comes, config, lock, name_in};
 use crate::play::{Play, ends, played, serves};
@@ -57,7 +57,7 @@ impl Rotation {
         }
     }
 
-    /// Whether the worker takes the twelve in that order.
+    /// True if the worker takes the twelve in this order.
     fn are_taken(&self, order: u64) -> bool {
         self.gate.is_free.store(true, Ordering::SeqCst);
         for _ in 0..TURNS {
@@ -95,9 +95,9 @@ impl Play for Rotation {
     }
 }
 
-// Group 4 stands for group 0. Worker 1 begins at queue 1; each queue has the group's first map
-// before its requests. Of a queue that has more requests the worker takes none until the others had
-// their turn.
+// Group 4 means group 0, since a request's group is its number modulo 4. Worker 1 begins at queue
+// 1; each queue has the group's first map before its requests. If a queue has more requests, the
+// worker takes none of them until the others had their turn.
 #[test]
 fn a_worker_takes_from_all_queues_in_rotation(rt: HostRuntime) {
     let alloc = rt.alloc();

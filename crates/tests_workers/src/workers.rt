@@ -20,7 +20,7 @@ struct Woken {
 }
 
 impl Woken {
-    /// Whether a request that is sent once is answered.
+    /// True if a request that is sent once is answered.
     fn is_served<N: ClusterName, R: Wait>(
         &self,
         running: &Running<N, R>,

@@ -18,7 +18,7 @@ const VALUES: [u64; 8] = [
 const IMMEDIATES: [u64; 5] = [0, 1, 0xffff_ffff, 0x8000_0000, 0x7fff_ffff];
 
 /// The comparisons. A line has the opcode, a word for each destination, and in it a digit for each
-/// operand: 1 where the jump is taken.
+/// operand: 1 if the jump is taken.
 const ROWS: &str = "
 1d 10000000 01000000 00100000 00010000 00001000 00000100 00000010 00000001
 15 10000 01000 00100 00000 00000 00000 00000 00001
@@ -94,7 +94,7 @@ fn branches_to(alloc: Global, code: &[u8], taken: u8) -> bool {
     }
 }
 
-/// Compares a destination with the operands; gives how many runs went the right way.
+/// Compares a destination with the operands. Returns the number of runs that went the right way.
 fn compare(alloc: Global, opcode: u8, dst: u64, taken: &str) -> usize {
     let operands = if opcode / 8 % 2 == 1 {
         VALUES.as_slice()
@@ -110,7 +110,7 @@ fn compare(alloc: Global, opcode: u8, dst: u64, taken: &str) -> usize {
     count
 }
 
-/// Compares as a line says; gives how many runs went the right way.
+/// Compares as a line says. Returns the number of runs that went the right way.
 fn compare_all(alloc: Global, line: &str) -> usize {
     let mut words = line.split_whitespace();
     let opcode = byte(word(&mut words));

@@ -82,7 +82,7 @@ fn is_full(object: Option<&Object>) -> bool {
     }
 }
 
-/// Whether the method leaves a full object, whose last byte is the input's first.
+/// True if the method leaves a full object, the last byte being the input's first.
 fn fills_the_object(alloc: Global, caps: &Caps, place: &Layout) -> bool {
     if !is_layout(caps, place) || caps.in_cap != 4096 || caps.out_cap != 4096 {
         return false;

@@ -10,7 +10,7 @@ const INPUT: [u8; 16] = [
     0x81, 0x02, 0x83, 0x04, 0x85, 0x06, 0x87, 0x08, 0x09, 0x8a, 0x0b, 0x8c, 0x0d, 0x8e, 0x0f, 0x90,
 ];
 
-/// How many bytes the code of a line has at most.
+/// The size limit of a line's code, in bytes.
 const CODE_ROOM: usize = 256;
 
 /// The number of two hexadecimal digits.
@@ -18,20 +18,20 @@ pub fn byte(text: &str) -> u8 {
     (number(text) % 256) as u8
 }
 
-/// The next word; where none is left, one without letters.
+/// The next word, or the empty word if none is left.
 pub fn word<'a>(words: &mut SplitWhitespace<'a>) -> &'a str {
     words.next().unwrap_or("")
 }
 
-/// What a run begins with beside its object.
+/// The inputs of a run apart from its object.
 #[derive(Clone, Copy)]
 struct Start<'a> {
     caps: Caps,
     input: &'a [u8],
 }
 
-/// Whether the output and the object after a run are those that two words tell; no words tell of
-/// neither.
+/// True if a run left the output and the object that the next two words say; without words, no
+/// output and no object.
 fn is_left(output: &[u8], object: Option<&Object>, words: &mut SplitWhitespace<'_>) -> bool {
     match words.next() {
         None | Some(";") => output.is_empty() && object.is_none(),
@@ -39,8 +39,8 @@ fn is_left(output: &[u8], object: Option<&Object>, words: &mut SplitWhitespace<'
     }
 }
 
-/// Whether a run ended so: `stuck`, `unfinished`, or the code, the number of steps, the output and
-/// the object.
+/// True if a run ended as the words say: `stuck`, `unfinished`, or the code, the number of steps,
+/// the output and the object.
 fn is_told(ending: &Ending, words: &mut SplitWhitespace<'_>) -> bool {
     let first = word(words);
     match ending {
@@ -83,7 +83,7 @@ fn run_in(
     flat_run(alloc, &machine, code, &start, 16).ok()
 }
 
-/// Whether a run of at most sixteen steps ends as the words say.
+/// True if a run of at most sixteen steps ends as the words say.
 fn runs_so(
     alloc: Global,
     start: &Start<'_>,
@@ -117,7 +117,7 @@ pub const fn layout(input: u64, output: u64, stack: u64) -> Layout {
     }
 }
 
-/// Whether a run ends in three layouts as a line says after its first six words.
+/// True if a run ends in all three layouts as a line says after its first six words.
 fn runs_so_everywhere(
     alloc: Global,
     start: &Start<'_>,
@@ -152,7 +152,7 @@ fn plain(input: &[u8]) -> Start<'_> {
     }
 }
 
-/// Where no region touches another.
+/// A layout with no two regions adjacent.
 fn apart() -> Layout {
     let [first, _, _] = three_layouts(capacities(16, 16, false));
     first
@@ -166,7 +166,7 @@ fn code_and_steps(ending: &Ending) -> Option<(u64, usize)> {
     }
 }
 
-/// Whether the run of code without an object ends with a number in register 0, after that many
+/// True if a run of the code without an object ends with `value` in register 0, after `counted`
 /// steps.
 pub fn ends_with(alloc: Global, code: &[u8], value: u64, counted: usize) -> bool {
     match run_in(alloc, &plain(&INPUT), None, &apart(), code) {
@@ -175,7 +175,7 @@ pub fn ends_with(alloc: Global, code: &[u8], value: u64, counted: usize) -> bool
     }
 }
 
-/// What a run without an object and without input comes to.
+/// The result of a run without an object and without input.
 #[derive(Clone, Copy, PartialEq)]
 pub enum Short {
     Ended(u64, usize),
@@ -191,7 +191,7 @@ fn shortened(ending: &Ending) -> Short {
     }
 }
 
-/// What at most that many steps come to, without an object and without input.
+/// Runs code for at most this number of steps, without an object and without input.
 pub fn short_run(
     alloc: Global,
     caps: &Caps,
@@ -214,8 +214,8 @@ pub fn short_run(
     }
 }
 
-/// Whether the code of a line, run without an object where no region touches another, comes to what
-/// the next words say.
+/// True if the code of a line, run without an object and with regions apart, ends as the next words
+/// say.
 fn runs(alloc: Global, line: &str) -> bool {
     let mut words = line.split_whitespace();
     let mut code = [0u8; CODE_ROOM];
@@ -227,8 +227,8 @@ fn capacity(text: &str) -> u16 {
     (number(text) % 65_536) as u16
 }
 
-/// The same beside an object, in three layouts; before the code stand in_cap, out_cap, `w` for a
-/// method that may write or `r`, the object, and the input.
+/// The same on an object, in three layouts. Before the code come in_cap, out_cap, `w` for a method
+/// that may write or `r`, the object, and the input.
 fn runs_beside(alloc: Global, line: &str) -> bool {
     let mut words = line.split_whitespace();
     let in_cap = capacity(word(&mut words));
@@ -241,12 +241,12 @@ fn runs_beside(alloc: Global, line: &str) -> bool {
     runs_so_everywhere(alloc, &Start { caps, input }, beside.as_ref(), code, line)
 }
 
-/// Whether a line is no remark.
+/// True if a line is neither empty nor a remark.
 pub fn is_row(line: &str) -> bool {
     !line.is_empty() && !line.starts_with('#')
 }
 
-/// Runs each line of a text; gives how many came to what they say.
+/// Runs each line of a text. Returns the number of runs that ended as their line says.
 pub fn run_all(alloc: Global, text: &str) -> usize {
     let mut count = 0usize;
     for line in text.lines() {
@@ -257,7 +257,8 @@ pub fn run_all(alloc: Global, text: &str) -> usize {
     count
 }
 
-/// Runs each line of a text that names its object; gives how many came to what they say.
+/// Runs each line of a text that names its object. Returns the number of lines that ended as they
+/// say.
 pub fn run_all_beside(alloc: Global, text: &str) -> usize {
     let mut count = 0usize;
     for line in text.lines() {

@@ -60,7 +60,8 @@ const LOADED: &str = "
 79a0f8ff000000009500000000000000 0 2 ; ldxdw r0, [r10-8]
 ";
 
-/// Stores at the ends of the output and of the stack, and what a load of eight bytes gives then.
+/// Stores at the ends of the output and of the stack, and the result of a load of eight bytes
+/// afterwards.
 const STORED: &str = "
 18050000112233440000000055667788735300000000000079300000000000009500000000000000 11 4 ; stxb [r3+0], r5
 180500005555555500000000555555557b5300000000000072030000feffffff79300000000000009500000000000000 55555555555555fe 5 ; stb [r3+0], -2

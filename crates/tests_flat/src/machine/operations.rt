@@ -58,7 +58,7 @@ fn with_immediate(operation: Operation, imm: u32) -> [u8; 32] {
     ]
 }
 
-/// Whether an operation ends with that result.
+/// True if an operation has this result.
 fn computes(alloc: Global, operation: Operation, operand: u64, value: u64) -> bool {
     if operation.opcode / 8 % 2 == 1 {
         let code = with_register(operation, operand);
@@ -69,9 +69,10 @@ fn computes(alloc: Global, operation: Operation, operand: u64, value: u64) -> bo
     }
 }
 
-/// Computes a line; gives how many runs ended with its results.
+/// Computes a line. Returns the number of runs that ended with its results.
 fn compute(alloc: Global, line: &str) -> usize {
     let mut words = line.split_whitespace();
+    // The name in the line is for readers alone.
     let _name = word(&mut words);
     let operation = Operation {
         opcode: byte(word(&mut words)),
@@ -92,7 +93,7 @@ fn compute(alloc: Global, line: &str) -> usize {
     count
 }
 
-/// Computes each line; gives how many runs ended with the results.
+/// Computes each line. Returns the number of runs that ended with the results.
 fn compute_all(alloc: Global, text: &str) -> usize {
     let mut count = 0usize;
     for line in text.lines() {

@@ -8,14 +8,14 @@ use flat_machine::is_layout;
 use helpers::effects_are_within_limits;
 use std::alloc::Global;
 
-/// Whether the regions have those sizes.
+/// True if the regions have these sizes.
 fn has_sizes(caps: &Caps, input: usize, output: usize, stack: usize) -> bool {
     caps.size(Region::Input) == input
         && caps.size(Region::Output) == output
         && caps.size(Region::Stack) == stack
 }
 
-/// Whether all regions but the input are written to.
+/// True if all regions but the input are writable.
 fn all_but_input_are_writable() -> bool {
     !Region::Input.is_writable() && Region::Output.is_writable() && Region::Stack.is_writable()
 }
@@ -27,7 +27,7 @@ fn knows_regions(rt: HostRuntime) {
     assert!(rt; layout(0, 3, 11).base(Region::Output) == 3);
 }
 
-/// in_cap and out_cap; where input, output and stack begin; and whether that is a layout.
+/// in_cap and out_cap; the starts of input, output and stack; and true if that is a valid layout.
 const LAYOUTS: [((u16, u16), (u64, u64, u64), bool); 7] = [
     ((3, 8), (0, 3, 11), true),
     ((3, 8), (0, 2, 11), false),
@@ -47,7 +47,7 @@ fn knows_layouts(rt: HostRuntime) {
     }
 }
 
-/// Whether a helper takes those arguments, and may change the object or not.
+/// True if a helper takes these arguments, and writes to the object or doesn't, as `writes` says.
 fn takes(id: u32, arguments: &[Argument], writes: bool) -> bool {
     match signature(id) {
         None => false,
@@ -72,7 +72,7 @@ fn knows_jump_targets(rt: HostRuntime) {
     );
 }
 
-/// What a method with those flags declares.
+/// The declaration of a method with these flags.
 fn declared(alloc: Global, flags: u8) -> Option<Caps> {
     let name = String::from_str(alloc, "m").ok()?;
     Some(Caps::of(&Method::new(name, flags, 5, 6, Vec::new(alloc))))

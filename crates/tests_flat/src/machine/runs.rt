@@ -18,7 +18,7 @@ const PLAIN: &str = "
 0 0 r none - b70000000500000007000000f9ffffff9500000000000000 fffffffffffffffe 3
 ";
 
-/// Stores below the stack's end, and loads of what was stored.
+/// Stores below the stack's end, and loads of the stored values.
 const STORED: &str = "
 # stxdw [r10-512], r2; mov r0, 0; exit
 0 0 r none - 7b2a00fe00000000b7000000000000009500000000000000 0 3

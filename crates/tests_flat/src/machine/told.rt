@@ -4,7 +4,7 @@ use object_store::Object;
 use std::alloc::Global;
 use txn::Staged;
 
-/// How many bytes a value, a name or the data of an object has at most in a line.
+/// The limit in bytes of a value, a name or an object's data in a line.
 pub const ROOM: usize = 80;
 
 fn digit(byte: u8) -> u8 {
@@ -36,7 +36,7 @@ pub fn bytes<'a>(text: &str, buffer: &'a mut [u8]) -> &'a [u8] {
     buffer.get(..count).unwrap_or(&[])
 }
 
-/// Whether bytes are those that a word tells.
+/// True if bytes are those that a word says.
 pub fn are_bytes(found: &[u8], text: &str) -> bool {
     let mut told = [0u8; ROOM];
     found == bytes(text, &mut told)
@@ -107,7 +107,7 @@ pub fn object(alloc: Global, text: &str) -> Option<Object> {
     }
 }
 
-/// Whether an object holds the data that a word tells.
+/// True if an object holds the data that a word says.
 fn holds_data(object: &Object, text: &str) -> bool {
     let mut found = [0u8; ROOM];
     let count = object.read(0, &mut found);
@@ -117,7 +117,7 @@ fn holds_data(object: &Object, text: &str) -> bool {
     }
 }
 
-/// Whether a value is there, and is the one that a word tells.
+/// True if a value is there, and is the one that a word says.
 fn is_value(found: Option<&[u8]>, text: &str) -> bool {
     match found {
         None => false,
@@ -125,14 +125,14 @@ fn is_value(found: Option<&[u8]>, text: &str) -> bool {
     }
 }
 
-/// Whether an object has an xattr, as `NAME=VALUE`.
+/// True if an object has an xattr, given as `NAME=VALUE`.
 fn has_xattr(object: &Object, pair: &str) -> bool {
     let (name, value) = attribute(pair);
     let mut told = [0u8; ROOM];
     is_value(object.xattr(bytes(name, &mut told)), value)
 }
 
-/// Whether an object has those xattrs and no other.
+/// True if an object has these xattrs and no other.
 fn has_xattrs(object: &Object, text: &str) -> bool {
     let (mut count, mut same) = (0usize, true);
     for pair in text.split(',') {
@@ -144,14 +144,14 @@ fn has_xattrs(object: &Object, text: &str) -> bool {
     same && object.xattr_count() == count
 }
 
-/// Whether an object has a value of a key, as `KEY=VALUE`.
+/// True if an object has a key, given as `KEY=VALUE`.
 fn has_key(object: &Object, pair: &str) -> bool {
     let (key, value) = attribute(pair);
     let mut told = [0u8; ROOM];
     is_value(object.key(bytes(key, &mut told)), value)
 }
 
-/// Whether an object has those keys and no other.
+/// True if an object has these keys and no other.
 fn has_keys(object: &Object, text: &str) -> bool {
     let (mut count, mut same) = (0usize, true);
     for pair in text.split(',') {
@@ -163,7 +163,7 @@ fn has_keys(object: &Object, text: &str) -> bool {
     same && object.key_count() == count
 }
 
-/// Whether an object is the one that a word tells.
+/// True if an object is the one that a word says.
 pub fn is_object(object: Option<&Object>, text: &str) -> bool {
     match object {
         None => text == "none",

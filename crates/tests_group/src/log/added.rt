@@ -19,7 +19,7 @@ append 1 2 3 f | NoClass";
 const AFTER: &str = "append 1 2 3 f | 1
 reply 1 1 | 0 3";
 
-/// Goes on with a group where that class was added to its table.
+/// Goes on with a group after the class was added to its table.
 fn go_on_after<C: Classes, R: Abort>(rt: &R, alloc: Global, table: &ClassTable, group: Group<C>)
     requires { IsPrefix C.classes table.now }
 {
@@ -44,6 +44,7 @@ fn adds<C: Classes, R: Abort>(rt: &R, alloc: Global, mut table: ClassTable, clas
     };
     let mut group = Group::<C>::new(alloc);
     go_on_with(&script, &table, &mut group);
+    // The lines after it name the class by its number.
     let _ = table.add(class).expect(rt, "memory");
     go_on_after(rt, alloc, &table, group);
 }

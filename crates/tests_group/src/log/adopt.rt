@@ -3,9 +3,9 @@ use super::check;
 /// The log before.
 const OLD: &str = "1 5 2 f abc; 2 1 2 f xyz; 1 6 2 f pqr";
 
-/// What is adopted in its place, and the group's length and object after. Worked out by hand: the
-/// length of the common beginning, and what the list's last request wrote. The last list has a pair
-/// twice in the rest.
+/// The list that is adopted in its place, and the group's length and object afterwards. Worked out
+/// by hand: the length of the common beginning, and the value that the list's last request wrote.
+/// The last list has a pair twice in the rest.
 const ROWS: &str = "replay 3 | 3
 adopt 1; 3 1 2 f end | 1
 length | 2

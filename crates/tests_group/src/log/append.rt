@@ -1,7 +1,7 @@
 use super::check;
 
-/// Two clients, the same pair again, and each refusal but a full log; and then what is logged, and
-/// the object.
+/// Two clients, the same pair again, and each refusal but a full log; and then the log and the
+/// object.
 const ROWS: &str = "append 1 5 0 f | 0
 append 1 5 0 f | 0
 append 1 5 64 g abcd | 0
@@ -25,7 +25,7 @@ fn places_and_refusals(rt: HostRuntime) {
     check(&rt, rt.alloc(), "", ROWS);
 }
 
-/// A call that wrote and failed stands in the log, and its object is absent.
+/// A call that wrote and failed is in the log, and its object is absent.
 const FAILED: &str = "append 1 1 1 f abc | 0
 length | 1
 reply 1 1 | 0 -5

@@ -15,7 +15,7 @@ const ROWS: &str = "1 1 0 f |
 1 1 3 g abcd | NoClass
 1 1 64 f | NoClass";
 
-/// The name of why the classes can't run a request, or nothing where they can.
+/// The name of the refusal of a request by the classes, or nothing if they can run it.
 fn refusal_name(table: &ClassTable, request: &Request) -> &'static str {
     match class_refusal(table, request) {
         Some(why) => why.name(),

@@ -5,7 +5,7 @@ use pg_log::{are_same_requests, copy_requests};
 use std::alloc::Global;
 use std::process::Abort;
 
-/// Two lists, and whether they are equal.
+/// Two lists, and `yes` if they are equal.
 const ROWS: &str = "| | yes
 1 1 0 f a;2 1 0 f | 1 1 0 f a;2 1 0 f | yes
 1 1 0 f a;2 1 0 f | 1 1 0 f a | no
@@ -13,7 +13,7 @@ const ROWS: &str = "| | yes
 1 1 0 f a;2 1 0 f | 1 1 0 f a;2 1 0 f b | no
 1 1 0 f a;2 1 0 f | 2 1 0 f;1 1 0 f a | no";
 
-/// Whether the copy of a list is equal to another.
+/// True if the copy of a list equals another list.
 fn is_copied_as<R: Abort>(rt: &R, alloc: Global, text: &str, other: &str) -> bool {
     let copy = copy_requests(alloc, &list(rt, alloc, text)).expect(rt, "memory");
     are_same_requests(&copy, &list(rt, alloc, other))

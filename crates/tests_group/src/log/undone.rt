@@ -49,9 +49,9 @@ exit
 const OLD: &str = "1 1 0 write abc; 1 2 0 xattr one; 1 3 0 key two; 1 4 0 key three; 1 5 0 unkey; \
 1 6 0 drop; 1 7 0 key four; 1 8 0 write xyz; 1 9 0 xattr five";
 
-/// Adopts the log before, and then a list that has that many of its entries and what client 2 calls
-/// after them; and the object after, by its data and the values of its xattr and of its key. Worked
-/// out by hand.
+/// Adopts the log before, and then a list that begins with some of its entries and goes on with
+/// calls of client 2; and the object after, by its data and the values of its xattr and of its key.
+/// Worked out by hand.
 const ROWS: &str = "adopt 9 | 0
 adopt 8 | 8
 object | xyz - four

@@ -1,7 +1,7 @@
 use super::super::log::check;
 
-/// What comes to one log for a place, in this order: past the end, for the end, for an earlier
-/// place, and for the end a logged pair, a lower number, and a next one.
+/// The requests that arrive at one log for a place, in this order: past the end, for the end, for
+/// an earlier place, and for the end a logged pair, a lower number, and a next one.
 const ROWS: &str = "at 1 1 2 0 f | none
 at 0 1 1 0 f | 1
 at 0 1 1 0 f | 1

@@ -9,15 +9,15 @@ use std::process::Abort;
 /// The list that is packed, of three requests.
 const LIST: &str = "1 1 0 f; 2 1 0 f; 1 2 0 f";
 
-/// What the receiver told and has; and how many requests are left out, how many are packed, and
-/// whether the list is unpacked.
+/// The length that the receiver reported and the log that it has; then the number of requests left
+/// out, the number packed, and the result of unpacking.
 const ROWS: &str = "0 | 0 3 unpacked
 1 1 1 0 f | 1 2 unpacked
 2 1 1 0 f; 2 1 0 f; 3 1 0 f | 2 1 unpacked
 9 1 1 0 f; 2 1 0 f; 1 2 0 f | 3 0 unpacked
 2 1 1 0 f | 2 1 TooShort";
 
-/// Whether the lists are equal.
+/// True if the lists are equal.
 fn is_list(found: &[Request], want: &[Request]) -> bool {
     if found.len() != want.len() {
         return false;
@@ -30,12 +30,12 @@ fn is_list(found: &[Request], want: &[Request]) -> bool {
     true
 }
 
-/// Whether that many requests are left out, and that many packed.
+/// True if `common` requests are left out, and `rest` are packed.
 fn has_lengths(packed: &PackedLog, common: &str, rest: &str) -> bool {
     is_number(common, packed.common() as u64) && is_number(rest, packed.rest().len() as u64)
 }
 
-/// Whether that is the answer.
+/// True if unpacking gave the whole list, or the refusal of this name.
 fn is_answer(answer: Result<Vec<Request>, UnpackError>, all: &[Request], wanted: &str) -> bool {
     match answer {
         Ok(found) => (wanted == "unpacked") & is_list(&found, all),
@@ -43,7 +43,7 @@ fn is_answer(answer: Result<Vec<Request>, UnpackError>, all: &[Request], wanted:
     }
 }
 
-/// Whether a receiver that has those requests unpacks the list, or is refused by that name.
+/// True if a receiver with these requests unpacks the list, or is refused by an error of this name.
 fn is_unpacked(
     alloc: Global,
     all: &[Request],
@@ -60,7 +60,7 @@ fn packed_shared<R: Abort>(rt: &R, alloc: Global, all: &[Request], told: usize) 
     pack_list(Requests::new(alloc, items).expect(rt, "memory"), told)
 }
 
-/// Whether the list is packed and unpacked as a line says, whether it is shared or not.
+/// True if the list is packed and unpacked as a line says, both shared and not.
 fn is_right<R: Abort>(rt: &R, alloc: Global, all: &[Request], line: &str) -> bool {
     let (receiver, wanted) = halves(line, '|');
     let (told, own) = halves(receiver, ' ');
@@ -90,17 +90,18 @@ fn lists_packed_and_unpacked(rt: HostRuntime) {
     check(&rt, rt.alloc(), &all);
 }
 
-/// How many requests of a full list a receiver told that it has.
+/// The lengths of a full list that a receiver reports as its own.
 const TOLD: [usize; 5] = [0, 1, 32_768, 65_535, 65_536];
 
-/// Whether a packed full list has left out that many, and is unpacked by who has all of it.
+/// True if a packed full list leaves out `told` requests, and a receiver with the whole list
+/// unpacks it.
 fn is_unpacked_full(alloc: Global, all: &[Request], told: usize, packed: &PackedLog) -> bool {
     packed.common() == told
         && packed.rest().len() == all.len().saturating_sub(told)
         && is_unpacked(alloc, all, all, packed, "unpacked")
 }
 
-/// Whether a full list is packed and unpacked, whether it is shared or not.
+/// True if a full list is packed and unpacked, both shared and not.
 fn is_right_full<R: Abort>(rt: &R, alloc: Global, all: &[Request], told: usize) -> bool {
     let packed = pack_log(alloc, all, told).expect(rt, "memory");
     let shared = packed_shared(rt, alloc, all, told);

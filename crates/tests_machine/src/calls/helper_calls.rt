@@ -1,4 +1,4 @@
-//! Each helper's answers, and what it leaves.
+//! Each helper's return code, its output, and the object afterwards.
 
 use crate::answers::{Expected, Given, GivenContents, answers_beside_once};
 use crate::classes::{Declared, class_of};
@@ -9,7 +9,7 @@ use std::alloc::Global;
 use std::process::Abort;
 use verifier::VerifiedClass;
 
-/// An argument of a helper: none, a number, that many bytes from a place of the input on, or of the
+/// An argument of a helper: none, a number, a place and a length in the input, or a length in the
 /// output.
 #[derive(Clone, Copy)]
 enum Argument {
@@ -21,8 +21,8 @@ enum Argument {
 
 use Argument::{Input, Nothing, Number, Output};
 
-/// What a call leaves: what it was beside, or nothing, or an object with other data, xattrs or
-/// keys. One that it creates has nothing else.
+/// The state of the object after a call: unchanged, removed, or with other data, xattrs or keys. An
+/// object that the call creates has nothing else.
 #[derive(Clone, Copy)]
 enum After {
     Same,
@@ -34,7 +34,7 @@ enum After {
 
 use After::{Data, Keys, Removed, Xattrs};
 
-/// A call of a helper beside the object `THERE` or none, its answer, the output and the object
+/// A call of a helper on the object `THERE` or on none, its return code, the output and the object
 /// afterwards.
 #[derive(Clone, Copy)]
 struct Row {
@@ -46,7 +46,7 @@ struct Row {
     after: After,
 }
 
-/// What the methods are called on: names are a byte of it, or some.
+/// The input of every method. Names are one byte of it, or several.
 const INPUT: [u8; 8] = *b"nmacb123";
 
 static THERE: Contents = Contents {
@@ -55,10 +55,10 @@ static THERE: Contents = Contents {
     keys: &[(b"a", b"1"), (b"c", b"22")],
 };
 
-/// What is created holds nothing else.
+/// A created object holds nothing but the part that the row names.
 static CREATED: Contents = NOTHING;
 
-/// A call beside `THERE` that changes nothing and puts nothing out.
+/// A call on `THERE` that changes nothing and has no output.
 const BESIDE: Row = Row {
     is_there: true,
     id: 0,
@@ -68,13 +68,13 @@ const BESIDE: Row = Row {
     after: After::Same,
 };
 
-/// A call beside no object that changes nothing.
+/// A call on no object that changes nothing.
 const ABSENT: Row = Row {
     is_there: false,
     ..BESIDE
 };
 
-/// A call beside `THERE`, its answer, and what it puts out.
+/// A call on `THERE`, its return code and its output.
 macro_rules! there {
     ($id:literal, $arguments:expr, $answer:literal, $output:literal) => {
         Row {
@@ -87,7 +87,7 @@ macro_rules! there {
     };
 }
 
-/// A call beside `THERE`, its answer, and the object that it leaves.
+/// A call on `THERE`, its return code, and the object that it leaves.
 macro_rules! leaves {
     ($id:literal, $arguments:expr, $answer:literal, $after:expr) => {
         Row {
@@ -100,7 +100,7 @@ macro_rules! leaves {
     };
 }
 
-/// A call beside no object, and its answer.
+/// A call on no object, and its return code.
 macro_rules! absent {
     ($id:literal, $arguments:expr, $answer:literal) => {
         Row {
@@ -112,7 +112,7 @@ macro_rules! absent {
     };
 }
 
-/// A call beside no object, its answer, and the object that it creates.
+/// A call on no object, its return code, and the object that it creates.
 macro_rules! creates {
     ($id:literal, $arguments:expr, $answer:literal, $after:expr) => {
         Row {
@@ -206,7 +206,7 @@ static KEY_ROWS: [Row; 16] = [
     absent!(12, [Input(0, 0), Output(8)], -2),
 ];
 
-/// Rows of the others.
+/// Rows of the remaining helpers.
 static OTHER_ROWS: [Row; 5] = [
     // create
     there!(14, [Number(0), Nothing], 0, b""),
@@ -277,7 +277,7 @@ fn put_arguments(rt: &impl Abort, code: &mut Vec<u8>, row: &Row) {
     }
 }
 
-/// A method that calls the helper, answers what it answered, and puts out as much as the row says.
+/// A method that calls the helper, returns its result, and outputs as many bytes as the row says.
 fn code_of(rt: &impl Abort, alloc: Global, row: &Row) -> Vec<u8> {
     let mut code = Vec::new(alloc);
     put(
@@ -301,12 +301,12 @@ fn code_of(rt: &impl Abort, alloc: Global, row: &Row) -> Vec<u8> {
     code
 }
 
-/// What a row's call leaves where it changes nothing of it.
+/// The contents of the object apart from the row's change.
 fn others(row: &Row) -> &'static Contents {
     if row.is_there { &THERE } else { &CREATED }
 }
 
-/// What a row's call is beside.
+/// The object on which a row's call runs, or none.
 fn object_before(row: &Row) -> Option<Contents> {
     if row.is_there {
         Some(*others(row))
@@ -315,7 +315,7 @@ fn object_before(row: &Row) -> Option<Contents> {
     }
 }
 
-/// What a row's call leaves.
+/// The object after a row's call, or none.
 fn object_after(row: &Row) -> Option<Contents> {
     let others = others(row);
     match row.after {
@@ -341,7 +341,7 @@ impl Expected for Row {
     }
 }
 
-/// What each method declares.
+/// The declaration of each method.
 const DECLARED: Declared = Declared {
     flags: 3,
     in_cap: 8,
@@ -354,7 +354,7 @@ fn class_of_row(rt: &impl Abort, alloc: Global, row: &Row) -> VerifiedClass {
     class_of(rt, alloc, &code, DECLARED)
 }
 
-/// Whether a call answers so.
+/// True if the call of a row leaves the object, the code and the output that the row says.
 fn answers(rt: &impl Abort, alloc: Global, row: &Row) -> bool {
     let class = class_of_row(rt, alloc, row);
     let given = GivenContents {
@@ -364,7 +364,7 @@ fn answers(rt: &impl Abort, alloc: Global, row: &Row) -> bool {
     answers_beside_once(rt, alloc, class, given, row)
 }
 
-/// Whether the calls of those rows answer so.
+/// True if the calls of all these rows do as their rows say.
 fn all_answer(rt: &impl Abort, alloc: Global, rows: &[Row]) -> bool {
     let mut all = true;
     for row in rows {
@@ -373,27 +373,27 @@ fn all_answer(rt: &impl Abort, alloc: Global, rows: &[Row]) -> bool {
     all
 }
 
-/// Whether the helpers of an object's data answer so.
+/// True if the helpers on an object's data do as their rows say.
 fn data_answers(rt: &impl Abort, alloc: Global) -> bool {
     all_answer(rt, alloc, &DATA_ROWS)
 }
 
-/// Whether the helpers of xattrs answer so.
+/// True if the helpers on xattrs do as their rows say.
 fn xattrs_answer(rt: &impl Abort, alloc: Global) -> bool {
     all_answer(rt, alloc, &XATTR_ROWS)
 }
 
-/// Whether the helpers of keys answer so.
+/// True if the helpers on keys do as their rows say.
 fn keys_answer(rt: &impl Abort, alloc: Global) -> bool {
     all_answer(rt, alloc, &KEY_ROWS)
 }
 
-/// Whether the others answer so.
+/// True if the remaining helpers do as their rows say.
 fn others_answer(rt: &impl Abort, alloc: Global) -> bool {
     all_answer(rt, alloc, &OTHER_ROWS)
 }
 
-/// Whether every helper answers so.
+/// True if every helper does as its rows say.
 fn all_helpers_answer(rt: &impl Abort, alloc: Global) -> bool {
     data_answers(rt, alloc)
         && xattrs_answer(rt, alloc)

@@ -24,7 +24,7 @@ const LONGEST: [u8; 88] = [
     0x95, 0x00, 0, 0, 0, 0, 0, 0, // exit
 ];
 
-/// What is looked at of what `LONGEST` answers.
+/// The part of the outcome of `LONGEST` that a test compares.
 #[derive(Clone, Copy)]
 enum Longest {
     /// The output.
@@ -45,20 +45,20 @@ impl Expected for Longest {
     }
 }
 
-/// What `LONGEST` declares.
+/// The declaration of `LONGEST`.
 const DECLARED: Declared = Declared {
     flags: 2,
     in_cap: 4096,
     out_cap: 4096,
 };
 
-/// Whether `LONGEST` answers so on those.
+/// True if `LONGEST` has the expected outcome with these arguments.
 fn answers_on(rt: &impl Abort, alloc: Global, given: &Given<'_>, expected: Longest) -> bool {
     let class = class_of(rt, alloc, &LONGEST, DECLARED);
     answers_once(rt, alloc, class, given, &expected)
 }
 
-/// Whether `LONGEST` answers so on 4,096 bytes of 0x5a.
+/// True if `LONGEST` has the expected outcome on 4,096 bytes of 0x5a.
 fn answers(rt: &impl Abort, alloc: Global, object: Option<&Object>, expected: Longest) -> bool {
     let input = [0x5a].repeat(alloc, 4096).expect(rt, "memory");
     let given = Given {
@@ -68,7 +68,7 @@ fn answers(rt: &impl Abort, alloc: Global, object: Option<&Object>, expected: Lo
     answers_on(rt, alloc, &given, expected)
 }
 
-/// Whether those bytes begin by that many of the one byte, and the rest are of the other.
+/// True if the first `count` bytes are all `first`, and the rest are all `then`.
 fn begins(bytes: &[u8], first: u8, count: usize, then: u8) -> bool {
     let mut all = true;
     for (k, byte) in bytes.iter().enumerate() {
@@ -77,7 +77,7 @@ fn begins(bytes: &[u8], first: u8, count: usize, then: u8) -> bool {
     all
 }
 
-/// Whether an outcome's output is 4,095 zeros and a byte of 0x5a.
+/// True if the code is 4,096 after 11 steps, and the output is 4,095 zeros and a byte of 0x5a.
 fn has_all_output(outcome: &Outcome) -> bool {
     outcome.code == 4096
         && outcome.steps == 11
@@ -90,8 +90,7 @@ fn a_call_has_all_output(rt: HostRuntime) {
     assert!(rt; answers(&rt, rt.alloc(), None, Longest::Output));
 }
 
-/// Whether an object has 65,536 bytes, which begin by that many of the one byte, and the rest are
-/// of the other.
+/// True if an object has 65,536 bytes, the first `count` of them all `first`, and the rest 0x5a.
 fn is_full(
     rt: &impl Abort,
     alloc: Global,
@@ -108,8 +107,9 @@ fn is_full(
     }
 }
 
-/// Whether a call beside no object left a full one.
+/// True if a call on no object left one of the largest size.
 fn has_grown(rt: &impl Abort, alloc: Global, outcome: &Outcome) -> bool {
+    // 61,440 is 65,536 - 4,096: the call writes the last 4,096 bytes only.
     outcome.change.before().is_none() && is_full(rt, alloc, outcome.change.after(), 0, 61_440)
 }
 
@@ -124,7 +124,7 @@ fn full(rt: &impl Abort, alloc: Global) -> Object {
     calls::write(alloc, None, 0, &bytes).expect(rt, "an object")
 }
 
-/// Whether a call beside that object left it, and another full one.
+/// True if a call on a full object kept it as the object before, and left another full one.
 fn has_shared(rt: &impl Abort, alloc: Global, outcome: &Outcome) -> bool {
     is_full(rt, alloc, outcome.change.before(), 0x33, DATA_LIMIT)
         && is_full(rt, alloc, outcome.change.after(), 0x33, 61_440)

@@ -1,4 +1,4 @@
-//! What single operations answer by RFC 9669.
+//! The results of single operations by RFC 9669.
 
 use crate::answers::{Expected, Given, answers_once};
 use crate::classes::{Declared, class_of};
@@ -8,7 +8,7 @@ use std::alloc::Global;
 use std::process::Abort;
 use verifier::VerifiedClass;
 
-/// What is computed, the code's slots, the code that the method gives, and its steps.
+/// The name of the computation, the code's slots, the method's return code, and its steps.
 type Row = (&'static str, &'static [u8], i64, usize);
 
 const EXIT: [u8; 8] = [0x95, 0, 0, 0, 0, 0, 0, 0];
@@ -121,7 +121,7 @@ impl Expected for Answer {
     }
 }
 
-/// Whether a method of those slots and an `exit` answers so.
+/// True if a method of these slots and an `exit` returns this code after these steps.
 fn computes(rt: &impl Abort, alloc: Global, slots: &[u8], answer: Answer) -> bool {
     let class = class_of_slots(rt, alloc, slots);
     let given = Given {

@@ -1,4 +1,4 @@
-//! Methods of two instructions that one operation does: what they answer, and in how many steps.
+//! Methods with two instructions that run as one operation: their results and their steps.
 
 use crate::answers::{Expected, Given, answers};
 use crate::classes::{Declared, class_of};
@@ -11,7 +11,7 @@ use verifier::VerifiedClass;
 /// A slot: opcode, source and destination register, offset and immediate.
 type Slot = (u8, u8, i16, i32);
 
-/// What a method of those slots answers on some bytes of the input, and in how many steps.
+/// The slots of a method, the length of its input, its return code, and its steps.
 type Row = (&'static [Slot], usize, i64, usize);
 
 /// The input; a method may be given fewer of its bytes.
@@ -36,8 +36,8 @@ const INTO_ADD: [Slot; 6] = [
     EXIT,
 ];
 
-/// `mov r0, 1`, `jeq r2, 0, +1`, `and r0, 2`, `jne r0, 0, +1`, `mov r0, 9`: the same, where the
-/// second instruction is a jump.
+/// `mov r0, 1`, `jeq r2, 0, +1`, `and r0, 2`, `jne r0, 0, +1`, `mov r0, 9`: the same with a jump as
+/// the second instruction.
 const INTO_JUMP: [Slot; 6] = [
     (0xb7, 0x00, 0, 1),
     (0x15, 0x02, 1, 0),
@@ -65,7 +65,7 @@ const AND_JNE: [Slot; 5] = [
     EXIT,
 ];
 
-/// `lddw r0, 3`, `add r0, -3`, `jeq r2, 16, +1`, `mov r0, 9`: the sum isn't what is compared.
+/// `lddw r0, 3`, `add r0, -3`, `jeq r2, 16, +1`, `mov r0, 9`: the jump doesn't compare the sum.
 const ADD_JEQ: [Slot; 6] = [
     (0x18, 0x00, 0, 3),
     (0x00, 0x00, 0, 0),
@@ -102,7 +102,7 @@ const ADD_ADD: [Slot; 5] = [
     EXIT,
 ];
 
-/// `ldxb r1, [r1+2]`, `mul r1, r1`, `mov r0, r1`: the load's base is what it sets.
+/// `ldxb r1, [r1+2]`, `mul r1, r1`, `mov r0, r1`: the load overwrites its own base register.
 const OVER_ITS_BASE: [Slot; 4] = [
     (0x71, 0x11, 2, 0),
     (0x2f, 0x11, 0, 0),
@@ -129,7 +129,7 @@ static ROWS: [Row; 15] = [
     (&OVER_ITS_BASE, 16, 9, 4),
 ];
 
-/// A load's opcode, and what it reads at the input's first byte and at its ninth.
+/// A load's opcode, and its results at the input's first byte and at its ninth.
 type Load = (u8, i64, i64);
 
 /// Of a byte, two, four and eight.
@@ -162,7 +162,7 @@ fn class_of_slots(rt: &impl Abort, alloc: Global, slots: &[Slot]) -> VerifiedCla
     class_of(rt, alloc, &code, DECLARED)
 }
 
-/// Whether a method of those slots answers so on an input.
+/// True if a method of these slots has this answer on an input.
 fn computes(rt: &impl Abort, alloc: Global, slots: &[Slot], input: &[u8], answer: Answer) -> bool {
     let class = class_of_slots(rt, alloc, slots);
     let given = Given {
@@ -172,7 +172,7 @@ fn computes(rt: &impl Abort, alloc: Global, slots: &[Slot], input: &[u8], answer
     answers(rt, alloc, &class, &given, &answer)
 }
 
-/// Whether two loads answer the difference of what they read, in four steps.
+/// True if a method that subtracts the results of two loads returns the difference, in four steps.
 fn loads_both(rt: &impl Abort, alloc: Global, first: &Load, second: &Load) -> bool {
     let slots = [
         (first.0, 0x10, 0, 0),
@@ -187,7 +187,8 @@ fn loads_both(rt: &impl Abort, alloc: Global, first: &Load, second: &Load) -> bo
     computes(rt, alloc, &slots, &INPUT, answer)
 }
 
-/// Whether a load and arithmetic of 3 and what it read answer so, in four steps.
+/// True if a method that loads, and computes with 3 and the loaded value, returns `code`, in four
+/// steps.
 fn loads_and_computes(rt: &impl Abort, alloc: Global, load: &Load, opcode: u8, code: i64) -> bool {
     let slots = [
         (0xb7, 0x00, 0, 3),
@@ -198,8 +199,8 @@ fn loads_and_computes(rt: &impl Abort, alloc: Global, load: &Load, opcode: u8, c
     computes(rt, alloc, &slots, &INPUT, Answer { code, steps: 4 })
 }
 
-/// Whether a load and a jump on what it read, against a constant, answer so: 1 and four steps where
-/// the jump is taken, else 7 and five.
+/// True if a method that loads, and jumps on the loaded value against a constant, returns as
+/// expected: 1 after four steps if the jump is taken, else 7 after five.
 fn loads_and_jumps(
     rt: &impl Abort,
     alloc: Global,
@@ -270,7 +271,7 @@ fn load_and_arithmetic(rt: HostRuntime) {
     }
 }
 
-/// A load's place in `LOADS`, and a constant: whether what it reads is the constant.
+/// A load's place in `LOADS`, and a constant; then true if the loaded value equals the constant.
 static CONSTANTS: [(usize, i32, bool); 7] = [
     (0, 1, true),
     (0, -255, false),

@@ -8,7 +8,7 @@ use std::alloc::Global;
 use std::process::Abort;
 use verifier::VerifiedClass;
 
-/// A call: the code's slots, what the method declares, the object's data, the input, and the
+/// A call: the code's slots, the method's declaration, the object's data, the input, and the
 /// answer: code, output, the data after, and steps.
 #[derive(Clone, Copy)]
 struct Row {
@@ -278,7 +278,7 @@ impl Expected for Row {
     }
 }
 
-/// Whether a call answers so.
+/// True if the call of a row answers as the row says.
 fn answers_row(rt: &impl Abort, alloc: Global, row: &Row) -> bool {
     let declared = Declared {
         flags: row.flags,
@@ -323,12 +323,13 @@ const REFUSED: [(&str, &[u8], Option<CallError>); 3] = [
     ("f", b"abc", None),
 ];
 
-/// What a call of that method on that input is refused by.
+/// The refusal of a call of this method on this input, if it is refused.
 fn refusal(alloc: Global, class: &VerifiedClass, method: &str, input: &[u8]) -> Option<CallError> {
     call(alloc, class, method, None, 7, input).err()
 }
 
-/// Whether a class refuses those, and no others.
+/// True if each call of `REFUSED` is refused by the error that its row names, or accepted if the
+/// row names none.
 fn refuses_those(alloc: Global, class: &VerifiedClass) -> bool {
     let mut all = true;
     for (method, input, refused) in &REFUSED {

@@ -1,4 +1,4 @@
-//! The table of classes, and what refusals print.
+//! The table of classes, and the printed forms of refusals.
 
 use crate::classes::{Declared, class_of};
 use interp::{CallError, ClassTable, TableError};
@@ -19,12 +19,12 @@ fn class(rt: &impl Abort, alloc: Global, in_cap: u16) -> VerifiedClass {
     class_of(rt, alloc, &RETURNS_ZERO, declared)
 }
 
-/// Adds a class to a table; whether it has that id.
+/// Adds a class to a table. Returns true if it got this id.
 fn is_added(table: &mut ClassTable, class: VerifiedClass, id: u16) -> bool {
     table.add(class) == Ok(usize::from(id))
 }
 
-/// Fills a table with 64 classes; whether they have the ids from 0 on.
+/// Fills a table with 64 classes. Returns true if they got the ids from 0 on.
 fn are_added(rt: &impl Abort, alloc: Global, table: &mut ClassTable) -> bool {
     let mut all = true;
     for id in 0..64u16 {
@@ -33,7 +33,7 @@ fn are_added(rt: &impl Abort, alloc: Global, table: &mut ClassTable) -> bool {
     all && table.len() == 64 && !table.is_empty()
 }
 
-/// Whether a table refuses one class more.
+/// True if a table refuses to take one more class.
 fn is_full(table: &mut ClassTable, class: VerifiedClass) -> bool {
     table.add(class) == Err(TableError::TooMany)
 }
@@ -51,14 +51,15 @@ fn in_cap(table: &ClassTable, id: usize) -> Option<u16> {
     Some(table.get(id)?.method("f")?.caps().in_cap)
 }
 
-/// Adds classes whose methods have those.
+/// Adds classes with these in_caps.
 fn add_all(rt: &impl Abort, alloc: Global, table: &mut ClassTable, in_caps: &[u16]) {
     for in_cap in in_caps {
+        // The test reads the classes by their ids instead.
         let _ = table.add(class(rt, alloc, *in_cap));
     }
 }
 
-/// Whether the table's classes have the in_caps 5 and 6, and are no more.
+/// True if the table holds exactly two classes, with the in_caps 5 and 6.
 fn has_two(table: &ClassTable) -> bool {
     in_cap(table, 0) == Some(5) && in_cap(table, 1) == Some(6) && in_cap(table, 2).is_none()
 }
@@ -81,7 +82,7 @@ static TABLE_ERRORS: [(TableError, u8, &str); 2] = [
     (TableError::NoMemory, 2, "2 NoMemory"),
 ];
 
-/// Whether an error prints that.
+/// True if an error prints as this text.
 fn prints<E: fmt::Display>(rt: &impl Abort, alloc: Global, error: &E, text: &str) -> bool {
     let printed = error.to_string(alloc).expect(rt, "memory");
     printed.as_str() == text

@@ -1,5 +1,5 @@
-//! Programs that call every helper beside every kind of object, with ranges that overlap and ranges
-//! of no bytes.
+//! Programs that call every helper on every kind of object, with ranges that overlap and ranges of
+//! no bytes.
 
 use super::random::Random;
 use super::{PlainRun, verified};
@@ -19,7 +19,7 @@ const LAYOUT: Layout = Layout {
     stack: 0xffff_ffff_ffff_fdff,
 };
 
-/// Names of one byte and more stand at each of the places that ranges begin at.
+/// Names of one byte and more, at each place where a range may begin.
 const INPUT: [u8; 24] = *b"nmanabck\0\0nmxyzab0123456";
 
 const DATA: Contents = Contents {
@@ -59,7 +59,7 @@ fn and_xattr(rt: &impl Abort, alloc: Global, object: Object, name: &[u8]) -> Obj
     }
 }
 
-/// Sets numbered keys and xattrs until there are as many as there may be.
+/// Sets numbered keys and xattrs up to their limits.
 fn filled(rt: &impl Abort, alloc: Global, object: Object) -> Object {
     let mut full = object;
     for n in 0..KEY_LIMIT as u16 {
@@ -76,7 +76,7 @@ fn extended(rt: &impl Abort, alloc: Global, object: Object) -> Object {
 
 static KINDS: [Contents; 4] = [NOTHING, DATA, XATTRS, KEYS];
 
-/// What the object at all limits holds before it is filled.
+/// The contents of the object at all limits, before it is filled.
 static NAMED: Contents = Contents {
     xattrs: THREE,
     ..KEYS
@@ -113,27 +113,27 @@ fn objects(rt: &impl Abort, alloc: Global) -> Vec<Object> {
 /// Numbers at the limits, and small ones.
 const NUMBERS: [i32; 8] = [0, 1, 3, 7, 65_535, 65_536, 65_537, -1];
 
-/// How long the output is; one is too long.
+/// The lengths of the output; the last one is one too long.
 const OUTPUT_LENGTHS: [i32; 8] = [0, 1, 2, 8, 16, 39, 40, 41];
 
-/// Registers that point to regions which are read, and to those which are written; from the input
-/// nothing is accepted.
+/// Registers that point to regions that helpers read, and to those that they write. The verifier
+/// accepts no write to the input.
 const READ: [u8; 8] = [6, 6, 6, 7, 7, 10, 10, 6];
 
 const WRITTEN: [u8; 8] = [7, 10, 7, 10, 7, 10, 7, 6];
 
-/// Where a range begins in its region, and how long it is. So ranges overlap as often as not.
+/// The place and the length of a range in its region. They are so small that ranges often overlap.
 const PLACES: [i32; 8] = [0, 0, 1, 2, 3, 4, 6, 7];
 
 const LENGTHS: [i32; 8] = [0, 1, 1, 2, 2, 4, 8, 16];
 
-/// Puts a number into a register, and gives that it is one.
+/// Puts a number into a register. Returns 1, the number of registers.
 fn number(rt: &impl Abort, code: &mut Vec<u8>, register: u8, number: i32) -> u8 {
     put(rt, code, &[slot(0xb7, register, 0, number)]);
     1
 }
 
-/// Puts a range into two registers, and gives that they are two.
+/// Puts a range into two registers. Returns 2, the number of registers.
 fn range(rt: &impl Abort, random: &mut Random, code: &mut Vec<u8>, register: u8, base: u8) -> u8 {
     let before = if base == 10 { -64 } else { 0 };
     let place = PLACES[random.pick()].wrapping_add(before);
@@ -150,7 +150,7 @@ fn range(rt: &impl Abort, random: &mut Random, code: &mut Vec<u8>, register: u8,
     2
 }
 
-/// Puts an argument into one register or two, and gives how many.
+/// Puts an argument into one register or two. Returns the number of registers.
 fn argument(
     rt: &impl Abort,
     random: &mut Random,
@@ -167,7 +167,7 @@ fn argument(
     }
 }
 
-/// Puts a call of a helper, of whose answer register 9 keeps a trace.
+/// Puts a call of a helper. Register 9 keeps a trace of its result.
 fn call_of(rt: &impl Abort, random: &mut Random, code: &mut Vec<u8>, id: u32) {
     let arguments = match signature(id) {
         Some(signature) => signature.arguments,
@@ -240,8 +240,7 @@ fn end(rt: &impl Abort, random: &mut Random, code: &mut Vec<u8>) {
     put(rt, code, &[slot(0x95, 0, 0, 0)]);
 }
 
-/// Whether a call of the method answers as the plain run does, beside no object and beside each of
-/// those.
+/// True if calls of the method agree with the plain run, on no object and on each of these.
 fn agrees_beside_all(
     rt: &impl Abort,
     alloc: Global,
@@ -268,7 +267,7 @@ fn agrees_beside_all(
     all
 }
 
-/// Whether the program of a seed agrees; none where it is refused.
+/// True if the program of a seed agrees with its plain run; `None` if the verifier refuses it.
 fn compared(rt: &impl Abort, alloc: Global, seed: u64, objects: &[Object]) -> Option<bool> {
     let code = program(rt, alloc, seed, (seed % 15) as u32 + 1);
     match verified(rt, alloc, &code) {
@@ -277,14 +276,15 @@ fn compared(rt: &impl Abort, alloc: Global, seed: u64, objects: &[Object]) -> Op
     }
 }
 
-/// Whether the program of a seed is accepted. It asserts that one that is agrees.
+/// True if the program of a seed is accepted. Asserts that each accepted one agrees.
 fn is_accepted(rt: &impl Abort, alloc: Global, seed: u64, objects: &[Object]) -> bool {
     let compared = compared(rt, alloc, seed, objects);
     assert!(rt; compared != Some(false), "{seed}");
     compared.is_some()
 }
 
-/// How many accepted programs call each helper first, and so beside each object and beside none.
+/// The number of accepted programs by the helper that they call first. Each ran on no object and on
+/// every object.
 fn accepted(rt: &impl Abort, alloc: Global, objects: &[Object]) -> [u32; 15] {
     let mut accepted = [0u32; 15];
     for seed in 0..150u64 {
@@ -294,10 +294,11 @@ fn accepted(rt: &impl Abort, alloc: Global, objects: &[Object]) -> [u32; 15] {
     accepted
 }
 
-/// Whether each count is above 4.
+/// True if each count is above 4.
 fn are_enough(counts: &[u32]) -> bool {
     let mut all = true;
     for count in counts {
+        // Each of the 15 helpers comes first in 10 of the 150 programs.
         all = all && *count > 4;
     }
     all

@@ -9,17 +9,17 @@ use std::alloc::Global;
 use std::process::Abort;
 use verifier::VerifiedClass;
 
-/// What differs between the programs.
+/// The choices by which the programs differ.
 #[derive(Clone, Copy)]
 struct Choice {
     /// The size modifier of loads and stores, and the bytes that it moves.
     size: (u8, i16),
-    /// How far accesses lie from a region's start.
+    /// The distance of accesses from a region's start.
     at: i16,
     number: i32,
-    /// Where the object is written and read.
+    /// The place in the object that is written and read.
     place: i32,
-    /// How many bytes of it.
+    /// The number of bytes there.
     count: i32,
     /// The code.
     code: i32,
@@ -84,7 +84,7 @@ const INPUT: [u8; 21] = [
 /// Sizes of an access, with their bytes.
 const SIZES: [(u8, i16); 4] = [(0x00, 4), (0x08, 2), (0x10, 1), (0x18, 8)];
 
-/// How far accesses lie from a region's start, and a number.
+/// Distances of accesses from a region's start, each with a number.
 const NUMBERS: [(i16, i32); 5] = [
     (0, 0),
     (1, -1),
@@ -93,10 +93,10 @@ const NUMBERS: [(i16, i32); 5] = [
     (16, -0x8000_0000),
 ];
 
-/// Where the object is written and read, how many bytes of it, and the code.
+/// The place in the object that is written and read, the number of bytes there, and the code.
 const PLACES: [(i32, i32, i32); 4] = [(0, 0, 0), (2, 5, 1), (40, 24, -30), (65520, 20, 5)];
 
-/// Whether a program answers so beside each object.
+/// True if a program agrees with its plain run on each object.
 fn agrees_beside_all(rt: &impl Abort, alloc: Global, class: &VerifiedClass, code: &[u8]) -> bool {
     let expected = PlainRun { code, layout: HIGH };
     let mut all = true;
@@ -110,7 +110,7 @@ fn agrees_beside_all(rt: &impl Abort, alloc: Global, class: &VerifiedClass, code
     all
 }
 
-/// Whether a program is accepted, and answers so.
+/// True if a program is accepted, and agrees with its plain run.
 fn agrees_on(rt: &impl Abort, alloc: Global, choice: Choice) -> bool {
     let code = program(rt, alloc, choice);
     match verified(rt, alloc, &code) {

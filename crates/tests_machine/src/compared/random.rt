@@ -9,6 +9,7 @@ pub struct Random {
 impl Random {
     pub fn new(seed: u64) -> Random {
         Random {
+            // Not 0, since xorshift never leaves the state 0.
             state: seed.wrapping_mul(0x9e37_79b9_7f4a_7c15).wrapping_add(1) | 1,
         }
     }

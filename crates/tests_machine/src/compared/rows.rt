@@ -25,7 +25,7 @@ const ARITHMETIC: [(u8, i16); 13] = [
     (0xc0, 0),
 ];
 
-/// NEG, the moves and END: opcode, offset, immediate, and whether they read a source.
+/// NEG, the moves and END: opcode, offset, immediate, and true if it reads a source register.
 const UNARY: [(u8, i16, i32, bool); 20] = [
     (0x84, 0, 0, false),
     (0x87, 0, 0, false),
@@ -92,7 +92,7 @@ const EDGES: [u64; 12] = [
     0xffff_ffff_ffff_ffff,
 ];
 
-/// What the rows are made of.
+/// The parts of the rows.
 impl Random {
     /// One of the registers that hold numbers: 0, 2, 3, 4, 5, 8 and 9.
     fn register(&mut self) -> u8 {
@@ -167,16 +167,18 @@ fn row(random: &mut Random, n: usize) -> [u8; 8] {
     }
 }
 
-/// A register that points to a region, where the region starts beside it, and how long it is.
+/// A register that points into a region, its distance from the region's start, and the region's
+/// length.
 fn place(random: &mut Random, read: bool) -> (u8, u16, u16) {
     match random.next() % 3 {
         0 if read => (6, 0, 24),
         1 => (7, 0, 40),
+        // Register 10 points to the end of the stack, 512 bytes above its start.
         _ => (10, 512, 512),
     }
 }
 
-/// An offset at which that many bytes lie in a region, often at one of its ends.
+/// An offset at which `bytes` bytes lie within a region, often at one of its ends.
 fn within(random: &mut Random, before: u16, len: u16, bytes: i16) -> i16 {
     let last = len.wrapping_sub(bytes.cast_unsigned());
     let at = match random.next() % 4 {
@@ -188,7 +190,7 @@ fn within(random: &mut Random, before: u16, len: u16, bytes: i16) -> i16 {
     at.wrapping_sub(before).cast_signed()
 }
 
-/// A comparison of that number, over that many slots.
+/// The conditional jump of this number, over `over` slots.
 fn branch(random: &mut Random, n: usize, over: i16) -> [u8; 8] {
     let dst = random.register();
     let src = random.register();
@@ -217,7 +219,7 @@ fn begin(rt: &impl Abort, random: &mut Random, code: &mut Vec<u8>) {
     }
 }
 
-/// A jump over that many slots, most often the comparison of that number.
+/// A jump over `over` slots, most often the conditional jump of this number.
 fn jump(random: &mut Random, n: usize, over: u16) -> [u8; 8] {
     match random.next() % 8 {
         0 => slot(0x05, 0, over.cast_signed(), 0),
@@ -291,7 +293,7 @@ const INPUT: [u8; 13] = [
     0x80, 0xff, 0x7f, 0, 1, 0xfe, 0x80, 0x81, 9, 0xf0, 11, 12, 0xff,
 ];
 
-/// Whether the program of a seed is accepted, and answers so.
+/// True if the program of a seed is accepted, and agrees with its plain run.
 fn agrees_on(rt: &impl Abort, alloc: Global, seed: u64) -> bool {
     let code = program(rt, alloc, seed);
     match verified(rt, alloc, &code) {

@@ -12,7 +12,7 @@ use std::alloc::Global;
 use std::process::Abort;
 use verifier::{VerifiedClass, verify};
 
-/// What a slot of the stack has.
+/// The kind of value in a stack slot.
 #[derive(Clone, Copy)]
 enum Kept {
     Number,
@@ -20,14 +20,14 @@ enum Kept {
     Input,
     /// The output's.
     Output,
-    /// A pointer of which a part was overwritten.
+    /// A pointer with an overwritten part.
     Torn,
 }
 
 /// The slots' offsets from register 10.
 static SLOTS: [i16; 8] = [-8, -16, -24, -32, -40, -48, -56, -64];
 
-/// A code so far, and what it left in the slots.
+/// A code so far, and the kinds of values that it left in the slots.
 #[derive(Drop)]
 struct Program {
     code: Vec<u8>,
@@ -98,7 +98,7 @@ impl Program {
         }
     }
 
-    /// Loads a slot whole, and uses what it has.
+    /// Loads a whole slot, and uses the loaded value.
     fn load(&mut self, rt: &impl Abort, k: usize) {
         if let Some(at) = SLOTS.get(k) {
             let whole = slot(0x79, 0xa4, *at, 0); // ldxdw r4, [r10+at]
@@ -152,8 +152,8 @@ impl Program {
     }
 }
 
-/// A method of forty steps. It answers with the output and what it added up, as a code that is zero
-/// or positive.
+/// A method of forty steps. It outputs all 40 bytes and returns its sum, shifted so that the code
+/// is zero or positive.
 fn code_of(rt: &impl Abort, alloc: Global, seed: u64) -> Vec<u8> {
     let mut random = Random::new(seed);
     let mut program = Program::new(rt, alloc);
@@ -190,13 +190,13 @@ static LAYOUTS: [Layout; 2] = [
 
 const INPUT: [u8; 9] = [1, 0x80, 3, 0xff, 5, 0x96, 7, 8, 9];
 
-/// The class of rule set 2 of a code, where it is safe.
+/// The class of a code under rule set 2, or `None` if the verifier refuses it.
 fn verified(rt: &impl Abort, alloc: Global, code: &[u8]) -> Option<VerifiedClass> {
     let image = image_by(rt, alloc, RuleSet::Two, code, DECLARED);
     verify(alloc, &image).ok()
 }
 
-/// Whether the method of a seed is accepted, and answers as its plain run in a layout.
+/// True if the method of a seed is accepted, and agrees with its plain run in a layout.
 fn agrees_on(rt: &impl Abort, alloc: Global, seed: u64, layout: Layout) -> bool {
     let code = code_of(rt, alloc, seed);
     match verified(rt, alloc, &code) {

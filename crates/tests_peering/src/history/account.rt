@@ -1,5 +1,5 @@
-//! A class whose answers are worked out by hand: an object is an account, its first eight bytes are
-//! the balance.
+//! A class with answers worked out by hand: an object is an account, its first eight bytes are the
+//! balance.
 use bpf_asm::assemble_class;
 use object_store::ObjectName;
 use pg_log::{ClassTable, ClientId, Request, RequestNumber, RequestParts};
@@ -72,7 +72,7 @@ pub(crate) fn table<R: Abort>(rt: &R, alloc: Global) -> ClassTable {
     table
 }
 
-/// How many accounts there are.
+/// The number of accounts.
 pub(super) const ACCOUNTS: usize = 3;
 
 /// A request in plain numbers.
@@ -139,7 +139,7 @@ pub(super) fn plain(request: &Request) -> Asked {
     }
 }
 
-/// What a request is answered: its code, and the output's bytes, of which a failed one has none.
+/// The answer to a request: its code, and the bytes of its output; a failed request has none.
 #[derive(Clone, Copy, PartialEq, Eq, Drop)]
 pub(super) struct Said {
     pub code: i64,
@@ -157,7 +157,7 @@ impl Balances {
         Balances { of: [0; ACCOUNTS] }
     }
 
-    /// Does what a request asks for, and says its answer.
+    /// Applies a request, and returns its answer.
     pub(super) fn answer(&mut self, asked: Asked) -> Said {
         let at = asked.account.min(2);
         let amount = i64::from(asked.amount);

@@ -1,4 +1,4 @@
-/// Numbers that look like chance, and are the same for each seed (the generator splitmix64).
+/// Numbers that look random, the same for each seed (the generator SplitMix64).
 #[derive(Drop)]
 pub(super) struct Dice {
     state: u64,

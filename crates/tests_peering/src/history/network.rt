@@ -13,17 +13,17 @@ use sim_world::{KeptMessage, World};
 use std::alloc::Global;
 use std::process::Abort;
 
-/// A played world of which the nodes 0, 1, .. take part. Messages go by their numbers from 1.
+/// A world with the nodes 0, 1, .. Messages are numbered from 1.
 #[derive(Drop)]
 pub(super) struct Network<C: Classes> {
     alloc: Global,
     world: World<C>,
-    /// By node, whether it is stopped.
+    /// By node, true if it is stopped.
     pub stopped: Vec<bool>,
-    /// How many maps there are, and which nodes act by the newest.
+    /// The number of maps, and the nodes that act by the newest.
     pub maps: usize,
     pub acting: Vec<NodeId>,
-    /// By message, whether it was delivered.
+    /// By message, true if it was delivered.
     delivered: Vec<bool>,
     pub on_way: Vec<usize>,
     pub reached: Reached,
@@ -50,7 +50,7 @@ impl<C: Classes> Network<C> {
         self.world.sent()
     }
 
-    /// How many nodes take part.
+    /// The number of nodes.
     pub(super) fn count(&self) -> usize {
         self.stopped.len()
     }
@@ -63,7 +63,7 @@ impl<C: Classes> Network<C> {
         self.stopped.get(at).copied().unwrap_or(true)
     }
 
-    /// How many nodes run.
+    /// The number of nodes that run.
     fn running(&self) -> usize {
         let mut running = 0;
         for stopped in &self.stopped {
@@ -72,7 +72,7 @@ impl<C: Classes> Network<C> {
         running
     }
 
-    /// Whether a node can stop: it runs, and isn't the last one that does.
+    /// True if a node can stop: it runs, and isn't the last one that does.
     pub(super) fn can_stop(&self, at: usize) -> bool {
         self.running() > 1 && !self.is_stopped(at)
     }
@@ -85,7 +85,7 @@ impl<C: Classes> Network<C> {
         }
     }
 
-    /// Does a line. What it sent is on its way.
+    /// Does a line. The messages that it sent are on their way.
     fn play<R: Abort>(&mut self, rt: &R, table: &ClassTable, line: Line) -> Taken
         requires { table.now ≡ C.classes }
     {
@@ -105,6 +105,7 @@ impl<C: Classes> Network<C> {
     {
         let active = self.node(rt, at).status() == Status::Active;
         count_if(&mut self.reached.stopped_primaries, active);
+        // `play` itself puts sent messages on their way, and nothing else of a stop is counted.
         let _ = self.play(rt, table, Line::Stop(node(at)));
         set(&mut self.stopped, at);
         if all {
@@ -187,10 +188,11 @@ impl<C: Classes> Network<C> {
         set(&mut self.delivered, place);
         let is_whole = self.is_unpacked(rt, place);
         count_if(&mut self.reached.unpacked, is_whole);
+        // The delivery is counted above, and `play` puts the messages that it sends on their way.
         let _ = self.play(rt, table, Line::Deliver(number as u64));
     }
 
-    /// Whether a list comes that is packed by a beginning which its receiver has.
+    /// True if a list arrives packed against a beginning that its receiver has.
     fn is_unpacked<R: Abort>(&self, rt: &R, place: usize) -> bool {
         let kept = self.sent().get(place).expect(rt, "a message");
         match kept.receiver {
@@ -203,7 +205,7 @@ impl<C: Classes> Network<C> {
         }
     }
 
-    /// Whether a node that runs has the beginning by which a list is packed, if it is.
+    /// True if a list is packed, and a running node has the beginning that it leaves out.
     fn has_beginning<R: Abort>(&self, rt: &R, at: usize, carried: &Carried) -> bool {
         if let Carried::Log(short) = carried {
             let common = short.log.common();
@@ -212,8 +214,7 @@ impl<C: Classes> Network<C> {
         false
     }
 
-    /// A node sends again what is unanswered: each message is one that was sent before, and is on
-    /// its way again.
+    /// A node sends its unanswered messages again: each was sent before, and is on its way again.
     pub(super) fn send_again<R: Abort>(&mut self, rt: &R, table: &ClassTable, at: usize)
         requires { table.now ≡ C.classes }
     {

@@ -1,4 +1,4 @@
-/// How often histories reached what is of interest.
+/// The number of times that histories reached each case of interest.
 #[derive(Clone, Copy)]
 pub(super) struct Reached {
     /// Intervals in which something was committed.
@@ -7,7 +7,7 @@ pub(super) struct Reached {
     pub committed: usize,
     /// Requests that came again and were answered from the log.
     pub answered_again: usize,
-    /// Logs of which an end was cut for another list's.
+    /// Logs that had an end cut for another list's.
     pub cut: usize,
     /// Stops of a node while it was an active primary.
     pub stopped_primaries: usize,
@@ -45,7 +45,7 @@ impl Reached {
         }
     }
 
-    /// Whether each is at least as often as wanted.
+    /// True if each count is at least the wanted one.
     pub(super) fn covers(&self, wanted: &Reached) -> bool {
         let entries = self.intervals >= wanted.intervals
             && self.committed >= wanted.committed
@@ -68,7 +68,7 @@ pub(super) fn count(times: &mut usize) {
     *times = times.saturating_add(1);
 }
 
-/// One more where it is so.
+/// Adds one if it is so.
 pub(super) fn count_if(times: &mut usize, is_so: bool) {
     if is_so {
         count(times);

@@ -1,4 +1,4 @@
-//! What happens next, by chance.
+//! The next event, chosen at random.
 ghost use Rattle.std.specs.Prelude.{◌≡◌};
 
 use crate::history::account::{ACCOUNTS, Asked, table};
@@ -11,10 +11,10 @@ use placement::NodeId;
 use std::alloc::Global;
 use std::process::Abort;
 
-/// How many clients there are.
+/// The number of clients.
 const CLIENTS: usize = 4;
 
-/// How many messages are the last.
+/// The number of newest messages from which one is chosen.
 const LAST: usize = 24;
 
 /// A history: the dice that make it, the requests that were brought, and each client's newest.
@@ -39,7 +39,8 @@ impl<C: Classes> Story<C> {
         }
     }
 
-    /// Makes that many events, which a witness sees, and says what they reached.
+    /// Makes `events` events in front of a witness. Returns the counts of the cases that they
+    /// reached.
     fn be_seen<R: Abort>(
         &mut self,
         rt: &R,
@@ -73,7 +74,7 @@ impl<C: Classes> Story<C> {
         }
     }
 
-    /// The primary of the newest map, or, once in that many times, any node.
+    /// The primary of the newest map, or, at one in `times`, any node.
     fn likely_primary(&mut self, times: usize) -> usize {
         let primary = self.network.primary();
         mostly(&mut self.dice, times, self.network.count(), primary)
@@ -116,7 +117,7 @@ impl<C: Classes> Story<C> {
         }
     }
 
-    /// A node sends again what is unanswered, mostly while not much is on its way.
+    /// A node sends its unanswered messages again, mostly while few messages are on their way.
     fn send_again<R: Abort>(&mut self, rt: &R, table: &ClassTable)
         requires { table.now ≡ C.classes }
     {
@@ -126,7 +127,7 @@ impl<C: Classes> Story<C> {
         }
     }
 
-    /// A client asks: something new, something that was asked before, or, where it is at fault,
+    /// A client asks: something new, something that was asked before, or, if it is at fault,
     /// something else by a number that it has used.
     fn ask<R: Abort>(&mut self, rt: &R, table: &ClassTable)
         requires { table.now ≡ C.classes }
@@ -180,7 +181,7 @@ fn next(dice: &mut Dice, stopped: bool) -> usize {
     }
 }
 
-/// A place, or, once in that many times, any of all.
+/// A place, or, at one in `times`, any of all places.
 fn mostly(dice: &mut Dice, times: usize, all: usize, place: usize) -> usize {
     if dice.roll(times) == 0 {
         dice.roll(all)
@@ -189,18 +190,18 @@ fn mostly(dice: &mut Dice, times: usize, all: usize, place: usize) -> usize {
     }
 }
 
-/// Which of that many messages comes: mostly the first, and at a small chance any.
+/// The next message to deliver: mostly the first, and at a small chance any.
 fn place(dice: &mut Dice, chance: usize, messages: usize) -> usize {
     if chance < 5 { dice.roll(messages) } else { 0 }
 }
 
-/// Any of that many messages, or one of the last.
+/// Any of all sent messages, or one of the newest.
 fn earlier(dice: &mut Dice, sent: usize, any: bool) -> usize {
     let back = if any { sent } else { sent.min(LAST) };
     sent.saturating_sub(dice.roll(back)).saturating_sub(1)
 }
 
-/// Whether a node that could send again doesn't, as it mostly is while much is on its way.
+/// True if a node that could send again doesn't, mostly while many messages are on their way.
 fn is_passed(dice: &mut Dice, messages: usize) -> bool {
     messages > 3 && dice.roll(8) > 0
 }
@@ -221,7 +222,7 @@ fn choose<R: Abort>(rt: &R, dice: &mut Dice, stopped: &[bool], acting: &mut Vec<
     }
 }
 
-/// What a client asks, which notes its newest number.
+/// Chooses a client's request, and notes the client's newest number.
 fn asked(dice: &mut Dice, brought: &[Asked], newest: &mut [u32; CLIENTS]) -> Asked {
     let client = dice.roll(CLIENTS) % CLIENTS;
     let number = newest[client].saturating_add(1);
@@ -276,8 +277,8 @@ impl<R: Abort> GroupWork for History<'_, R> {
     }
 }
 
-/// Makes the history of a seed, on that many nodes and of that many events, and says what it
-/// reached.
+/// Makes the history of a seed, on `nodes` nodes and of `events` events. Returns the counts of the
+/// cases that it reached.
 pub(super) fn go_through<R: Abort>(
     rt: &R,
     alloc: Global,

@@ -21,20 +21,20 @@ struct Agreed {
     intervals: Vec<u32>,
 }
 
-/// What was seen so far.
+/// The facts seen so far.
 #[derive(Drop)]
 pub(super) struct Witness {
     alloc: Global,
     agreed: Agreed,
-    /// By node, the requests of its log and how many it had committed.
+    /// By node, the requests of its log and the length that it had committed.
     logs: Vec<Vec<Asked>>,
     committed: Vec<usize>,
-    /// How many messages were looked at.
+    /// The number of messages read.
     read: usize,
     cut: usize,
 }
 
-/// The logs of that many nodes, before any event.
+/// The logs of `nodes` nodes, before any event.
 fn no_logs<R: Abort>(rt: &R, alloc: Global, nodes: usize) -> Vec<Vec<Asked>> {
     let mut logs = Vec::new(alloc);
     for _node in 0..nodes {
@@ -43,7 +43,7 @@ fn no_logs<R: Abort>(rt: &R, alloc: Global, nodes: usize) -> Vec<Vec<Asked>> {
     logs
 }
 
-/// Whether each of the client's has a lower number.
+/// True if each earlier request of the client has a lower number.
 fn goes_on(agreed: &[Asked], request: Asked) -> bool {
     for earlier in agreed {
         if earlier.client == request.client && earlier.number >= request.number {
@@ -60,14 +60,14 @@ fn add_new<R: Abort>(rt: &R, numbers: &mut Vec<u32>, number: u32) {
     }
 }
 
-/// Notes how many a node has committed, which never falls.
+/// Notes the committed length of a node, which never falls.
 fn rise<R: Abort>(rt: &R, committed: &mut [usize], at: usize, now: usize) {
     let before = committed.get_mut(at).expect(rt, "a node");
     assert!(rt; *before <= now);
     *before = now;
 }
 
-/// Whether the bytes are those, or none.
+/// True if the output is these bytes, or is empty and none are wanted.
 fn is_output(output: &[u8], wanted: Option<[u8; 8]>) -> bool {
     match wanted {
         Some(bytes) => output == bytes.as_slice(),
@@ -75,7 +75,7 @@ fn is_output(output: &[u8], wanted: Option<[u8; 8]>) -> bool {
     }
 }
 
-/// Makes a log that of the entries, and says whether an end of it was cut.
+/// Replaces a log by that of the entries. Returns true if an end of it was cut.
 fn follow<R: Abort>(rt: &R, log: &mut Vec<Asked>, entries: &[Entry]) -> bool {
     let same = common(log, entries);
     let cut = same < log.len();
@@ -87,7 +87,7 @@ fn follow<R: Abort>(rt: &R, log: &mut Vec<Asked>, entries: &[Entry]) -> bool {
     cut
 }
 
-/// How many requests at the beginning are the same.
+/// The length of the common beginning.
 fn common(log: &[Asked], entries: &[Entry]) -> usize {
     let most = entries.len().min(log.len());
     for place in 0..most {
@@ -134,8 +134,8 @@ impl Agreed {
         assert!(rt; is_output(output, wanted.output));
     }
 
-    /// A Reply names a place of the agreed list at which its client's request of that number
-    /// stands, and says its answer.
+    /// Asserts that a Reply names a place of the agreed list that has its client's request of this
+    /// number, and gives its answer.
     fn look_at_message<R: Abort>(&self, rt: &R, message: &Message) {
         if let MessageKind::Reply(client, number, place, answer) = &message.kind {
             let agreed = self.requests.get(*place).copied().expect(rt, "a place");
@@ -145,7 +145,7 @@ impl Agreed {
         }
     }
 
-    /// Looks at what is kept of a message.
+    /// Looks at a message as it was sent.
     fn look_at<R: Abort>(&self, rt: &R, carried: &Carried) {
         if let Carried::Plain(Event::Message(message)) = carried {
             self.look_at_message(rt, message);
@@ -154,7 +154,7 @@ impl Agreed {
 }
 
 impl Witness {
-    /// Of that many nodes, before any event.
+    /// A witness of `nodes` nodes, before any event.
     pub(super) fn new<R: Abort>(rt: &R, alloc: Global, nodes: usize) -> Witness {
         let committed = vec![in alloc; 0; nodes].expect(rt, "memory");
         Witness {
@@ -211,13 +211,13 @@ impl Witness {
         }
     }
 
-    /// Notes the log, and whether an end of it was cut.
+    /// Notes the log, and counts if an end of it was cut.
     fn look_at_log<C: Classes, R: Abort>(&mut self, rt: &R, at: usize, node: &GroupNode<C>) {
         let log = self.logs.get_mut(at).expect(rt, "a node");
         count_if(&mut self.cut, follow(rt, log, node.group().entries()));
     }
 
-    /// What the network counted, and what it saw.
+    /// Adds the counts of the network and the facts that it saw.
     pub(super) fn added_to(&self, counted: Reached) -> Reached {
         let mut reached = counted;
         reached.intervals = reached
