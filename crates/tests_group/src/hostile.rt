@@ -131,7 +131,8 @@ const PARTS: usize = 4;
 /// for some.
 fn part_is_right<R: Abort>(rt: &R, alloc: Global, part: usize) -> bool {
     let mut bytes = lock_image(rt, alloc);
-    let places = bytes.len() / PARTS;
+    // Rounded up: the first parts may have one place more.
+    let places = bytes.len().div_ceil(PARTS);
     match accepted(alloc, &mut bytes, part, PARTS) {
         None => false,
         Some(accepted) => accepted > places,

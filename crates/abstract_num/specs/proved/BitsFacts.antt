@@ -1,3 +1,4 @@
+-- Proved; nothing here need be believed.
 -- The known bits keep every number of which the fact holds.
 use Rattle.std.specs.Prelude.{ℕ, ◌^◌, ◌<◌, ◌≡◌, ◌==◌, not, false, bit_and, bit_or, bit_xor, Option, Some, None, IsSomeAnd}
 use Rattle.std.specs.Int.{bit_at}

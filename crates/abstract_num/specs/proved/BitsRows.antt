@@ -1,3 +1,4 @@
+-- Proved; nothing here need be believed.
 -- The known bits keep every number.
 use Rattle.std.specs.Prelude.{ℕ, ◌+◌, ◌-◌, ◌*◌, ◌/◌, ◌%◌, ◌^◌, min, ◌≡◌, ◌<◌, bit_and, bit_or, bit_xor}
 use Rattle.std.specs.Int.{w64, bit_at, bit_not}

@@ -1,3 +1,4 @@
+-- Proved; nothing here need be believed.
 -- Two parts side by side keep every number that each of them keeps.
 use Rattle.std.specs.Prelude.{Option, Some, None, IsSomeAnd}
 use Rattle.std.proofs.Common.{⊎_elim}

@@ -1,3 +1,4 @@
+-- Proved; nothing here need be believed.
 -- A choice by a test, proved case by case.
 use Rattle.std.specs.Prelude.{◌≡◌, ◌&&◌, ◌||◌, Bool, true, false, cond}
 use Rattle.std.proofs.Common.{refl}

@@ -1,3 +1,4 @@
+-- Proved; nothing here need be believed.
 -- The laws of joining known bits, bit by bit.
 use Rattle.std.specs.Prelude.{◌≡◌, ℕ, ◌+◌, ◌-◌, ◌%◌, ◌^◌, ◌<◌, min, max, bit_and}
 use Rattle.std.specs.Int.{bit_at}

@@ -1,3 +1,4 @@
+-- Proved; nothing here need be believed.
 -- That the joins of parts are parts.
 use Rattle.std.specs.Prelude.{◌≡◌, ℕ, ◌-◌, ◌^◌, ◌<◌, ◌≤◌, ◌≤ℤ◌, min, max, bit_and, bit_or, bit_xor}
 use Rattle.std.specs.Int.{bit_at, int_min, int_max}

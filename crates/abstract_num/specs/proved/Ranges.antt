@@ -1,3 +1,4 @@
+-- Proved; nothing here need be believed.
 -- The laws of joining ranges.
 use Rattle.std.specs.Prelude.{◌≡◌, ℕ, ℤ, ◌^◌, ◌<◌, ◌≤◌, ◌≤ℤ◌}
 use Rattle.std.proofs.Common.{arith, ap, subst}

@@ -1,3 +1,4 @@
+-- Proved; nothing here need be believed.
 -- What a row computes is below 2 ^ 64.
 use Rattle.std.specs.Prelude.{ℕ, ◌%◌, ◌^◌, ◌<◌}
 use Rattle.std.proofs.Common.{arith}

@@ -1,3 +1,4 @@
+-- Proved; nothing here need be believed.
 -- An arithmetic shift to the right, bit by bit.
 use Rattle.std.specs.Prelude.{ℕ, suc, ◌+◌, ◌-◌, ◌/◌, ◌%◌, ◌^◌, ◌≡◌, ◌≤◌, ◌<◌, min, nat_lt}
 use Rattle.std.specs.Int.{w64, bit_at, bit_not, cast_unsigned, int_shr}

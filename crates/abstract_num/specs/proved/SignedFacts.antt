@@ -1,3 +1,4 @@
+-- Proved; nothing here need be believed.
 -- The signed parts keep every number of which the fact holds.
 use Rattle.std.specs.Prelude.{ℕ, ℤ, pos, ◌+ℤ◌, ◌-ℤ◌, ◌≤ℤ◌, ◌<ℤ◌, ◌^◌, ◌<◌, ◌≡◌, ◌≢◌, ◌&&◌, int_le, int_lt, true, false, Option, Some, None, IsSomeAnd}
 use Rattle.std.specs.Int.{int_min, int_max, w64, cast_unsigned}

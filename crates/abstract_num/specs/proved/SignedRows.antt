@@ -1,3 +1,4 @@
+-- Proved; nothing here need be believed.
 -- The signed part keeps every number.
 use Rattle.std.specs.Prelude.{ℕ, ℤ, pos, negsuc, ◌+ℤ◌, ◌-ℤ◌, ◌≤ℤ◌, FitsSigned, ◌+◌, ◌-◌, ◌%◌, ◌^◌, ◌≡◌, ◌<◌, ◌&&◌, true, false}
 use Rattle.std.proofs.Common.{◌∙◌, arith}

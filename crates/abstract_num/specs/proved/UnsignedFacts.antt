@@ -1,3 +1,4 @@
+-- Proved; nothing here need be believed.
 -- The unsigned parts keep every number of which the fact holds.
 use Rattle.std.specs.Prelude.{ℕ, ◌+◌, ◌-◌, ◌^◌, ◌<◌, ◌≤◌, ◌≡◌, ◌≢◌, nat_lt, false, Option, Some, None, IsSomeAnd}
 use Rattle.std.proofs.Common.{arith}

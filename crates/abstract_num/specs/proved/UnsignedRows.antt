@@ -1,3 +1,4 @@
+-- Proved; nothing here need be believed.
 -- The unsigned part keeps every number.
 use Rattle.std.specs.Prelude.{ℕ, ◌*◌, ◌/◌, ◌%◌, ◌^◌, ◌≡◌, ◌≤◌, ◌<◌, max, nat_lt, bit_or, bit_xor}
 use Rattle.std.proofs.Common.{sym, arith, subst, zero-le}

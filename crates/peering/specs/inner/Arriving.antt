@@ -1,3 +1,4 @@
+-- The code's own; no promise of the crate rests on it.
 -- What is decided before a node moves: the move itself, and what it leaves.
 use Rattle.std.specs.Prelude.{◌≡◌, ℕ, List, [], ◌∷◌, ◌++◌, length, take, drop, Option, Some, None, ◌==◌, unwrap_or, Bool, true, false, if◌then◌else◌}
 use Rattle.pg_log.specs.Requests.{ClientRequest}

@@ -1,3 +1,4 @@
+-- The code's own; no promise of the crate rests on it.
 -- What a pointer that C keeps owns: if it holds a class, what a box of the class does.
 use Rattle.std.specs.Prelude.{List, Option, Some, None}
 use base.Fml.{Fml, ftrue}

@@ -1,3 +1,4 @@
+-- The code's own; no promise of the crate rests on it.
 -- Where a message that is sent again is looked for: the numbers of all messages lie in buckets,
 -- equal messages' in one.
 use Rattle.std.specs.Prelude.{◌≡◌, ◌&&◌, ℕ, suc, ◌<◌, ◌%◌, ◌==◌, Bool, false, List, [], ◌∷◌, length, Option, Some, None, if◌then◌else◌, slice_index_or}

@@ -1,3 +1,4 @@
+-- The code's own; no promise of the crate rests on it.
 -- A step of the code: the frames that are kept, out of their boxes.
 use Rattle.std.specs.Prelude.{List, [], ◌∷◌, Option, Some, None, Box}
 use Rattle.abstract_regs.specs.Frame.{PlainFrame}

@@ -1,3 +1,4 @@
+-- The code's own; no promise of the crate rests on it.
 -- A step of the code: what the pass has between two slots, the frame at hand, and those that are
 -- kept for jumps' targets.
 use Rattle.std.specs.Prelude.{◌≡◌, ℕ, ◌+◌, ◌<◌, List, Option, Some, None, slice_set, length}
