@@ -23,7 +23,7 @@ fn hello_is_read_into_five_bytes_and_not_into_four(rt: HostRuntime) {
     assert!(rt; is_so(&rt, rt.alloc(), config(1, MANY), Passing::Most, &HELLO));
 }
 
-/// What the calls of `obj` answer, one after another on one object.
+/// Calls of `obj`, one after another on one object, and their answers.
 const OBJECTS: [Step; 8] = [
     Step::Open(1),
     Step::Ask(0, Op::Write(0, b"hello"), Want::Code(5)),

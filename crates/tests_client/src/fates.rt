@@ -1,4 +1,4 @@
-//! What becomes of the messages of a test's cluster.
+//! The fates of the messages of a test's cluster.
 
 use osd::{DeliveryMode, Fate};
 use std::sync::atomic::{AtomicBool, Ordering};

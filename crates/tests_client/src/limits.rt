@@ -1,4 +1,4 @@
-//! What a cluster refuses: its numbers, its classes and its sessions; and how refusals print.
+//! The refusals of a cluster: of its numbers, classes and sessions; and their texts.
 
 use crate::served::{config, run};
 use crate::steps::Step;
@@ -67,7 +67,7 @@ fn loaded(cluster: &mut Cluster, image: &[u8]) -> usize {
     }
 }
 
-/// Whether classes are loaded with the ids from 2 to below `end`.
+/// True if classes are loaded with the ids from 2 to below `end`.
 fn load_many(cluster: &mut Cluster, end: usize) -> bool {
     let mut all = true;
     for id in 2..end {

@@ -1,4 +1,4 @@
-//! What stands in the log of a node.
+//! The entries in the log of a node.
 
 use osd::LoggedEntry;
 use placement::NodeId;
@@ -14,7 +14,7 @@ pub struct Answered {
     pub code: i64,
 }
 
-/// What a log is to be.
+/// A description of a log.
 #[derive(Clone, Copy)]
 pub enum Log<'a> {
     /// It has so many entries.
@@ -31,7 +31,7 @@ pub enum Log<'a> {
     Full,
 }
 
-/// Whether a node's log of a group is so.
+/// True if a node's log of a group is as described.
 pub fn is_logged<N: ClusterName, R: Wait>(
     running: &Running<N, R>,
     node: NodeId,
@@ -109,7 +109,7 @@ fn none_twice(log: &[LoggedEntry]) -> bool {
     true
 }
 
-/// Whether a pair was seen before; it is seen from now on.
+/// True if a pair was seen before; it counts as seen from now on.
 fn is_again(seen: &mut [bool], entry: &LoggedEntry) -> bool {
     let place = (entry.client as usize)
         .wrapping_mul(11)

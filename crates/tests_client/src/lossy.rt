@@ -15,7 +15,7 @@ use std::time::{Clock, Duration};
 
 const LOCK: usize = 0;
 
-/// How many milliseconds the nodes are given after a nudge.
+/// The milliseconds that the nodes are given after a nudge.
 const PAUSE_MILLISECONDS: u64 = 1;
 
 /// An object of a cluster, which clients lock.
@@ -35,7 +35,7 @@ struct Lossy<C> {
 }
 
 impl<C: Clock> Lossy<C> {
-    /// What is answered of ten locks of each of these clients, who take turns.
+    /// The answers to ten locks of each of these clients, who take turns.
     fn ten_locks<N: ClusterName, R: Wait>(
         &self,
         locked: &Locked<'_, N, R>,
@@ -52,7 +52,7 @@ impl<C: Clock> Lossy<C> {
         answers
     }
 
-    /// Whether all that is answered of forty locks stands in the log.
+    /// True if each answered one of forty locks is in the log.
     fn forty_locks<N: ClusterName, R: Wait>(
         &self,
         running: &Running<N, R>,
@@ -91,7 +91,7 @@ impl<C: Clock> Lossy<C> {
         })
     }
 
-    /// What is answered of a lock, the session's call of that number.
+    /// The answer to a lock, the session's call of that number.
     fn lock<N: ClusterName, R: Wait>(
         &self,
         locked: &Locked<'_, N, R>,
@@ -172,8 +172,8 @@ fn is_unanswered(answer: &Result<Reply, ExecError>) -> bool {
     }
 }
 
-/// Whether each answered call stands in the primary's log at its place, with its code, and no pair
-/// of client and number stands there twice.
+/// True if each answered call is in the primary's log at its place, with its code, and no pair of
+/// client and number is there twice.
 fn are_logged<N: ClusterName, R: Wait>(
     alloc: Global,
     running: &Running<N, R>,

@@ -1,4 +1,4 @@
-//! What a refused allocation leaves. `rt try --test --fail-alloc N` refuses the Nth; the test holds
+//! The state after a refused allocation. `rt try --test --fail-alloc N` refuses the Nth; the test holds
 //! whichever that is, and where none is refused.
 
 use crate::fates::{Passing, TestFate};
@@ -25,8 +25,8 @@ fn cluster(alloc: Global, tries: u32) -> Option<Cluster> {
     }
 }
 
-/// Whether a class is loaded and gets the id 2. Where memory is refused the first time, it is
-/// loaded the second.
+/// True if a class is loaded and gets the id 2. If memory is refused the first time, it is loaded
+/// the second.
 fn loads(cluster: &mut Cluster) -> bool {
     match cluster.load_class(&IMAGE) {
         Ok(id) => id.get() == 2,
@@ -70,7 +70,7 @@ fn second<N: ClusterName, R: Wait>(
     }
 }
 
-/// Whether the object is locked by the session.
+/// True if the object is locked by the session.
 fn locks<N: ClusterName, R: Wait>(
     session: &mut Session<'_, N, R>,
     alloc: Global,
@@ -83,7 +83,7 @@ fn locks<N: ClusterName, R: Wait>(
     answer.is_ok_and(|r| r.place() == 0 && r.code() == 0)
 }
 
-/// Whether the log has the one call, with client 1 and number 1.
+/// True if the log has the one call, with client 1 and number 1.
 fn is_the_one(log: &[LoggedEntry]) -> bool {
     let one = LoggedEntry {
         client: 1,

@@ -1,4 +1,4 @@
-//! What a part of a test does with a cluster while a worker serves it.
+//! A part of a test, on a cluster that a worker serves meanwhile.
 ghost use Rattle.std.specs.Prelude.{◌≡◌};
 
 use crate::fates::{Passing, TestFate};
@@ -25,7 +25,7 @@ pub fn config(nodes: u64, tries: u32) -> Config {
     }
 }
 
-/// What is done with a cluster.
+/// The calls that a test makes on a cluster.
 pub trait Part {
     /// Does it, and says whether all came as it was to.
     fn act<N: ClusterName, R: Wait>(&self, running: &Running<N, R>) -> bool;
@@ -88,7 +88,7 @@ pub fn run<R: Threads + Wait + Sync + Drop>(
     )
 }
 
-/// Whether the steps go so on a new cluster without a worker.
+/// True if the steps go as their rows say on a new cluster without a worker.
 pub fn is_so_alone<R: Threads + Wait + Sync + Abort>(
     rt: &R,
     alloc: Global,
@@ -99,7 +99,7 @@ pub fn is_so_alone<R: Threads + Wait + Sync + Abort>(
     run(rt, alloc, &mut cluster, steps) == Ok(true)
 }
 
-/// Whether the steps go so on a new cluster that one worker serves.
+/// True if the steps go as their rows say on a new cluster that one worker serves.
 pub fn is_so<R: Threads + Wait + Sync + Abort>(
     rt: &R,
     alloc: Global,

@@ -3,7 +3,7 @@
 
 use rados_client::ExecError;
 
-/// What a session asks for, of the object that the steps are about.
+/// A call that a session makes on the object that the steps are about.
 #[derive(Clone, Copy)]
 pub enum Op {
     /// A call of the class of that id: the method and the input.
@@ -21,7 +21,7 @@ pub enum Op {
 /// The call that takes the lock.
 pub const LOCK: Op = Op::Exec(0, "lock", b"");
 
-/// What an answer is to be.
+/// The answer that a step wants.
 #[derive(Clone, Copy)]
 pub enum Want {
     /// A reply.
@@ -55,14 +55,14 @@ pub enum Step {
     ReadInto(usize, i64, &'static [u8]),
     /// The session hears what the other one has seen.
     Hear(usize, usize),
-    /// How often the session has nudged, at least and at most.
+    /// The number of nudges of the session, at least and at most.
     Nudges(usize, u64, u64),
     /// The session's call comes to stand in the log, alone, and is answered by no repeat until
     /// then.
     ComesToStand(usize),
     /// None of a hundred repeats is answered.
     NeverAnswered(usize),
-    /// How many calls in a row are refused by that number, of 1,100 at most.
+    /// The number of calls in a row that are refused by that number, of 1,100 at most.
     Refusals(usize, u8, usize),
     /// Calls until one is answered without a nudge: then no message of an earlier call is under
     /// way.
@@ -81,12 +81,12 @@ pub enum Step {
     /// Requests of the session's client are submitted by another sender, from one number to another
     /// one, each in so many tries.
     Send(usize, u32, u32, u32),
-    /// How many requests of another client the object's queue takes before it is full, at least and
-    /// at most.
+    /// The number of requests of another client that the object's queue takes before it is full, at
+    /// least and at most.
     Fill(u32, u32),
     /// The steps are about an object of that group from then on.
     InGroup(usize),
-    /// How many entries node 0 has of the object's group.
+    /// The number of entries that node 0 has of the object's group.
     Entries(usize),
     /// Node 0 has a full log: the lock of client 2, and the calls of client 1 by rising numbers,
     /// all refused the lock.

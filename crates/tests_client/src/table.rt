@@ -1,4 +1,4 @@
-//! What does the steps of a test.
+//! Performs the steps of a test.
 
 use crate::fates::TestFate;
 use crate::logs::{Answered, Log, is_logged};
@@ -16,7 +16,7 @@ use std::thread::yield_now;
 /// Eight zero bytes and a length of five.
 const FIRST_FIVE: [u8; 16] = [0, 0, 0, 0, 0, 0, 0, 0, 5, 0, 0, 0, 0, 0, 0, 0];
 
-/// What a test has: its cluster, the object that its steps are about, and its sessions.
+/// A test's cluster, the object that its steps are about, and its sessions.
 #[derive(Drop)]
 pub struct Table<'a, N: ClusterName, R> {
     alloc: Global,
@@ -28,7 +28,7 @@ pub struct Table<'a, N: ClusterName, R> {
     reply: Option<(usize, i64)>,
 }
 
-/// Whether an answer is so.
+/// True if an answer is as wanted.
 fn is_wanted(answer: &Result<Reply, ExecError>, want: Want) -> bool {
     match answer {
         Ok(reply) => is_reply(reply, want),
@@ -63,7 +63,7 @@ fn found(answer: &Result<Reply, ExecError>) -> Option<(usize, i64)> {
     }
 }
 
-/// What a session is answered.
+/// The answer to a session.
 fn asked<N: ClusterName, R: Wait>(
     session: &mut Session<'_, N, R>,
     alloc: Global,
@@ -191,7 +191,7 @@ impl<'a, N: ClusterName, R: Wait> Table<'a, N, R> {
         }
     }
 
-    /// How often the session has nudged.
+    /// The number of nudges of the session.
     fn nudges(&self, s: usize) -> Option<u64> {
         match self.sessions.get(s) {
             Some(session) => Some(session.nudges()),
@@ -199,7 +199,7 @@ impl<'a, N: ClusterName, R: Wait> Table<'a, N, R> {
         }
     }
 
-    /// Whether node 0's log of the object's group is so.
+    /// True if node 0's log of the object's group is as described.
     fn is_log(&self, log: Log<'_>) -> bool {
         is_logged(
             self.running,
@@ -295,8 +295,8 @@ impl<'a, N: ClusterName, R: Wait> Table<'a, N, R> {
         false
     }
 
-    /// Whether a call of the session is answered some time. What was asked for before it is served
-    /// then.
+    /// True if a call of the session is answered some time. All that was asked for before it is
+    /// served then.
     fn is_answered(&mut self, s: usize) -> bool {
         let mut is_answered = self.asks(s, LOCK, Want::Reply);
         for _ in 0..10_000_000 {
@@ -352,7 +352,7 @@ impl<'a, N: ClusterName, R: Wait> Table<'a, N, R> {
         true
     }
 
-    /// Whether the queue takes the request in that many tries.
+    /// True if the queue takes the request within that many tries.
     fn is_taken(&self, sends: &mut Sends<N>, request: &Request, tries: u32) -> bool {
         for _ in 0..tries {
             if self.running.ask(sends, request).is_ok() {

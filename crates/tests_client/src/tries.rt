@@ -1,5 +1,5 @@
-//! How a call uses its tries: each submit and each look is one, and a session nudges before each
-//! repeat. Where no worker serves, the counts are exact.
+//! A call's tries: each submit and each look is one, and a session nudges before each repeat. If no
+//! worker serves, the counts are exact.
 
 use crate::fates::Passing;
 use crate::served::{config, is_so, is_so_alone};
@@ -10,7 +10,7 @@ use std::process::Abort;
 use std::sync::Wait;
 use std::thread::Threads;
 
-/// Whether a call of that many tries goes as the row says.
+/// True if a call of that many tries goes as the row says.
 fn is_row_so<R: Threads + Wait + Sync + Abort>(
     rt: &R,
     alloc: Global,
