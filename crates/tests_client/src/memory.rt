@@ -1,5 +1,5 @@
-//! The state after a refused allocation. `rt try --test --fail-alloc N` refuses the Nth; the test holds
-//! whichever that is, and where none is refused.
+//! The state after a refused allocation. `rt try --test --fail-alloc N` refuses the Nth; the test
+//! holds whichever that is, and where none is refused.
 
 use crate::fates::{Passing, TestFate};
 use crate::limits::IMAGE;
