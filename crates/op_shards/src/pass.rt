@@ -45,8 +45,8 @@ impl<T> Model for SendPass<T> {
 }
 
 /// A taker's right to take, or that of several whose passes were put together, and the record of
-/// what was taken. To a contract it is the queues that it came with, how many takers it is, and what
-/// they took of each.
+/// what was taken. To a contract it is the queues that it came with, how many takers it is, and
+/// what they took of each.
 pub struct TakePass<T> {
     senders: usize,
     takers: usize,

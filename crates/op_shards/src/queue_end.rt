@@ -118,7 +118,8 @@ impl<T: Op> SendEnd<T> {
             (λ _. (self.new.accepted ≡ self.old.accepted ++ ranked self.old.sender (length self.old.accepted) op ∷ [])
             × WasKept T.group (sender self.old.spot.place self.old.sender self.new.accepted))
             (λ x. (x ≡ op) × (self.new ≡ self.old)
-            × Held (ruled_capacity queue.now) (KeptWith T.group (sender self.old.spot.place self.old.sender self.old.accepted))) }
+            × Held (ruled_capacity queue.now)
+            (KeptWith T.group (sender self.old.spot.place self.old.sender self.old.accepted))) }
     {
         if self.rank == u64::MAX {
             // After 2^62 pushes the queue itself waits for ever.
@@ -174,7 +175,8 @@ impl<T: Op> TakeEnd<T> {
         ensures answer { MatchOption result
             ((self.new ≡ self.old)
             × Held 0 (KeptWith T.group (taker self.old.spot.place self.old.parts self.old.taken)))
-            (λ x. (self.new.taken ≡ self.old.taken ++ x ∷ []) × IsHere T.group self.old.spot.place x × IsNextAfter self.old.taken x
+            (λ x. (self.new.taken ≡ self.old.taken ++ x ∷ []) × IsHere T.group self.old.spot.place x
+            × IsNextAfter self.old.taken x
             × WasKept T.group (taker self.old.spot.place self.old.parts self.new.taken)) }
     {
         queue.pop_as::<Take, R>(rt, &mut self.pass)

@@ -23,8 +23,8 @@ pub struct QueuePosition {
     pub takers: u64,
 }
 
-/// The knowledge of a pass of one queue. The senders from `first` up to `end` are its own, and each has
-/// put in the list `put`. It has the parts of `parts` takers, and has taken the list `got`. No
+/// The knowledge of a pass of one queue. The senders from `first` up to `end` are its own, and each
+/// has put in the list `put`. It has the parts of `parts` takers, and has taken the list `got`. No
 /// value of it is made.
 pub struct PassState<T> {
     pub place: QueuePosition,

@@ -132,8 +132,8 @@ impl<T: Op> OpShards<T> {
         }
     }
 
-    /// True only if the shard's queue was empty at one moment, of the call, which the contract can't
-    /// say. Of false nothing is said, since another taker may have taken the last operation
+    /// True only if the shard's queue was empty at one moment, of the call, which the contract
+    /// can't say. Of false nothing is said, since another taker may have taken the last operation
     /// meanwhile. Nothing changes, and nobody is waited for.
     pub fn is_empty(&self, pass: &mut TakePass<T>, shard: usize) -> bool
         requires pass { pass.old.queues ≡ self.now.queues }
@@ -145,8 +145,8 @@ impl<T: Op> OpShards<T> {
         pass.is_empty(queue, shard)
     }
 
-    /// The number of places of the shard's queue that are free at one moment, of the call, which the
-    /// contract can't say. Nothing changes.
+    /// The number of places of the shard's queue that are free at one moment, of the call, which
+    /// the contract can't say. Nothing changes.
     pub fn free_places<R: Wait>(&self, rt: &R, pass: &mut SendPass<T>, shard: usize) -> usize
         requires pass { pass.old.queues ≡ self.now.queues }
         requires shard { shard < length self.now.queues.names }
