@@ -9,10 +9,17 @@ use std::marker::Model;
 
 /// A list of which the receiver has the beginning: how many requests that is, and the rest.
 /// Contracts see both.
-#[derive(Drop)]
 pub struct PackedLog {
     common: usize,
     rest: Requests,
+}
+
+// Written out, so that a crate that drops one calls this.
+impl Drop for PackedLog {
+    fn drop(self) {
+        let PackedLog { common: _, rest } = self;
+        drop(rest);
+    }
 }
 
 impl Model for PackedLog {
