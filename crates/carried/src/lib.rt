@@ -1,4 +1,4 @@
-//! What an operation of a queue carries to a node: a request, a map, or a message. A message that
+//! An operation of a queue, which carries a request, a map, or a message to a node. A message that
 //! carries a list is packed: the list goes without what its receiver has committed, as the
 //! receiver's question for it said. `pack` makes of a message what is carried, `event_of` makes of
 //! that the event that comes to the node, and neither copies a whole log. What they give is

@@ -14,7 +14,7 @@ pub struct Operation {
     pub group: usize,
     /// The node that it is for.
     pub node: NodeId,
-    /// What comes to the group there.
+    /// The event or the message for the group there.
     pub carried: Carried,
 }
 
@@ -29,7 +29,7 @@ pub struct ShortLog {
     pub log: PackedLog,
 }
 
-/// What comes to a node.
+/// An event or a message on its way to a node.
 #[derive(Drop)]
 pub enum Carried {
     /// A request, a map, or a message that carries no list of a log's entries.
@@ -40,7 +40,8 @@ pub enum Carried {
         sender: Party,
         /// The map.
         map: GroupMap,
-        /// How many entries the sender has committed: they are left out of the list that answers.
+        /// The number of entries that the sender has committed: they are left out of the list that
+        /// answers.
         reported: usize,
     },
     /// A list, for the primary that asked for it.
@@ -48,7 +49,8 @@ pub enum Carried {
 }
 
 impl Carried {
-    /// How many entries a question says that its sender has committed; 0 of anything else.
+    /// The number of entries that the sender of a question says it has committed; 0 of anything
+    /// else.
     pub fn reported(&self) -> usize
         ensures { result ≡ reported_of self.now }
     {

@@ -1,32 +1,44 @@
 ghost use Rattle.std.specs.Prelude.{◌≡◌};
+ghost use Rattle.replication.specs.Packed.{packed};
 ghost use Rattle.carried.specs.Carried.{carried_as, packed_as};
 
 use crate::operation::{Carried, ShortLog};
-use group_world::{Event, Message, MessageKind, Packet, Party};
+use group_world::{Epoch, Event, Message, MessageKind as Kind, Packet, Party, Requests};
 use replication::pack_list;
 
 /// A message that is carried as it is.
-fn plain(sender: Party, kind: MessageKind) -> Carried
+fn plain(sender: Party, kind: Kind) -> Carried
     ensures { result ≡ Carried.Plain (Event.Message (record { sender = sender; kind = kind })) }
 {
     Carried::Plain(Event::Message(Message { sender, kind }))
 }
 
-/// What a message says, as it is carried.
+/// A list that is carried without its first `reported` requests.
+fn short(sender: Party, interval: Epoch, list: Requests, reported: usize) -> Carried
+    ensures { result ≡ Carried.Log (record { sender = sender; interval = interval; log = packed list reported }) }
+{
+    Carried::Log(ShortLog {
+        sender,
+        interval,
+        log: pack_list(list, reported),
+    })
+}
+
+/// A message of that kind, as it is carried.
 #[rattlefmt::skip]
-fn carry(committed: usize, reported: usize, sender: Party, kind: MessageKind) -> Carried
+fn carry(committed: usize, reported: usize, sender: Party, kind: Kind) -> Carried
     ensures { result ≡ carried_as committed reported sender kind }
 {
     match kind {
-        MessageKind::Query(map)                           => Carried::Query { sender, map, reported: committed },
-        MessageKind::Log(interval, list)                  => Carried::Log(ShortLog { sender, interval, log: pack_list(list, reported) }),
-        MessageKind::Install(map, list)                   => plain(sender, MessageKind::Install(map, list)),
-        MessageKind::Installed(interval)                  => plain(sender, MessageKind::Installed(interval)),
-        MessageKind::AskActivate(interval)                => plain(sender, MessageKind::AskActivate(interval)),
-        MessageKind::Activated(interval)                  => plain(sender, MessageKind::Activated(interval)),
-        MessageKind::Rep(interval, place, request)        => plain(sender, MessageKind::Rep(interval, place, request)),
-        MessageKind::Ack(interval, length)                => plain(sender, MessageKind::Ack(interval, length)),
-        MessageKind::Reply(client, number, place, answer) => plain(sender, MessageKind::Reply(client, number, place, answer)),
+        Kind::Query(map)                           => Carried::Query { sender, map, reported: committed },
+        Kind::Log(interval, list)                  => short(sender, interval, list, reported),
+        Kind::Install(map, list)                   => plain(sender, Kind::Install(map, list)),
+        Kind::Installed(interval)                  => plain(sender, Kind::Installed(interval)),
+        Kind::AskActivate(interval)                => plain(sender, Kind::AskActivate(interval)),
+        Kind::Activated(interval)                  => plain(sender, Kind::Activated(interval)),
+        Kind::Rep(interval, place, request)        => plain(sender, Kind::Rep(interval, place, request)),
+        Kind::Ack(interval, length)                => plain(sender, Kind::Ack(interval, length)),
+        Kind::Reply(client, number, place, answer) => plain(sender, Kind::Reply(client, number, place, answer)),
     }
 }
 

@@ -1,4 +1,4 @@
-// The board.
+// The board of committed requests.
 ghost use Rattle.std.specs.Prelude.{◌≡◌, ◌≢◌, ◌⊎◌, ℕ, ◌<◌, [], ◌∷◌, ◌++◌, length, map, IfOk};
 ghost use Rattle.std.specs.List.{range_with_len};
 ghost use mathlib.Core.List.{IsPrefix};
@@ -16,9 +16,17 @@ use std::marker::{Brand, Model};
 
 /// A word for each row: the length of the row's list. To a contract it is its name, with the number
 /// of rows.
-#[derive(Drop)]
 pub struct Board {
     table: Table<u8, View, usize, Rows, Global>,
+}
+
+// Written out, here and at the tokens, so that a crate that drops one calls this and needn't prove
+// again how a table and its seats are dropped.
+impl Drop for Board {
+    fn drop(self) {
+        let Board { table } = self;
+        drop(table);
+    }
 }
 
 impl Model for Board {
@@ -150,8 +158,8 @@ impl Board {
         self.table.shared.load::<Merge>(&mut seen.seat, 0);
     }
 
-    /// What the token knows of the writer's row is a beginning of the writer's list. Nothing
-    /// changes.
+    /// The list that the token knows of the writer's row is a beginning of the writer's list.
+    /// Nothing changes.
     pub fn compare(&self, writer: &mut Writer, seen: &mut Seen)
         requires writer { writer.old.board ≡ self.now }
         requires seen { seen.old.board ≡ self.now }

@@ -1,4 +1,5 @@
-//! What may cross threads, for the proofs of the crates above. The functions do nothing.
+//! Facts for the proofs of the crates above: a board and its tokens may cross threads. The
+//! functions do nothing.
 ghost use denote.Param.Send.{IsSend, IsSync};
 ghost use Rattle.commit_board.specs.contracts.board.Board as board;
 ghost use Rattle.commit_board.specs.contracts.tokens.Note as note;

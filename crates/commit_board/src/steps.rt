@@ -1,4 +1,4 @@
-// What each step tells, and how what a token knows is handed on.
+// The steps at a board: the change that each one makes, and how tokens hand on their knowledge.
 ghost use Rattle.commit_board.specs.Rows.{Adds, Looks, Merges, Compares, other_rows, one_row, shared, received_of, new_reader, informed, sees};
 
 use crate::view::View;
@@ -34,14 +34,14 @@ impl Play<u8, View> for Look {
     ghost then = { Looks };
 }
 
-/// What was received becomes known.
+/// The received lists become known.
 pub(crate) struct Merge;
 
 impl Play<u8, View> for Merge {
     ghost then = { Merges };
 }
 
-/// What a writer received is compared with its list.
+/// A received list is compared with the writer's own.
 pub(crate) struct Compare;
 
 impl Play<u8, View> for Compare {

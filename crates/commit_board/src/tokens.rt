@@ -6,10 +6,16 @@ use atomic_table::Seat;
 use std::marker::Model;
 
 /// The one that may write a row. To a contract it is its board, its row and that row's list.
-#[derive(Drop)]
 pub struct Writer {
     pub(crate) row: usize,
     pub(crate) seat: Seat<u8, View>,
+}
+
+impl Drop for Writer {
+    fn drop(self) {
+        let Writer { row: _, seat } = self;
+        drop(seat);
+    }
 }
 
 impl Model for Writer {
@@ -33,10 +39,16 @@ impl Writer {
     }
 }
 
-/// What was seen of each row: a beginning of its list. It has no bytes.
-#[derive(Drop)]
+/// A token that has seen a beginning of each row's list. It has no bytes.
 pub struct Seen {
     pub(crate) seat: Seat<u8, View>,
+}
+
+impl Drop for Seen {
+    fn drop(self) {
+        let Seen { seat } = self;
+        drop(seat);
+    }
 }
 
 impl Model for Seen {
@@ -51,7 +63,7 @@ impl Model for Seen {
     ghost invariant = { λ s. s.seat.me ≡ (sees s.seat.me.0.known [], []) };
 }
 
-/// What one token hands on to another. It has no bytes.
+/// A note by which one token hands on its knowledge to another. It has no bytes.
 #[derive(Drop)]
 pub struct Note {
     pub(crate) seat: Seat<u8, View>,

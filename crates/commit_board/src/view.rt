@@ -1,4 +1,4 @@
-// What a seat at the board knows, and the rule.
+// The knowledge of a seat at the board, and the rule.
 use atomic_table::TableRule;
 use pg_log::Request;
 use std::collections::LinkedList;

@@ -4,10 +4,16 @@ ghost use Rattle.std.specs.Int.{w64, cast_unsigned};
 use std::marker::Model;
 
 /// The answer to a request: its code and its output. Contracts see the log's reply.
-#[derive(Drop)]
 pub struct CallReply {
     code: i64,
     output: Vec<u8>,
+}
+
+impl Drop for CallReply {
+    fn drop(self) {
+        let CallReply { code: _, output } = self;
+        drop(output);
+    }
 }
 
 impl Model for CallReply {

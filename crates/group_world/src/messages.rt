@@ -5,9 +5,17 @@ use std::marker::Model;
 
 /// The messages that an event sends, in their order, each with its receiver. Contracts see the
 /// list.
-#[derive(Drop)]
 pub struct Messages {
     items: Vec<Packet>,
+}
+
+// Written out, so that a crate that drops them calls this and needn't prove again how packets are
+// dropped.
+impl Drop for Messages {
+    fn drop(self) {
+        let Messages { items } = self;
+        drop(items);
+    }
 }
 
 impl Model for Messages {
@@ -38,6 +46,7 @@ impl Messages {
     pub fn into_items(self) -> Vec<Packet>
         ensures { result.items ≡ self }
     {
-        self.items
+        let Messages { items } = self;
+        items
     }
 }

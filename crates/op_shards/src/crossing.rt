@@ -1,4 +1,5 @@
-//! What may cross threads, for the proofs of the crates above. The functions do nothing.
+//! Facts for the proofs of the crates above: queues and passes may cross threads. The functions do
+//! nothing.
 ghost use denote.Param.Send.{IsSend, IsSync};
 ghost use Rattle.op_shards.specs.contracts.pass.SendPass as send_pass;
 ghost use Rattle.op_shards.specs.contracts.pass.TakePass as take_pass;
@@ -8,8 +9,8 @@ use crate::op::Op;
 use crate::pass::{SendPass, TakePass};
 use crate::shards::OpShards;
 
-/// Where operations may go from one thread to another, threads may share their queues, and the
-/// queues and the passes may go to another thread.
+/// If operations may go from one thread to another, threads may share their queues, and the queues
+/// and the passes may go to another thread.
 pub fn queues_cross<T: Op + Send>()
     ensures shared { IsSync (shards.the_row T.row T.Op) }
     ensures shards { IsSend (shards.the_row T.row T.Op) }

@@ -1,11 +1,11 @@
-//! What a sender's pass goes on with, for the proofs of the crates above. The function does
+//! Facts for the proofs of the crates above: a sender's pass keeps what it has. The function does
 //! nothing.
 ghost use Rattle.std.specs.Prelude.{◌≡◌};
 ghost use Rattle.op_shards.specs.Passes.{Sender, Grew, WasSent};
 
 use std::marker::Brand;
 
-/// What is said of an operation. Each use of the law below picks it.
+/// A property of an operation. Each use of the law below picks it.
 pub trait Property<T> {
     ghost holds: { T → Type 0 };
 }

@@ -1,4 +1,4 @@
-// What one sender or one taker has: an end of each queue.
+// The pass of one sender or one taker: an end of each queue.
 ghost use Rattle.std.specs.Prelude.{◌≡◌, ◌<◌, ◌≤◌, ◌+◌, ◌-◌, ◌%◌, length, map, slice_get, Some, IsTrue, MatchOption, MatchResult, IfOk, OnOk};
 ghost use Rattle.std.specs.List.{range_with_len};
 ghost use Rattle.crossbeam_queue.specs.Passes.{ruled_capacity};
@@ -12,14 +12,25 @@ use std::alloc::{AllocError, Global};
 use std::marker::Model;
 use std::sync::Wait;
 
-/// What a sender holds. To a contract it is the queues that it came with, the sender's number, and
-/// what each accepted of it.
-#[derive(Drop)]
+/// A sender's right to send, and the record of what it sent. To a contract it is the queues that it
+/// came with, the sender's number, and what each accepted of it.
 pub struct SendPass<T> {
     sender: u64,
     senders: usize,
     takers: usize,
     ends: Vec<SendEnd<T>>,
+}
+
+impl<T: Drop> Drop for SendPass<T> {
+    fn drop(self) {
+        let SendPass {
+            sender: _,
+            senders: _,
+            takers: _,
+            ends,
+        } = self;
+        drop(ends);
+    }
 }
 
 impl<T> Model for SendPass<T> {
@@ -33,13 +44,24 @@ impl<T> Model for SendPass<T> {
     ghost invariant = { λ s. (map (λ l. l.spot) s.ends.items ≡ spots (queues_of (map (λ l. l.spot.queue) s.ends.items) s.senders s.takers)) × All (λ l. l.sender ≡ s.sender) s.ends.items };
 }
 
-/// What a taker holds, or several whose passes were put together. To a contract it is the queues
-/// that it came with, how many takers it is, and what they took of each.
-#[derive(Drop)]
+/// A taker's right to take, or that of several whose passes were put together, and the record of
+/// what was taken. To a contract it is the queues that it came with, how many takers it is, and
+/// what they took of each.
 pub struct TakePass<T> {
     senders: usize,
     takers: usize,
     ends: Vec<TakeEnd<T>>,
+}
+
+impl<T: Drop> Drop for TakePass<T> {
+    fn drop(self) {
+        let TakePass {
+            senders: _,
+            takers: _,
+            ends,
+        } = self;
+        drop(ends);
+    }
 }
 
 impl<T> Model for TakePass<T> {
@@ -67,14 +89,15 @@ impl<T: Op> SendPass<T> {
         ensures lists { length self.old.accepted ≡ length self.old.queues.names }
         ensures answer { MatchResult result
             (λ _. (self.new ≡ after_submit self.old shard op) × SenderWasKept T.group self.new shard)
-            (λ x. (x ≡ op) × (self.new ≡ self.old) × SenderWasKeptAt T.group (ruled_capacity queue.now) self.old shard) }
+            (λ x. (x ≡ op) × (self.new ≡ self.old)
+            × SenderWasKeptAt T.group (ruled_capacity queue.now) self.old shard) }
     {
         let sender = self.sender;
         let queue_end = &mut self.ends[shard];
         queue_end.push(rt, queue, sender, op)
     }
 
-    /// How many operations the queue of this shard holds at one moment.
+    /// The number of operations that the queue of this shard holds at one moment.
     pub(crate) fn len<R: Wait>(&mut self, rt: &R, queue: &Queue<T>, shard: usize) -> usize
         requires { slice_get self.old.queues.names shard ≡ Some (name queue.now) }
         ensures same { self.new ≡ self.old }
@@ -85,8 +108,8 @@ impl<T: Op> SendPass<T> {
         queue_end.len(rt, queue)
     }
 
-    /// What the taker took of this sender was accepted, each operation at least as often. Of all
-    /// takers together it is what was accepted first.
+    /// Each operation that the taker took of this sender was accepted at least as often. Those that
+    /// all takers together took are the first that were accepted.
     pub(crate) fn compare(&mut self, queue: &Queue<T>, other: &mut TakePass<T>, shard: usize)
         requires queue { slice_get self.old.queues.names shard ≡ Some (name queue.now) }
         requires same { other.old.queues ≡ self.old.queues }
@@ -111,13 +134,14 @@ impl<T: Op> TakePass<T> {
         requires { slice_get self.old.queues.names shard ≡ Some (name queue.now) }
         ensures { MatchOption result
             ((self.new ≡ self.old) × TakerWasKeptAt T.group 0 self.old shard)
-            (λ x. (self.new ≡ after_take self.old shard x) × IsHere T.group (shard_of self.old.queues shard) x × IsNextAfter (at_shard self.old.taken shard) x × TakerWasKept T.group self.new shard) }
+            (λ x. (self.new ≡ after_take self.old shard x) × IsHere T.group (shard_of self.old.queues shard) x
+            × IsNextAfter (at_shard self.old.taken shard) x × TakerWasKept T.group self.new shard) }
     {
         let queue_end = &mut self.ends[shard];
         queue_end.pop(rt, queue)
     }
 
-    /// Whether the queue of this shard is empty. True only if it was at one moment.
+    /// True only if the queue of this shard was empty at one moment.
     pub(crate) fn is_empty(&mut self, queue: &Queue<T>, shard: usize) -> bool
         requires { slice_get self.old.queues.names shard ≡ Some (name queue.now) }
         ensures same { self.new ≡ self.old }
@@ -133,7 +157,11 @@ impl<T: Op> TakePass<T> {
         requires other { other.queues ≡ self.old.queues }
         ensures { self.new ≡ after_gather self.old other }
     {
-        let TakePass { ends, .. } = other;
+        let TakePass {
+            senders: _,
+            takers: _,
+            ends,
+        } = other;
         gather_ends(queues, &mut self.ends, ends);
     }
 }
@@ -156,7 +184,7 @@ fn gather_ends<T: Op>(
     }
 }
 
-/// How many senders and takers have passes of the queues.
+/// The numbers of senders and of takers that have passes of the queues.
 #[derive(Clone, Copy)]
 pub(crate) struct Members {
     pub senders: usize,

@@ -115,8 +115,11 @@ impl<T: Op> SendEnd<T> {
         requires here { T.group op % self.old.spot.place.shards ≡ self.old.spot.place.shard }
         ensures queue_end { (self.new.spot ≡ self.old.spot) × (self.new.sender ≡ self.old.sender) }
         ensures answer { MatchResult result
-            (λ _. (self.new.accepted ≡ self.old.accepted ++ ranked self.old.sender (length self.old.accepted) op ∷ []) × WasKept T.group (sender self.old.spot.place self.old.sender self.new.accepted))
-            (λ x. (x ≡ op) × (self.new ≡ self.old) × Held (ruled_capacity queue.now) (KeptWith T.group (sender self.old.spot.place self.old.sender self.old.accepted))) }
+            (λ _. (self.new.accepted ≡ self.old.accepted ++ ranked self.old.sender (length self.old.accepted) op ∷ [])
+            × WasKept T.group (sender self.old.spot.place self.old.sender self.new.accepted))
+            (λ x. (x ≡ op) × (self.new ≡ self.old)
+            × Held (ruled_capacity queue.now)
+            (KeptWith T.group (sender self.old.spot.place self.old.sender self.old.accepted))) }
     {
         if self.rank == u64::MAX {
             // After 2^62 pushes the queue itself waits for ever.
@@ -137,7 +140,7 @@ impl<T: Op> SendEnd<T> {
         }
     }
 
-    /// How many operations the queue holds at one moment.
+    /// The number of operations that the queue holds at one moment.
     pub fn len<R: Wait>(&mut self, rt: &R, queue: &Queue<T>) -> usize
         requires { self.old.spot.queue ≡ name queue.now }
         ensures same { self.new ≡ self.old }
@@ -147,8 +150,8 @@ impl<T: Op> SendEnd<T> {
         queue.len_as::<Put, R>(rt, &mut self.pass)
     }
 
-    /// What the taker took of this sender was accepted, each operation at least as often. If the
-    /// taker has all parts, it is what was accepted first.
+    /// Each operation that the taker took of this sender was accepted at least as often. If the
+    /// taker has all parts, those are the first that were accepted.
     pub fn compare(&mut self, queue: &Queue<T>, other: &mut TakeEnd<T>)
         requires queue { self.old.spot.queue ≡ name queue.now }
         requires other { other.old.spot ≡ self.old.spot }
@@ -170,13 +173,16 @@ impl<T: Op> TakeEnd<T> {
         requires part { 0 < self.old.parts }
         ensures queue_end { (self.new.spot ≡ self.old.spot) × (self.new.parts ≡ self.old.parts) }
         ensures answer { MatchOption result
-            ((self.new ≡ self.old) × Held 0 (KeptWith T.group (taker self.old.spot.place self.old.parts self.old.taken)))
-            (λ x. (self.new.taken ≡ self.old.taken ++ x ∷ []) × IsHere T.group self.old.spot.place x × IsNextAfter self.old.taken x × WasKept T.group (taker self.old.spot.place self.old.parts self.new.taken)) }
+            ((self.new ≡ self.old)
+            × Held 0 (KeptWith T.group (taker self.old.spot.place self.old.parts self.old.taken)))
+            (λ x. (self.new.taken ≡ self.old.taken ++ x ∷ []) × IsHere T.group self.old.spot.place x
+            × IsNextAfter self.old.taken x
+            × WasKept T.group (taker self.old.spot.place self.old.parts self.new.taken)) }
     {
         queue.pop_as::<Take, R>(rt, &mut self.pass)
     }
 
-    /// Whether the queue is empty. True only if it was at one moment.
+    /// True only if the queue was empty at one moment.
     pub fn is_empty(&mut self, queue: &Queue<T>) -> bool
         requires { self.old.spot.queue ≡ name queue.now }
         ensures same { self.new ≡ self.old }

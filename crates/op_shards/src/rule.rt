@@ -1,4 +1,4 @@
-// What one queue holds, and what each pass of it knows.
+// The rule of one queue: the operations that it holds, and the knowledge of each pass of it.
 use crate::op::Op;
 use crossbeam_queue::RuledArrayQueue;
 use crossbeam_queue::protocol::{Join, Lesson, Outcome, Protocol, Split};
@@ -23,8 +23,8 @@ pub struct QueuePosition {
     pub takers: u64,
 }
 
-/// What a pass of one queue knows. The senders from `first` up to `end` are its own, and each has
-/// put in the list `put`. It has the parts of `parts` takers, and has taken the list `got`. No
+/// The knowledge of a pass of one queue. The senders from `first` up to `end` are its own, and each
+/// has put in the list `put`. It has the parts of `parts` takers, and has taken the list `got`. No
 /// value of it is made.
 pub struct PassState<T> {
     pub place: QueuePosition,
@@ -129,7 +129,7 @@ impl<T: Op> Lesson<Ranked<T>, PassState<T>> for Take {
     ghost fact = { KeptWith T.group };
 }
 
-/// What was taken, apart from what was put in.
+/// Splits what was taken from what was put in.
 pub struct Part;
 
 impl<T> Split<PassState<T>> for Part {
@@ -140,7 +140,7 @@ impl<T> Split<PassState<T>> for Part {
     ghost right = { got_alone };
 }
 
-/// What another took, too.
+/// Joins to it what another took.
 pub struct Meet;
 
 impl<T> Join<PassState<T>> for Meet {

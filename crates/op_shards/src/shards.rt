@@ -21,12 +21,25 @@ use txn::NoMemory;
 /// A bounded queue for each shard. An operation's shard is the number of its group modulo the
 /// number of shards. To a contract it is the queues by shard, how many senders and takers have
 /// passes of them, and how many operations each holds at most.
-#[derive(Drop)]
 pub struct OpShards<T: Op> {
     places: usize,
     senders: usize,
     takers: usize,
     queues: Vec<Queue<T>>,
+}
+
+// Written out, here and at the passes, so that a crate that drops one calls this and needn't prove
+// again how queues and their ends are dropped.
+impl<T: Op> Drop for OpShards<T> {
+    fn drop(self) {
+        let OpShards {
+            places: _,
+            senders: _,
+            takers: _,
+            queues,
+        } = self;
+        drop(queues);
+    }
 }
 
 impl<T: Op> Model for OpShards<T> {
@@ -109,7 +122,8 @@ impl<T: Op> OpShards<T> {
         ensures answer { MatchOption result
             ((pass.new ≡ pass.old) × TakerWasKeptAt T.group 0 pass.old shard)
             (λ op. (x : Ranked T) × (x.op ≡ op) × (pass.new ≡ after_take pass.old shard x)
-            × IsHere T.group (shard_of self.now.queues shard) x × IsNextAfter (at_shard pass.old.taken shard) x × TakerWasKept T.group pass.new shard) }
+            × IsHere T.group (shard_of self.now.queues shard) x × IsNextAfter (at_shard pass.old.taken shard) x
+            × TakerWasKept T.group pass.new shard) }
     {
         let queue = &self.queues[shard];
         match pass.pop(rt, queue, shard) {
@@ -118,9 +132,9 @@ impl<T: Op> OpShards<T> {
         }
     }
 
-    /// Whether the shard's queue is empty: true only if it was at one moment, of the call, which
-    /// the contract can't say. Of false nothing is said, since another taker may have taken the
-    /// last operation meanwhile. Nothing changes, and nobody is waited for.
+    /// True only if the shard's queue was empty at one moment, of the call, which the contract
+    /// can't say. Of false nothing is said, since another taker may have taken the last operation
+    /// meanwhile. Nothing changes, and nobody is waited for.
     pub fn is_empty(&self, pass: &mut TakePass<T>, shard: usize) -> bool
         requires pass { pass.old.queues ≡ self.now.queues }
         requires shard { shard < length self.now.queues.names }
@@ -131,8 +145,8 @@ impl<T: Op> OpShards<T> {
         pass.is_empty(queue, shard)
     }
 
-    /// How many places of the shard's queue are free at one moment, of the call, which the contract
-    /// can't say. Nothing changes.
+    /// The number of places of the shard's queue that are free at one moment, of the call, which
+    /// the contract can't say. Nothing changes.
     pub fn free_places<R: Wait>(&self, rt: &R, pass: &mut SendPass<T>, shard: usize) -> usize
         requires pass { pass.old.queues ≡ self.now.queues }
         requires shard { shard < length self.now.queues.names }
@@ -153,9 +167,9 @@ impl<T: Op> OpShards<T> {
         takes.gather(&self.queues, other);
     }
 
-    /// What was taken of a sender's operations in a shard is among those that were accepted there,
-    /// each at least as often. What all takers together took is the first ones of those, each once.
-    /// Nothing changes.
+    /// Each operation that was taken of a sender in a shard was accepted there at least as often.
+    /// Those that all takers together took are the first that were accepted, each once. Nothing
+    /// changes.
     pub fn compare(&self, sends: &mut SendPass<T>, takes: &mut TakePass<T>, shard: usize)
         requires sends { sends.old.queues ≡ self.now.queues }
         requires takes { takes.old.queues ≡ self.now.queues }

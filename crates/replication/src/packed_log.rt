@@ -9,10 +9,17 @@ use std::marker::Model;
 
 /// A list without a beginning that the receiver has: the number of requests left out, and the rest.
 /// Contracts see both.
-#[derive(Drop)]
 pub struct PackedLog {
     common: usize,
     rest: Requests,
+}
+
+// Written out, so that a crate that drops one calls this.
+impl Drop for PackedLog {
+    fn drop(self) {
+        let PackedLog { common: _, rest } = self;
+        drop(rest);
+    }
 }
 
 impl Model for PackedLog {
