@@ -24,11 +24,24 @@ use std::marker::{Model, PhantomData};
 
 /// A node of a group, and the writer of its row on the board. The row's list is the list that the
 /// node has committed. Contracts see the node, the row and its list.
-#[derive(Drop)]
 pub struct GroupCell<N: BoardName> {
     node: GroupNode<N>,
     writer: Writer,
     of: PhantomData<N>,
+}
+
+// Written out, here and at `Reply` and `Refused`, so that a crate that drops one calls this and
+// needn't prove again how its parts are dropped.
+impl<N: BoardName> Drop for GroupCell<N> {
+    fn drop(self) {
+        let GroupCell {
+            node,
+            writer,
+            of: _,
+        } = self;
+        drop(node);
+        drop(writer);
+    }
 }
 
 impl<N: BoardName> Model for GroupCell<N> {

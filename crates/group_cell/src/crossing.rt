@@ -15,7 +15,7 @@ use commit_board::board_crosses;
 use peering::node_crosses;
 use pg_log::request_crosses;
 
-/// A cell may go to another thread where its name may. So threads may share a lock on it.
+/// A cell may go to another thread if its name may. So threads may share a lock on it.
 pub fn cell_crosses<N: BoardName + Send>()
     ensures { IsSend (cell.the_row N.row (record { board = N.board }) (record { classes = N.classes })) }
 {
@@ -24,8 +24,8 @@ pub fn cell_crosses<N: BoardName + Send>()
     can_send::<GroupCell<N>>()
 }
 
-/// What a client is sent may go to another thread where its name may. So threads may share a lock
-/// on a mailbox.
+/// A post and its parts may go to another thread if their name may. So threads may share a lock on
+/// a mailbox.
 pub fn post_crosses<N: BoardName + Send>()
     ensures reply { IsSend (reply.the_row N.row (record { board = N.board }) (record { classes = N.classes })) }
     ensures refused { IsSend (refused.the_row N.row (record { board = N.board }) (record { classes = N.classes })) }

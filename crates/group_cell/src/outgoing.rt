@@ -5,7 +5,7 @@ use group_world::Epoch;
 use pg_log::ClientId;
 use placement::NodeId;
 
-/// What goes out of a cell.
+/// A message on its way out of a cell.
 #[derive(Drop)]
 pub enum Outgoing<N: BoardName> {
     /// A message for another node of the group, or for the node itself.

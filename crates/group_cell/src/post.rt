@@ -5,7 +5,7 @@ use crate::refused::Refused;
 use crate::reply::Reply;
 use pg_log::Request;
 
-/// What a client is sent.
+/// A message to a client.
 #[derive(Drop)]
 pub enum Post<N: BoardName> {
     /// The answer to a committed request.
@@ -27,7 +27,7 @@ impl<N: BoardName> Post<N> {
         }
     }
 
-    /// Whether it answers that request: the whole of it, and not only its client and number.
+    /// True if it answers that request: the whole of it, and not only its client and number.
     pub fn answers(&self, request: &Request) -> bool
         ensures { IsTrue result ↔ (request_in self.now ≡ request.now) }
     {

@@ -6,13 +6,23 @@ use group_world::HandleError;
 use pg_log::Request;
 use std::marker::{Model, PhantomData};
 
-/// The refusal of a request. Where it is `NoClass`, `NoMethod` or `InputTooLong`, that is so of the
+/// The refusal of a request. If it is `NoClass`, `NoMethod` or `InputTooLong`, that is so of the
 /// request and the loaded classes.
-#[derive(Drop)]
 pub struct Refused<N: BoardName> {
     request: Request,
     why: HandleError,
     of: PhantomData<N>,
+}
+
+impl<N: BoardName> Drop for Refused<N> {
+    fn drop(self) {
+        let Refused {
+            request,
+            why: _,
+            of: _,
+        } = self;
+        drop(request);
+    }
 }
 
 impl<N: BoardName> Model for Refused<N> {

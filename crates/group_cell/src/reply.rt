@@ -15,7 +15,6 @@ use std::marker::{Model, PhantomData};
 /// The answer to a committed request, with a note of its own. In the list that the note knows of
 /// the row, which is legal, the whole request stands at the place and at no other, and is answered
 /// so there.
-#[derive(Drop)]
 pub struct Reply<N: BoardName> {
     pub(crate) request: Request,
     pub(crate) row: usize,
@@ -23,6 +22,22 @@ pub struct Reply<N: BoardName> {
     pub(crate) answer: CallReply,
     pub(crate) note: Note,
     pub(crate) of: PhantomData<N>,
+}
+
+impl<N: BoardName> Drop for Reply<N> {
+    fn drop(self) {
+        let Reply {
+            request,
+            row: _,
+            place: _,
+            answer,
+            note,
+            of: _,
+        } = self;
+        drop(request);
+        drop(answer);
+        drop(note);
+    }
 }
 
 impl<N: BoardName> Model for Reply<N> {

@@ -1,4 +1,4 @@
-//! What a worker does with an operation while it holds the lock.
+//! A worker's turn with an operation, while it holds the lock.
 ghost use Rattle.std.specs.Prelude.{◌≡◌, ℕ, Some, IfOk, OnErr};
 ghost use Rattle.std.specs.List.{Contains};
 ghost use Rattle.group_world.specs.World.{IsTrueOf};
@@ -19,6 +19,13 @@ use group_world::{Event, Message, MessageKind, Messages, Packet, Party, refusals
 use pg_log::{ClassTable, ClientId, NoMemory, Request};
 use placement::NodeId;
 use std::alloc::Global;
+
+/// The board of a cluster and its loaded classes, which all cells share.
+#[derive(Clone, Copy)]
+struct Shared<'a> {
+    board: &'a Board,
+    table: &'a ClassTable,
+}
 
 impl<N: BoardName> GroupCell<N> {
     /// Does what an operation carries to this node. The node takes the event that comes, as
@@ -46,17 +53,18 @@ impl<N: BoardName> GroupCell<N> {
         // An item for each message, also for one that memory was refused to: then a proof refuses a
         // worker that drops another, and no test has to.
         let reported = carried.reported();
+        let shared = Shared { board, table };
         match event_of(alloc, self.node().group().entries(), carried)? {
             None => Ok(Vec::new(alloc)),
-            Some(Event::Request(request)) => self.ask(alloc, board, table, reported, request),
-            Some(Event::Map(map)) => self.take(alloc, board, table, reported, Event::Map(map)),
+            Some(Event::Request(request)) => self.ask(alloc, shared, reported, request),
+            Some(Event::Map(map)) => self.take(alloc, shared, reported, Event::Map(map)),
             Some(Event::Message(message)) => {
-                self.take(alloc, board, table, reported, Event::Message(message))
+                self.take(alloc, shared, reported, Event::Message(message))
             }
         }
     }
 
-    /// What the node sends again, packed.
+    /// The messages that the node sends again, packed.
     pub fn resend(
         &mut self,
         alloc: Global,
@@ -76,13 +84,12 @@ impl<N: BoardName> GroupCell<N> {
     fn ask(
         &mut self,
         alloc: Global,
-        board: &Board,
-        table: &ClassTable,
+        shared: Shared<'_>,
         reported: usize,
         request: Request,
     ) -> Result<Vec<Option<Outgoing<N>>>, NoMemory>
-        requires board { board.now ≡ N.board }
-        requires table { table.now ≡ N.classes }
+        requires board { shared.board.now ≡ N.board }
+        requires table { shared.table.now ≡ N.classes }
         ensures turn { IfOk result (λ v. IsTurn N.classes self.old self.new reported (Some (Event.Request request)) v.items) }
         ensures lost { OnErr result (IsCutShort N.classes self.old self.new (Some (Event.Request request))) }
     {
@@ -93,8 +100,8 @@ impl<N: BoardName> GroupCell<N> {
         };
         let mut out = Vec::new(alloc);
         out.reserve(1)?;
-        match self.handle(board, table, Event::Request(request)) {
-            Ok(sent) => self.all_out(alloc, board, reported, sent),
+        match self.handle(shared.board, shared.table, Event::Request(request)) {
+            Ok(sent) => self.all_out(alloc, shared.board, reported, sent),
             Err(why) => {
                 let client = copy.client();
                 let post = Post::Refused(Refused::new(copy, why));
@@ -108,24 +115,23 @@ impl<N: BoardName> GroupCell<N> {
     fn take(
         &mut self,
         alloc: Global,
-        board: &Board,
-        table: &ClassTable,
+        shared: Shared<'_>,
         reported: usize,
         event: Event,
     ) -> Result<Vec<Option<Outgoing<N>>>, NoMemory>
-        requires board { board.now ≡ N.board }
-        requires table { table.now ≡ N.classes }
+        requires board { shared.board.now ≡ N.board }
+        requires table { shared.table.now ≡ N.classes }
         requires quiet { IsQuiet event }
         ensures turn { IfOk result (λ v. IsTurn N.classes self.old self.new reported (Some event) v.items) }
         ensures lost { OnErr result (IsCutShort N.classes self.old self.new (Some event)) }
     {
-        match self.handle(board, table, event) {
-            Ok(sent) => self.all_out(alloc, board, reported, sent),
+        match self.handle(shared.board, shared.table, event) {
+            Ok(sent) => self.all_out(alloc, shared.board, reported, sent),
             Err(_) => Ok(Vec::new(alloc)),
         }
     }
 
-    /// What goes out for each of the messages.
+    /// The messages as they go out, an item for each.
     fn all_out(
         &mut self,
         alloc: Global,
@@ -147,7 +153,7 @@ impl<N: BoardName> GroupCell<N> {
         Ok(out)
     }
 
-    /// What goes out for a message.
+    /// A message as it goes out.
     fn one_out(&mut self, board: &Board, reported: usize, packet: Packet) -> Option<Outgoing<N>>
         requires board { board.now ≡ N.board }
         requires reply { IsTrueOf N.classes self.old.written packet.message.kind }

@@ -16,13 +16,27 @@ use std::marker::Model;
 /// The monitors of a cluster's groups, which make their maps together: the newest maps have one
 /// epoch. Contracts see how many nodes the cluster has, how many act for a group, that epoch, and
 /// each group's monitor.
-#[derive(Drop)]
 pub struct MapBook {
     alloc: Global,
     nodes: u64,
     replicas: usize,
     epoch: Epoch,
     monitors: Vec<Monitor>,
+}
+
+// Written out, so that a crate that drops a book calls this and needn't prove again how monitors
+// are dropped.
+impl Drop for MapBook {
+    fn drop(self) {
+        let MapBook {
+            alloc: _,
+            nodes: _,
+            replicas: _,
+            epoch: _,
+            monitors,
+        } = self;
+        drop(monitors);
+    }
 }
 
 impl Model for MapBook {
@@ -142,7 +156,7 @@ impl MapBook {
         self.epoch
     }
 
-    /// How many groups there are.
+    /// The number of groups.
     pub fn groups(&self) -> usize
         ensures { result ≡ length self.now.monitors }
     {
