@@ -2,10 +2,10 @@ use std::mem;
 use std::sync::atomic::{AtomicBool, Ordering};
 use std::sync::{Condvar, Mutex, Wait};
 
-/// What the workers wait on.
+/// The state that the workers wait on.
 #[derive(Drop)]
 struct Rings {
-    /// How often the bell was rung, modulo 2^64.
+    /// The number of times that the bell was rung, modulo 2^64.
     count: u64,
     /// A worker waits that nobody wakes yet.
     has_waiting: bool,
@@ -32,7 +32,7 @@ impl Bell {
         }
     }
 
-    /// Whether the workers are to end.
+    /// True if the workers are to end.
     pub fn is_finished(&self) -> bool {
         self.finished.load(Ordering::SeqCst)
     }

@@ -1,5 +1,5 @@
-/// What an operation goes back to. What a node sends goes back to what the operation that it handled
-/// goes back to.
+/// The first cause of an operation. A message that a node sends has the cause of the operation that
+/// the node handled.
 #[derive(Clone, Copy, Debug, PartialEq, Eq)]
 pub(crate) enum Cause {
     /// A client's request, or a new map.

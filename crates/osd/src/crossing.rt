@@ -1,4 +1,5 @@
-//! What may cross threads, for the proofs of who plays on a cluster. The functions do nothing.
+//! Facts for the proofs of who plays on a cluster: its values may cross threads. The functions do
+//! nothing.
 ghost use denote.Param.Send.{IsSend, IsSync};
 ghost use Rattle.osd.specs.contracts.desk.Desk as desk;
 ghost use Rattle.osd.specs.contracts.desk.Opened as opened;
@@ -65,7 +66,7 @@ fn passes_cross<N: ClusterName + Send>()
     can_send::<Takes<N>>();
 }
 
-/// What lies under the locks but a worker's.
+/// The values under the locks may cross threads; those of a worker's lock stand below.
 fn locked_crosses<N: ClusterName + Send + Sync>()
     ensures node { IsSync (node.the_row N.row (record { queues = N.queues; config = N.config }) (record { board = N.board }) (record { classes = N.classes })) }
     ensures desk { IsSend (desk.the_row N.row (record { queues = N.queues; config = N.config }) (record { board = N.board }) (record { classes = N.classes })) }
@@ -93,7 +94,7 @@ fn worker_crosses<N: ClusterName + Send>()
     can_send::<Worker<N>>();
 }
 
-/// What holds one lock for each of its values.
+/// Threads may share mailboxes and workers' places, each of which is one lock.
 fn places_cross<N: ClusterName + Send>()
     ensures mailbox { IsSync (mailbox.the_row N.row (record { board = N.board }) (record { classes = N.classes })) }
     ensures worker { IsSync (place.the_row N.row (record { queues = N.queues; config = N.config }) (record { board = N.board }) (record { classes = N.classes })) }

@@ -4,17 +4,23 @@ use group_cell::{Outgoing, Post};
 use placement::NodeId;
 use std::alloc::Global;
 
-/// What a node of a group sends, on its way.
-#[derive(Drop)]
-pub(crate) struct Delivery<N: ClusterName> {
+/// The origin of a message: the node of a group that sends it, and its first cause.
+#[derive(Clone, Copy)]
+pub(crate) struct Origin {
     pub cause: Cause,
     pub group: usize,
     pub sender: NodeId,
+}
+
+/// A message that a node of a group sends, on its way.
+#[derive(Drop)]
+pub(crate) struct Delivery<N: ClusterName> {
+    pub origin: Origin,
     pub outgoing: Outgoing<N>,
 }
 
 impl<N: ClusterName> Delivery<N> {
-    /// A fate has no power over a refusal.
+    /// True of a refusal, over which a fate has no power.
     pub fn is_refusal(&self) -> bool {
         matches!(self.outgoing, Outgoing::ToClient(_, Post::Refused(_)))
     }
@@ -27,9 +33,7 @@ impl<N: ClusterName> Delivery<N> {
             Outgoing::ToClient(_, _) => return None,
         };
         Some(Delivery {
-            cause: self.cause,
-            group: self.group,
-            sender: self.sender,
+            origin: self.origin,
             outgoing,
         })
     }

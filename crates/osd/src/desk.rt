@@ -7,17 +7,14 @@ use commit_board::{Board, Seen};
 use pg_log::ClientId;
 use std::marker::Model;
 
-/// The sessions that are ever opened.
-pub(crate) const SESSION_LIMIT: usize = 64;
-
-/// What a session holds of the cluster.
+/// The part of a cluster that a session holds.
 #[derive(Drop)]
 pub struct Opened<N: ClusterName> {
     /// Its client.
     pub client: ClientId,
-    /// What it has seen of the board: nothing yet.
+    /// Its token of the board, which has seen nothing yet.
     pub seen: Seen,
-    /// What it sends by.
+    /// Its sender.
     pub sends: Sends<N>,
 }
 
@@ -58,7 +55,8 @@ impl<N: ClusterName> Desk<N> {
         requires { board.now ≡ N.board }
         ensures { MatchOption result
             ((self.old ≡ 64) × (self.new ≡ 64))
-            (λ o. (self.old < 64) × (self.new ≡ self.old + 1) × (o.client ≡ self.new) × (o.seen ≡ knows N.board [])) }
+            (λ o. (self.old < 64) × (self.new ≡ self.old + 1) × (o.client ≡ self.new)
+            × (o.seen ≡ knows N.board [])) }
     {
         let sends = self.sends.pop()?;
         self.opened += 1;

@@ -1,4 +1,4 @@
-/// What becomes of a message.
+/// The way in which a message is sent or lost.
 #[derive(Clone, Copy, Debug, PartialEq, Eq)]
 pub enum DeliveryMode {
     /// It is sent.
@@ -11,7 +11,7 @@ pub enum DeliveryMode {
     Late,
 }
 
-/// What becomes of each message that nodes send, and of each Reply. Refusals, the monitors'
+/// Decides on each message that nodes send, and on each Reply. Refusals, the monitors'
 /// messages, and what `nudge` and `new_map` submit pass.
 pub trait Fate {
     /// Comes for each message of a worker, which are numbered from 0 on, modulo 2^64.

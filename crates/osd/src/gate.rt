@@ -1,4 +1,4 @@
-/// What a worker asks before each operation. It may keep the worker there; no lock is held
+/// A gate, which a worker asks before each operation. It may keep the worker there; no lock is held
 /// meanwhile. While it keeps a client's request, other workers go on with the operations of its
 /// shard; while it keeps another operation, they don't.
 pub trait Gate {

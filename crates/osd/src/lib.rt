@@ -20,6 +20,7 @@ mod delivery;
 mod desk;
 mod fate;
 mod gate;
+mod limits;
 mod logged;
 mod mailbox;
 mod monitors;

@@ -7,7 +7,7 @@ pub struct LoggedEntry {
     pub client: u32,
     /// The request's number.
     pub number: u32,
-    /// What the call answered; a negative code is an error.
+    /// The code of the call's answer; a negative one is an error.
     pub code: i64,
 }
 

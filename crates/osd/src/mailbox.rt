@@ -3,9 +3,15 @@ use group_cell::Post;
 use std::sync::{Mutex, Wait};
 
 /// A client's mailbox: the newest answer that it hasn't taken.
-#[derive(Drop)]
 pub(crate) struct Mailbox<N: ClusterName> {
     newest: Mutex<Option<Post<N>>>,
+}
+
+impl<N: ClusterName> Drop for Mailbox<N> {
+    fn drop(self) {
+        let Mailbox { newest } = self;
+        drop(newest);
+    }
 }
 
 impl<N: ClusterName> Mailbox<N> {

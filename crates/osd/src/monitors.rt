@@ -8,8 +8,8 @@ use map_book::{MapBook, MapError, NewMap};
 use placement::NodeId;
 use std::marker::Model;
 
-/// What lies under the monitors' lock: the book of maps, and what the monitors send by. Contracts
-/// see the book.
+/// The value under the monitors' lock: the book of maps, and the monitors' sender. Contracts see
+/// the book.
 #[derive(Drop)]
 pub(crate) struct Monitors<N: ClusterName> {
     book: MapBook,

@@ -61,7 +61,7 @@ impl<N: ClusterName> Newest<N> {
         self.maps[group].map.interval()
     }
 
-    /// Whether it is new.
+    /// True if it is new.
     pub fn is_new_interval(&self, group: usize) -> bool
         requires { group < N.config.groups }
     {

@@ -8,11 +8,22 @@ use std::sync::atomic::{AtomicBool, Ordering};
 
 /// A node: its part in each group, each part under a lock of its own. Contracts see how many groups
 /// it has.
-#[derive(Drop)]
 pub(crate) struct Node<N: ClusterName> {
     stopped: AtomicBool,
     cells: Vec<Mutex<GroupCell<N>>>,
     of: PhantomData<N>,
+}
+
+impl<N: ClusterName> Drop for Node<N> {
+    fn drop(self) {
+        let Node {
+            stopped,
+            cells,
+            of: _,
+        } = self;
+        drop(stopped);
+        drop(cells);
+    }
 }
 
 impl<N: ClusterName> Model for Node<N> {
@@ -44,7 +55,7 @@ impl<N: ClusterName> Node<N> {
         self.cells.get(group)
     }
 
-    /// Whether it is stopped. What reaches a stopped node is lost.
+    /// True if it is stopped. What reaches a stopped node is lost.
     pub fn is_stopped(&self) -> bool {
         self.stopped.load(Ordering::SeqCst)
     }

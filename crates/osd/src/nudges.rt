@@ -2,9 +2,9 @@ use crate::cause::Cause;
 use std::alloc::{AllocError, Global};
 use std::sync::atomic::{AtomicU64, Ordering};
 
-/// Of each group, how much of its last nudge is under way: the nudge itself, and the operations that
-/// go back to it and aren't served yet. A nudge that comes meanwhile adds nothing, since it would
-/// send the same again.
+/// Of each group, how much of its last nudge is under way: the nudge itself, and the operations
+/// that go back to it and aren't served yet. A nudge that comes meanwhile adds nothing, since it
+/// would send the same again.
 #[derive(Drop)]
 pub(crate) struct Nudges {
     under_way: Vec<AtomicU64>,

@@ -4,7 +4,7 @@ ghost use Rattle.osd.specs.Maps.{HasPrimary, IsBookOf};
 ghost use Rattle.osd.specs.Unnamed.{IsUnused};
 
 use crate::config::Config;
-use crate::desk::SESSION_LIMIT;
+use crate::limits::{OTHER_SENDERS, QUEUE_PLACES};
 use crate::queued::Queued;
 use commit_board::{Board, NoMemory, Seen, Writer};
 use map_book::{MapBook, NewMap};
@@ -13,17 +13,29 @@ use placement::NodeId;
 use std::alloc::{AllocError, Global};
 use std::marker::Model;
 
-/// The places of a queue.
-const QUEUE_PLACES: usize = 1024;
-
 /// A cluster that has no name yet: all of it but the classes, with a map of each group by which all
 /// nodes are up. Contracts see its board, its queues and what it is made of.
-#[derive(Drop)]
 pub struct Parts {
-    pub(crate) config: Config,
-    pub(crate) rows: Rows,
-    pub(crate) queues: AllQueues,
-    pub(crate) maps: Maps,
+    config: Config,
+    rows: Rows,
+    queues: AllQueues,
+    maps: Maps,
+}
+
+// Written out, so that a crate that drops them calls this and needn't prove again how each part is
+// dropped.
+impl Drop for Parts {
+    fn drop(self) {
+        let Parts {
+            config: _,
+            rows,
+            queues,
+            maps,
+        } = self;
+        drop(rows);
+        drop(queues);
+        drop(maps);
+    }
 }
 
 /// The board, an unused writer for each node of each group, and a token that knows nothing.
@@ -60,11 +72,15 @@ impl Model for Parts {
     ghost view = { λ p. record { board = p.rows.board; queues = p.queues.shards.queues; config = p.config } };
 
     ghost invariant = { λ p. IsTrue (is_within_limits p.config)
-        × (vec_len p.rows.writers ≡ p.config.nodes * p.config.groups) × All (IsUnused p.rows.board) p.rows.writers.items
+        × (vec_len p.rows.writers ≡ p.config.nodes * p.config.groups)
+        × All (IsUnused p.rows.board) p.rows.writers.items
         × (p.rows.seen.board ≡ p.rows.board)
-        × (vec_len p.queues.sends ≡ 65 + p.config.workers) × All (λ s. s.queues ≡ p.queues.shards.queues) p.queues.sends.items
-        × (vec_len p.queues.takes ≡ p.config.workers) × All (λ t. t.queues ≡ p.queues.shards.queues) p.queues.takes.items
-        × IsBookOf p.config p.maps.book × (length p.maps.newest.items ≡ p.config.groups) × All HasPrimary p.maps.newest.items };
+        × (vec_len p.queues.sends ≡ 65 + p.config.workers)
+        × All (λ s. s.queues ≡ p.queues.shards.queues) p.queues.sends.items
+        × (vec_len p.queues.takes ≡ p.config.workers)
+        × All (λ t. t.queues ≡ p.queues.shards.queues) p.queues.takes.items
+        × IsBookOf p.config p.maps.book × (length p.maps.newest.items ≡ p.config.groups)
+        × All HasPrimary p.maps.newest.items };
 }
 
 impl Parts {
@@ -83,6 +99,26 @@ impl Parts {
             queues,
             maps,
         })
+    }
+
+    /// The numbers, the board, the queues and the maps.
+    pub(crate) fn into_pieces(self) -> (Config, Rows, AllQueues, Maps)
+        ensures config { (result.0 ≡ self.config) × IsTrue (is_within_limits result.0) }
+        ensures board { (result.1.board ≡ self.board) × (result.1.seen.board ≡ result.1.board) }
+        ensures writers { (vec_len result.1.writers ≡ result.0.nodes * result.0.groups) × All (IsUnused result.1.board) result.1.writers.items }
+        ensures queues { result.2.shards.queues ≡ self.queues }
+        ensures sends { (vec_len result.2.sends ≡ 65 + result.0.workers) × All (λ s. s.queues ≡ result.2.shards.queues) result.2.sends.items }
+        ensures takes { (vec_len result.2.takes ≡ result.0.workers) × All (λ t. t.queues ≡ result.2.shards.queues) result.2.takes.items }
+        ensures book { IsBookOf result.0 result.3.book }
+        ensures newest { (length result.3.newest.items ≡ result.0.groups) × All HasPrimary result.3.newest.items }
+    {
+        let Parts {
+            config,
+            rows,
+            queues,
+            maps,
+        } = self;
+        (config, rows, queues, maps)
     }
 }
 
@@ -106,7 +142,7 @@ fn queues_of(alloc: Global, config: &Config) -> Result<AllQueues, NoMemory>
     ensures sends { IfOk result (λ q. (vec_len q.sends ≡ 65 + config.now.workers) × All (λ s. s.queues ≡ q.shards.queues) q.sends.items) }
     ensures takes { IfOk result (λ q. (vec_len q.takes ≡ config.now.workers) × All (λ t. t.queues ≡ q.shards.queues) q.takes.items) }
 {
-    let senders = SESSION_LIMIT + 1 + config.workers;
+    let senders = OTHER_SENDERS + config.workers;
     let made = OpShards::new(alloc, config.shards, QUEUE_PLACES, senders, config.workers);
     let Ok((shards, sends, takes)) = made else {
         return Err(NoMemory);

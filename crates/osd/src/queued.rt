@@ -6,11 +6,20 @@ use op_shards::Op;
 use std::marker::Model;
 
 /// An operation in a queue. A place of a queue holds its box, so that queues are small. Contracts
-/// see the operation; what it goes back to is for the count of nudges alone.
-#[derive(Drop)]
+/// see the operation; the cause is for the count of nudges alone.
 pub struct Queued {
     operation: Box<Operation>,
     cause: Cause,
+}
+
+impl Drop for Queued {
+    fn drop(self) {
+        let Queued {
+            operation,
+            cause: _,
+        } = self;
+        drop(operation);
+    }
 }
 
 impl Model for Queued {
@@ -37,7 +46,7 @@ impl Queued {
         Queued { operation, cause }
     }
 
-    /// What it goes back to.
+    /// Its first cause.
     pub fn cause(&self) -> Cause {
         self.cause
     }
@@ -46,6 +55,10 @@ impl Queued {
     pub fn into_operation(self) -> Operation
         ensures { result ≡ self }
     {
-        Box::into_inner(self.operation)
+        let Queued {
+            operation,
+            cause: _,
+        } = self;
+        Box::into_inner(operation)
     }
 }

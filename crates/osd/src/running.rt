@@ -38,7 +38,6 @@ use std::sync::{Mutex, MutexGuard, Wait};
 ///
 /// A thread holds at most one lock at a time; only `new_map` holds two, the monitors' and then the
 /// newest maps'.
-#[derive(Drop)]
 pub struct Running<N: ClusterName, R> {
     alloc: Global,
     rt: R,
@@ -55,6 +54,41 @@ pub struct Running<N: ClusterName, R> {
     schedule: Schedule,
     bell: Bell,
     nudges: Nudges,
+}
+
+impl<N: ClusterName, R: Drop> Drop for Running<N, R> {
+    fn drop(self) {
+        let Running {
+            alloc: _,
+            rt,
+            config: _,
+            board,
+            table,
+            shards,
+            nodes,
+            mail,
+            desk,
+            monitors,
+            newest,
+            workers,
+            schedule,
+            bell,
+            nudges,
+        } = self;
+        drop(rt);
+        drop(board);
+        drop(table);
+        drop(shards);
+        drop(nodes);
+        drop(mail);
+        drop(desk);
+        drop(monitors);
+        drop(newest);
+        drop(workers);
+        drop(schedule);
+        drop(bell);
+        drop(nudges);
+    }
 }
 
 impl<N: ClusterName, R> Model for Running<N, R> {
@@ -76,7 +110,7 @@ impl<N: ClusterName, R: Wait> Running<N, R> {
         &self.rt
     }
 
-    /// What it is made of.
+    /// The numbers that it is made of.
     pub fn config(&self) -> &Config
         ensures value { result.now ≡ self.now }
         ensures name { result.now ≡ N.config }

@@ -10,9 +10,9 @@ use std::marker::Brand;
 use std::sync::Wait;
 use std::thread::Threads;
 
-/// What is played on a cluster, whatever its names are.
+/// A scenario that is played on a cluster, whatever the cluster's names are.
 pub trait Scenario {
-    /// What comes of it.
+    /// The result of it.
     type Output;
 
     ghost use Rattle.pg_log.specs.Log.{Classes};

@@ -1,3 +1,4 @@
+use crate::limits::SHARD_LIMIT;
 use std::sync::Wait;
 use std::sync::atomic::{AtomicBool, AtomicU64, Ordering};
 use std::thread::yield_now;
@@ -13,9 +14,10 @@ pub(crate) struct Schedule {
     has_skipped: AtomicBool,
 }
 
-/// The bit of a shard; there are 64 at most.
+/// The bit of a shard.
 fn bit_of(shard: usize) -> u64 {
-    1 << (shard % 64)
+    // The remainder is the shard itself. It shows the proof that the shift stays within the word.
+    1 << (shard % SHARD_LIMIT)
 }
 
 impl Schedule {
@@ -27,7 +29,7 @@ impl Schedule {
         }
     }
 
-    /// Whether a worker has claimed the shard.
+    /// True while a worker has claimed the shard.
     pub fn is_claimed(&self, shard: usize) -> bool {
         self.claimed.load(Ordering::SeqCst) & bit_of(shard) != 0
     }
@@ -55,7 +57,7 @@ impl Schedule {
         self.claimed.fetch_and(!bit_of(shard), Ordering::SeqCst);
     }
 
-    /// Whether a worker skipped a shard since this was asked before. Who asks rings for it.
+    /// True if a worker skipped a shard since this was asked before. Who asks rings for it.
     pub fn has_skipped(&self) -> bool {
         self.has_skipped.swap(false, Ordering::SeqCst)
     }

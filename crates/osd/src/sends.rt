@@ -8,11 +8,17 @@ use op_shards::{OpShards, SendPass, TakePass};
 use std::marker::{Model, PhantomData};
 use std::sync::Wait;
 
-/// What a sender holds: a pass of the cluster's queues. Contracts see the pass.
-#[derive(Drop)]
+/// A sender: a pass of the cluster's queues. Contracts see the pass.
 pub struct Sends<N: ClusterName> {
     pass: SendPass<Queued>,
     of: PhantomData<N>,
+}
+
+impl<N: ClusterName> Drop for Sends<N> {
+    fn drop(self) {
+        let Sends { pass, of: _ } = self;
+        drop(pass);
+    }
 }
 
 impl<N: ClusterName> Model for Sends<N> {
@@ -54,7 +60,7 @@ impl<N: ClusterName> Sends<N> {
         shards.submit(rt, &mut self.pass, queued)
     }
 
-    /// How many places of the shard's queue are free at one moment.
+    /// The number of places of the shard's queue that are free at one moment.
     pub(crate) fn free_places<R: Wait>(
         &mut self,
         rt: &R,
@@ -69,11 +75,17 @@ impl<N: ClusterName> Sends<N> {
     }
 }
 
-/// What a worker takes by: a pass of the cluster's queues.
-#[derive(Drop)]
+/// A worker's taker: a pass of the cluster's queues.
 pub(crate) struct Takes<N: ClusterName> {
     pass: TakePass<Queued>,
     of: PhantomData<N>,
+}
+
+impl<N: ClusterName> Drop for Takes<N> {
+    fn drop(self) {
+        let Takes { pass, of: _ } = self;
+        drop(pass);
+    }
 }
 
 impl<N: ClusterName> Model for Takes<N> {
@@ -112,7 +124,7 @@ impl<N: ClusterName> Takes<N> {
         shards.take(rt, &mut self.pass, shard)
     }
 
-    /// Whether the shard's queue is empty at one moment. False says nothing.
+    /// True only if the shard's queue is empty at one moment. False says nothing.
     pub fn is_empty(&mut self, shards: &OpShards<Queued>, shard: usize) -> bool
         requires queues { shards.now.queues ≡ N.queues }
         requires shard { shard < length shards.now.queues.names }

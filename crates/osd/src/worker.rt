@@ -3,13 +3,13 @@ use crate::name::ClusterName;
 use crate::sends::{Sends, Takes};
 use std::sync::{Mutex, Wait};
 
-/// What a worker serves by.
+/// A worker's own values, by which it serves.
 #[derive(Drop)]
 pub(crate) struct Worker<N: ClusterName> {
     pub number: usize,
     pub takes: Takes<N>,
     pub sends: Sends<N>,
-    /// How many messages it has sent or lost.
+    /// The number of messages that it has sent or lost.
     pub messages: u64,
     /// The message that is sent after the next one.
     pub late: Option<Delivery<N>>,
@@ -29,9 +29,15 @@ impl<N: ClusterName> Worker<N> {
 }
 
 /// The place of a worker, which is empty once it serves.
-#[derive(Drop)]
 pub(crate) struct WorkerPlace<N: ClusterName> {
     worker: Mutex<Option<Worker<N>>>,
+}
+
+impl<N: ClusterName> Drop for WorkerPlace<N> {
+    fn drop(self) {
+        let WorkerPlace { worker } = self;
+        drop(worker);
+    }
 }
 
 impl<N: ClusterName> WorkerPlace<N> {

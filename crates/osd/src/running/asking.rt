@@ -7,6 +7,7 @@ ghost use Rattle.osd.specs.Sent.{OnlySent, IsThat};
 
 use crate::ask_error::AskError;
 use crate::cause::Cause;
+use crate::limits::KEPT_PLACES;
 use crate::name::ClusterName;
 use crate::queued::Queued;
 use crate::running::Running;
@@ -15,10 +16,6 @@ use carried::{Carried, Operation};
 use group_world::Event;
 use pg_log::Request;
 use std::sync::Wait;
-
-/// The places of a queue that clients and nudges leave to what nodes send to one another: above all
-/// to what ends a peering, which nobody sends again before the next nudge.
-const KEPT_PLACES: usize = 256;
 
 impl<N: ClusterName, R: Wait> Running<N, R> {
     /// Submits a copy of the request to the newest map's primary of its object's group. Full: fewer
@@ -50,7 +47,7 @@ impl<N: ClusterName, R: Wait> Running<N, R> {
         )
     }
 
-    /// Whether the queue of the group has more places free than clients and nudges leave to the
+    /// True if the queue of the group has as many places free as clients and nudges leave to the
     /// nodes.
     pub(crate) fn has_room(&self, sends: &mut Sends<N>, group: usize) -> bool
         ensures { sends.new ≡ sends.old }

@@ -1,8 +1,7 @@
 ghost use Rattle.std.specs.Prelude.{◌<◌};
 ghost use Rattle.osd.specs.Sent.{OnlySent, IsOf, IsInternalTo};
 
-use crate::cause::Cause;
-use crate::delivery::Delivery;
+use crate::delivery::{Delivery, Origin};
 use crate::name::ClusterName;
 use crate::running::Running;
 use crate::sends::Sends;
@@ -10,51 +9,39 @@ use carried::{Carried, Operation};
 use group_cell::{Outgoing, Post};
 use group_world::{Epoch, Event, Message, MessageKind, Party};
 use pg_log::ClientId;
-use placement::NodeId;
 use std::sync::Wait;
 
 impl<N: ClusterName, R: Wait> Running<N, R> {
     /// Brings what a node sends to whom it is for. It is lost where a queue is full, or memory is
     /// refused.
     pub(crate) fn deliver(&self, sends: &mut Sends<N>, delivery: Delivery<N>)
-        ensures { OnlySent sends.old sends.new (IsOf delivery.group delivery.outgoing) }
+        ensures { OnlySent sends.old sends.new (IsOf delivery.origin.group delivery.outgoing) }
     {
-        let Delivery {
-            cause,
-            group,
-            sender,
-            outgoing,
-        } = delivery;
+        let Delivery { origin, outgoing } = delivery;
         match outgoing {
             Outgoing::ToNode(node, carried) => {
                 let _ = self.submit(
                     sends,
-                    cause,
+                    origin.cause,
                     Operation {
-                        group,
+                        group: origin.group,
                         node,
                         carried,
                     },
                 );
             }
             Outgoing::ToMonitor(interval) => {
-                self.ask_monitor(sends, cause, group, sender, interval);
+                self.ask_monitor(sends, origin, interval);
             }
             Outgoing::ToClient(client, post) => self.post(client, post),
         }
     }
 
     /// Asks the group's monitor to activate the interval, and tells the node where it did.
-    fn ask_monitor(
-        &self,
-        sends: &mut Sends<N>,
-        cause: Cause,
-        group: usize,
-        node: NodeId,
-        interval: Epoch,
-    )
-        ensures { OnlySent sends.old sends.new (IsInternalTo group) }
+    fn ask_monitor(&self, sends: &mut Sends<N>, origin: Origin, interval: Epoch)
+        ensures { OnlySent sends.old sends.new (IsInternalTo origin.group) }
     {
+        let group = origin.group;
         if group >= self.config.groups as usize || !self.activates(group, interval) {
             return;
         }
@@ -64,10 +51,10 @@ impl<N: ClusterName, R: Wait> Running<N, R> {
         }));
         let _ = self.submit(
             sends,
-            cause,
+            origin.cause,
             Operation {
                 group,
-                node,
+                node: origin.sender,
                 carried,
             },
         );

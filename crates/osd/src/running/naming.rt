@@ -3,7 +3,8 @@ ghost use Rattle.osd.specs.Unnamed.{IsUnused};
 
 use crate::bell::Bell;
 use crate::config::Config;
-use crate::desk::{Desk, SESSION_LIMIT};
+use crate::desk::Desk;
+use crate::limits::SESSION_LIMIT;
 use crate::mailbox::Mailbox;
 use crate::monitors::Monitors;
 use crate::name::ClusterName;
@@ -47,16 +48,12 @@ impl<N: ClusterName, R: Wait + Drop> Running<N, R> {
         // The call names the cluster, not a constructor of its parts: a call picks the names of
         // values that are there already. So classes are loaded before the cluster has a name, and
         // none after.
-        let Parts { config, rows, queues, maps } = parts;
+        let (config, rows, queues, maps) = parts.into_pieces();
         let Rows { board, mut writers, seen } = rows;
         let AllQueues { shards, sends, takes } = queues;
+        let made = made_of::<N>(alloc, &config, &mut writers, sends, takes)?;
+        let Made { nodes, mail, of_monitors, of_sessions, workers, nudges } = made;
         let Maps { book, newest } = maps;
-        let nodes = nodes_of::<N>(alloc, &config, &mut writers)?;
-        let mail = mailboxes::<N>(alloc)?;
-        let mut senders = senders_of::<N>(alloc, sends)?;
-        let monitors = Monitors::new(book, senders.pop().unwrap());
-        let workers = workers_of::<N>(alloc, &mut senders, takes)?;
-        let nudges = Nudges::new(alloc, config.groups as usize)?;
         let running = Running {
             alloc,
             rt,
@@ -66,8 +63,8 @@ impl<N: ClusterName, R: Wait + Drop> Running<N, R> {
             shards,
             nodes,
             mail,
-            desk: Mutex::new(Desk::new(seen, senders)),
-            monitors: Mutex::new(monitors),
+            desk: Mutex::new(Desk::new(seen, of_sessions)),
+            monitors: Mutex::new(Monitors::new(book, of_monitors)),
             newest: Mutex::new(Newest::new(newest)),
             workers,
             schedule: Schedule::new(),
@@ -83,6 +80,52 @@ impl<N: ClusterName, R: Wait + Drop> Running<N, R> {
         let mut monitors = self.monitors.lock(&self.rt);
         self.tell_all(&mut monitors.sends);
     }
+}
+
+/// The values of a cluster that are made when it gets its name.
+// All calls that memory may be refused to stand in `made_of`: each of them is a way out that drops
+// all that is owned there, and the caller owns much more.
+struct Made<N: ClusterName> {
+    nodes: Vec<Node<N>>,
+    mail: Vec<Mailbox<N>>,
+    /// The monitors' sender.
+    of_monitors: Sends<N>,
+    /// A sender for each session.
+    of_sessions: Vec<Sends<N>>,
+    workers: Vec<WorkerPlace<N>>,
+    nudges: Nudges,
+}
+
+/// Those values, by the tokens and the passes of the parts.
+fn made_of<N: ClusterName>(
+    alloc: Global,
+    config: &Config,
+    writers: &mut Vec<Writer>,
+    sends: Vec<SendPass<Queued>>,
+    takes: Vec<TakePass<Queued>>,
+) -> Result<Made<N>, AllocError>
+    requires config { config.now ≡ N.config }
+    requires writers { vec_len writers.old ≡ config.now.nodes * config.now.groups }
+    requires unused { All (IsUnused N.board) writers.old.items }
+    requires sends { (vec_len sends ≡ 65 + config.now.workers) × All (λ s. s.queues ≡ N.queues) sends.items }
+    requires takes { (vec_len takes ≡ config.now.workers) × All (λ t. t.queues ≡ N.queues) takes.items }
+    ensures nodes { IfOk result (λ m. vec_len m.nodes ≡ config.now.nodes) }
+    ensures sessions { IfOk result (λ m. vec_len m.of_sessions ≡ 64) }
+{
+    let mut senders = senders_of::<N>(alloc, sends)?;
+    let of_monitors = senders.pop().unwrap();
+    let workers = workers_of::<N>(alloc, &mut senders, takes)?;
+    let nodes = nodes_of::<N>(alloc, config, writers)?;
+    let mail = mailboxes::<N>(alloc)?;
+    let nudges = Nudges::new(alloc, config.groups as usize)?;
+    Ok(Made {
+        nodes,
+        mail,
+        of_monitors,
+        of_sessions: senders,
+        workers,
+        nudges,
+    })
 }
 
 /// The nodes, each with a cell for each group, which takes one of the writers.

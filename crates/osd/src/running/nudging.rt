@@ -3,7 +3,7 @@ ghost use Rattle.op_shards.specs.Passes.{Grew};
 ghost use Rattle.osd.specs.Sent.{OnlySent, IsInternalTo, IsOfNodeOrLost};
 
 use crate::cause::Cause;
-use crate::delivery::Delivery;
+use crate::delivery::{Delivery, Origin};
 use crate::name::ClusterName;
 use crate::running::Running;
 use crate::sends::Sends;
@@ -65,7 +65,7 @@ impl<N: ClusterName, R: Wait> Running<N, R> {
         self.tell_map(sends, Cause::Nudge, group, node);
     }
 
-    /// Whether a node's interval is lower than the newest map's.
+    /// True if a node's interval is lower than the newest map's.
     fn is_behind(&self, group: usize, node: NodeId) -> bool
         requires { group < N.config.groups }
     {
@@ -117,7 +117,8 @@ impl<N: ClusterName, R: Wait> Running<N, R> {
         }
     }
 
-    /// What a node sent and still waits for, if it isn't stopped. Memory refused is a message lost.
+    /// The messages that a node sent and whose answers it still waits for, if it isn't stopped. A
+    /// message is lost if memory is refused.
     fn unanswered(&self, group: usize, node: NodeId) -> Vec<Option<Outgoing<N>>>
         ensures { All IsOfNodeOrLost result.items }
     {
@@ -131,8 +132,8 @@ impl<N: ClusterName, R: Wait> Running<N, R> {
         }
     }
 
-    /// Whether it takes none of the places that a nudge leaves to the nodes. What goes to the
-    /// monitors may end a peering.
+    /// True if it takes none of the places that a nudge leaves to the nodes. A message to the
+    /// monitors may always go out, since it may end a peering.
     fn may_go_out(&self, sends: &mut Sends<N>, group: usize, outgoing: &Outgoing<N>) -> bool
         ensures { sends.new ≡ sends.old }
     {
@@ -160,12 +161,11 @@ impl<N: ClusterName, R: Wait> Running<N, R> {
         if !self.may_go_out(sends, group, &outgoing) {
             return;
         }
-        let delivery = Delivery {
+        let origin = Origin {
             cause: Cause::Nudge,
             group,
             sender,
-            outgoing,
         };
-        self.deliver(sends, delivery);
+        self.deliver(sends, Delivery { origin, outgoing });
     }
 }

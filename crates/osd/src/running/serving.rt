@@ -4,7 +4,7 @@ ghost use Rattle.osd.specs.Sent.{OnlySent, IsAny};
 ghost use Rattle.osd.specs.Turned.{WasTurn, IsLostOrTurn};
 
 use crate::cause::Cause;
-use crate::delivery::Delivery;
+use crate::delivery::{Delivery, Origin};
 use crate::fate::{DeliveryMode, Fate, PassAll};
 use crate::gate::Gate;
 use crate::name::ClusterName;
@@ -18,13 +18,13 @@ use placement::NodeId;
 use std::hint::spin_loop;
 use std::sync::Wait;
 
-/// How many shards a worker that found nothing looks at again before it waits. That takes about as
-/// long as to wait and to be woken, and the next operation of a client that calls again and again
-/// comes meanwhile.
+/// The number of shards that a worker which found nothing looks at again before it waits. That
+/// takes about as long as to wait and to be woken, and the next operation of a client that calls
+/// again and again comes meanwhile.
 const SPINS: usize = 128;
 
-/// What a gate gets of an operation: for a client's request the client's number times 2^32 and the
-/// request's number, else 0.
+/// The number by which a gate knows an operation: for a client's request the client's number times
+/// 2^32 and the request's number, else 0.
 fn gate_number(carried: &Carried) -> u64
     ensures { result ≡ gate_number carried.now }
 {
@@ -78,7 +78,7 @@ impl<N: ClusterName, R: Wait> Running<N, R> {
         self.bell.finish(&self.rt);
     }
 
-    /// What the worker of that number serves by, once.
+    /// The worker of that number, once.
     fn worker(&self, number: usize) -> Option<Worker<N>> {
         self.workers.get(number)?.take(&self.rt)
     }
@@ -187,7 +187,12 @@ impl<N: ClusterName, R: Wait> Running<N, R> {
             carried,
         } = operation;
         for outgoing in self.handle(group, node, carried) {
-            self.send_some(worker, fate, cause, group, node, outgoing);
+            let origin = Origin {
+                cause,
+                group,
+                sender: node,
+            };
+            self.send_some(worker, fate, origin, outgoing);
         }
     }
 
@@ -196,9 +201,7 @@ impl<N: ClusterName, R: Wait> Running<N, R> {
         &self,
         worker: &mut Worker<N>,
         fate: &F,
-        cause: Cause,
-        group: usize,
-        sender: NodeId,
+        origin: Origin,
         outgoing: Option<Outgoing<N>>,
     )
         ensures { OnlySent worker.old.sends worker.new.sends IsAny }
@@ -206,18 +209,11 @@ impl<N: ClusterName, R: Wait> Running<N, R> {
         let Some(outgoing) = outgoing else {
             return;
         };
-        let delivery = Delivery {
-            cause,
-            group,
-            sender,
-            outgoing,
-        };
-        self.send(worker, fate, delivery);
+        self.send(worker, fate, Delivery { origin, outgoing });
     }
 
-    /// What a node's part in a group makes of what reaches it: what goes out by a turn of its cell,
-    /// or nothing where it is lost. What reaches a stopped node is lost, and so is what memory is
-    /// refused to.
+    /// The messages that go out by a turn of a node's cell with what reaches it; none if that is
+    /// lost. It is lost if the node is stopped, or if memory is refused.
     fn handle(&self, group: usize, node: NodeId, carried: Carried) -> Vec<Option<Outgoing<N>>>
         ensures { IsLostOrTurn N.classes carried result.items }
     {
