@@ -5,7 +5,7 @@ use object_store::ObjectName;
 use pg_log::{ClientId, Request, RequestNumber, RequestParts};
 use std::alloc::{AllocError, Global};
 
-/// What a call asks for. Its input is head, body and tail, one after another.
+/// A call of a method. Its input is head, body and tail, one after another.
 #[derive(Clone, Copy)]
 pub(crate) struct Call<'a> {
     pub object: &'a ObjectName,

@@ -21,18 +21,26 @@ use verifier::{Rule, VerifiedClass, verify};
 /// A cluster of nodes in one process, before and after it runs. Classes are loaded before; then a
 /// scenario is run on it, which opens sessions and brings the threads. Contracts see how many
 /// classes are loaded; before it runs also what it is made of, and which classes.
-#[derive(Drop)]
 pub struct Cluster {
     alloc: Global,
     stage: Stage,
 }
 
-/// Whether a cluster has run.
+// Written out, here and at the other public types, so that a crate that drops one calls this and
+// needn't prove again how its parts are dropped.
+impl Drop for Cluster {
+    fn drop(self) {
+        let Cluster { alloc: _, stage } = self;
+        drop(stage);
+    }
+}
+
+/// The stage of a cluster.
 #[derive(Drop)]
 enum Stage {
-    /// Not yet: it has its parts and its classes.
+    /// It hasn't run: it has its parts and its classes.
     Idle(Parts, ClassTable),
-    /// It has, with this number of classes.
+    /// It has run, with this number of classes.
     Started(usize),
 }
 
@@ -144,7 +152,7 @@ impl Cluster {
 impl Stage {
     ghost use Rattle.rados_client.specs.Stages.{state_of};
 
-    /// How many classes are loaded.
+    /// The number of loaded classes.
     fn count(&self) -> usize
         ensures { result ≡ (state_of self.now).count }
     {

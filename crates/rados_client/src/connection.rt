@@ -18,17 +18,29 @@ use std::marker::Model;
 use std::sync::Wait;
 use std::thread;
 
-/// How many turns the other threads are given after a queue was full.
+/// The number of turns that the other threads are given after a queue was full.
 const TURNS_WHEN_FULL: u32 = 64;
 
-/// What a session shares with its cluster: what it has seen of the board, and the pass that it
-/// submits by; and how often it nudged.
-#[derive(Drop)]
+/// A session's connection to its cluster: its token of the board, its sender, and the number of its
+/// nudges.
 pub(crate) struct Connection<'a, N: ClusterName, R> {
     running: &'a Running<N, R>,
     seen: Seen,
     sends: Sends<N>,
     nudges: u64,
+}
+
+impl<N: ClusterName, R> Drop for Connection<'_, N, R> {
+    fn drop(self) {
+        let Connection {
+            running: _,
+            seen,
+            sends,
+            nudges: _,
+        } = self;
+        drop(seen);
+        drop(sends);
+    }
 }
 
 impl<'a, N: ClusterName, R> Model for Connection<'a, N, R> {
@@ -69,7 +81,7 @@ impl<'a, N: ClusterName, R: Wait> Connection<'a, N, R> {
         self.running
     }
 
-    /// How often the request's group was nudged, over all calls.
+    /// The number of times that a request's group was nudged, over all calls.
     pub fn nudges(&self) -> u64
         ensures { result ≡ self.now.nudges }
     {
@@ -219,7 +231,7 @@ impl<'a, N: ClusterName, R: Wait> Connection<'a, N, R> {
     }
 }
 
-/// Gives the other threads so many turns.
+/// Gives the other threads that number of turns.
 fn pause(turns: u32) {
     for _ in 0..turns {
         thread::yield_now();

@@ -11,7 +11,7 @@ use osd::ClusterName;
 use std::alloc::Global;
 use std::sync::Wait;
 
-/// What a call answers whose output is longer than the buffer: ERANGE of Linux.
+/// The answer of a call whose output is longer than the buffer: ERANGE of Linux.
 const TOO_LONG: i64 = -34;
 
 impl<N: ClusterName, R: Wait> Session<'_, N, R> {

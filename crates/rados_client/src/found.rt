@@ -3,7 +3,7 @@ use crate::reply::Reply;
 use group_cell::Refused;
 use osd::ClusterName;
 
-/// What a look into the mailbox came to.
+/// The result of a look into the mailbox.
 #[derive(Drop)]
 pub(crate) enum Found {
     /// No answer to the request.

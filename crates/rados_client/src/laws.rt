@@ -1,4 +1,4 @@
-//! What follows from a promise, for the crates above. The functions do nothing.
+//! The consequences of a promise, for the crates above. The functions do nothing.
 ghost use Rattle.std.specs.Prelude.{◌≡◌, ◌-◌, ◌^◌, List, Result, Err};
 ghost use Rattle.pg_log.specs.Requests.{ClientRequest};
 ghost use Rattle.pg_log.specs.Log.{Classes};
@@ -9,8 +9,8 @@ ghost use Rattle.rados_client.specs.declared.exec_error.ExecError.TheVariants.{N
 
 use pg_log::replies_run;
 
-/// What a session may believe of a reply is so, whoever knows it: the reply is true in some legal
-/// list of these classes.
+/// A reply that a session may believe is true, whoever knows it: it is true in some legal list of
+/// these classes.
 pub fn replies_are_true()
     ensures { (classes : Classes) (lists : List (List ClientRequest)) (r : ClientRequest) (reply : PlacedReply) → IsAnswered classes lists r reply → IsAnswerIn classes r reply }
 {}

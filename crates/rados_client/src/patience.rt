@@ -2,25 +2,25 @@ ghost use Rattle.std.specs.Prelude.{◌≡◌, true, false, MatchBool};
 
 use crate::exec_error::ExecError;
 
-/// After how many looks in a row without an answer a request is submitted again.
+/// The number of looks in a row without an answer after which a request is submitted again.
 const LOOKS: u32 = 1_000;
 
-/// How many turns a look gives the other threads at most.
+/// The most turns that a look gives the other threads.
 const TURNS: u32 = 64;
 
-/// How long a session goes on looking before it submits the request again, and whether a queue has
-/// taken the request. At least one look comes before each repeat, so that a session sees its answer
-/// also while its queue is full.
+/// The time that a session goes on looking before it submits the request again, and the fact that a
+/// queue has taken the request. At least one look comes before each repeat, so that a session sees
+/// its answer also while its queue is full.
 #[derive(Clone, Copy)]
 pub(crate) struct Patience {
     looks_left: u32,
-    /// How many looks follow the call's next refusal: 1 after the first, and twice as many after
-    /// each further one, up to `LOOKS`. A group that is in peering refuses at once, and would be
-    /// nudged by each session all the time.
+    /// The number of looks that follow the call's next refusal: 1 after the first, and twice as
+    /// many after each further one, up to `LOOKS`. A group that is in peering refuses at once, and
+    /// would be nudged by each session all the time.
     looks_when_refused: u32,
-    /// How many turns each look gives the other threads: 1, and twice as many after each repeat of
-    /// the request, up to `TURNS`. Who waits for the end of a long peering would nudge thousands of
-    /// times else.
+    /// The number of turns that each look gives the other threads: 1, and twice as many after each
+    /// repeat of the request, up to `TURNS`. Who waits for the end of a long peering would nudge
+    /// thousands of times else.
     turns: u32,
     pub taken: bool,
 }
@@ -50,12 +50,12 @@ impl Patience {
         }
     }
 
-    /// Whether the request is to be submitted again.
+    /// True if the request is to be submitted again.
     pub fn is_over(&self) -> bool {
         self.looks_left == 0
     }
 
-    /// How many turns a look gives the other threads.
+    /// The number of turns that a look gives the other threads.
     pub fn turns(&self) -> u32 {
         self.turns
     }
@@ -99,7 +99,7 @@ impl Patience {
         self.turns = self.turns.saturating_mul(2).min(TURNS);
     }
 
-    /// What a call is refused by where its tries are used up.
+    /// The refusal of a call whose tries are used up.
     pub fn end(&self) -> ExecError
         ensures { MatchBool self.now.taken (result ≡ ExecError.Unanswered) (result ≡ ExecError.NotTaken) }
     {

@@ -5,10 +5,16 @@ use group_world::{CallReply, Place};
 use std::marker::Model;
 
 /// The reply to a call. Contracts see its place and its answer.
-#[derive(Drop)]
 pub struct Reply {
     place: Place,
     answer: CallReply,
+}
+
+impl Drop for Reply {
+    fn drop(self) {
+        let Reply { place: _, answer } = self;
+        drop(answer);
+    }
 }
 
 impl Model for Reply {

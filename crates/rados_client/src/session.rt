@@ -19,12 +19,24 @@ use std::sync::Wait;
 /// A client's session of a running cluster. It makes one call after another; a session of another
 /// thread makes its own. Contracts see its client, how many numbers it has used up, the request
 /// that it sent last, and what it knows.
-#[derive(Drop)]
 pub struct Session<'a, N: ClusterName, R> {
     client: ClientId,
     used: u32,
     last: Option<Request>,
     connection: Connection<'a, N, R>,
+}
+
+impl<N: ClusterName, R> Drop for Session<'_, N, R> {
+    fn drop(self) {
+        let Session {
+            client: _,
+            used: _,
+            last,
+            connection,
+        } = self;
+        drop(last);
+        drop(connection);
+    }
 }
 
 impl<'a, N: ClusterName, R> Model for Session<'a, N, R> {
@@ -66,8 +78,8 @@ impl<'a, N: ClusterName, R: Wait> Session<'a, N, R> {
         self.client
     }
 
-    /// How many times it nudged a group since it was opened; a call nudges before each repeat of
-    /// its request.
+    /// The number of times that it nudged a group since it was opened; a call nudges before each
+    /// repeat of its request.
     pub fn nudges(&self) -> u64
         ensures { result ≡ self.now.contact.nudges }
     {
