@@ -23,7 +23,7 @@ use std::thread::Threads;
 use std::time::Clock;
 use tenant_classes::{class_names, classes};
 
-/// How a file ended.
+/// The end of a file.
 #[derive(Clone, Copy, Drop)]
 pub enum Ending {
     /// Each call was made, refused ones too, and all lines were printed.
@@ -38,15 +38,15 @@ pub enum Ending {
     Unprinted,
 }
 
-/// What else is asked for of a file: by which meter it is measured, and whether the line of each call
-/// shows what was asked.
+/// The manner in which a file is played: the meter that measures it, and whether the line of each
+/// call shows what was asked.
 #[derive(Drop)]
 struct Extras<'a, 'b, E> {
     meter: &'a mut Meter<'b, E>,
     is_shown: bool,
 }
 
-/// What is printed of a file, and how it ended.
+/// The text that is printed of a file, and its end.
 #[derive(Drop)]
 struct Printout {
     text: String,
@@ -98,7 +98,7 @@ fn print<O: Output>(printout: Printout, out: &mut O) -> Ending
     }
 }
 
-/// What comes of a text.
+/// Plays a text.
 fn settle<R: Threads + Wait + Clock + Sync + Drop, E: io::Write>(
     alloc: Global,
     rt: R,
@@ -129,7 +129,7 @@ fn refused<E: Display + Drop>(alloc: Global, line: usize, why: E) -> Result<Prin
     })
 }
 
-/// What comes of a plan.
+/// Plays a plan.
 fn settle_plan<R: Threads + Wait + Clock + Sync + Drop, E: io::Write>(
     alloc: Global,
     rt: R,

@@ -50,7 +50,7 @@ fn respond<O: Output>(found: Result<Answer, Failure>, note: &str, out: &mut O) -
     }
 }
 
-/// What was found, and the note where that is asked for.
+/// Finds an answer, and writes the note if that is asked for.
 fn find_with_note<F: Files>(
     alloc: Global,
     files: &mut F,

@@ -19,7 +19,7 @@ use std::thread::Threads;
 use std::time::Clock;
 use std::{env, io};
 
-/// What is said of words that are no text.
+/// The message on words that are no text.
 const NO_TEXT: &[u8] = b"error: invalid UTF-8 was detected in one or more arguments\n";
 
 /// The words of the command line, of which the first is the program's own name.

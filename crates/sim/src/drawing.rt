@@ -16,7 +16,7 @@ use sim_world::{KeptMessage, World};
 use std::alloc::{AllocError, Global};
 use std::marker::Brand;
 
-/// What was drawn of a file.
+/// A drawing of a file.
 #[derive(Drop)]
 pub(crate) struct Traced {
     /// The drawing; where a line is bad, of the lines above it, and then the line that says so.

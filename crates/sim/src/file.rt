@@ -12,7 +12,7 @@ use sim_world::World;
 use std::alloc::{AllocError, Global};
 use std::marker::Brand;
 
-/// How a run of a file ended.
+/// The end of a run of a file.
 #[derive(Clone, Copy, PartialEq, Eq)]
 pub enum Ending {
     /// Each line was done, and what it came to was printed.
@@ -25,7 +25,7 @@ pub enum Ending {
     Unprinted,
 }
 
-/// What is printed of a line.
+/// A line of the printed run.
 #[derive(Drop)]
 struct Line {
     /// The text.
@@ -34,7 +34,7 @@ struct Line {
     is_bad: bool,
 }
 
-/// What is printed of what came of a line.
+/// The text that is printed of a line, by what came of it.
 fn line_text<C: Classes>(
     alloc: Global,
     world: &World<C>,

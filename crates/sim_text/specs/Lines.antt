@@ -1,5 +1,4 @@
--- What a line says: the event or question that its words name. Words, numbers, names and bytes are
--- file_words'.
+-- The event or question of a line, by its words. Words, numbers, names and bytes are file_words'.
 use Rattle.std.specs.Prelude.{ℕ, ◌-◌, ◌==◌, List, [], ◌∷◌, slice_index, slice_get, Option, Some, None, if◌then◌else◌, codes}
 use Rattle.std.specs.Option.{option_map, option_and_then, unwrap_or}
 use Rattle.std.specs.Str.{bytes_eq}
@@ -66,7 +65,7 @@ says names (word ∷ args) =
     if bytes_eq word (codes "see") then or_bad (option_map (λ p. See p.0 p.1) (two_in args)) else
     if bytes_eq word (codes "req") then asks names args else or_bad (option_map (of_one word) (one_in args))
 
--- What a line says: nothing where it has no word or begins with `#`.
+-- The event or question of a line: none if it has no word or begins with `#`.
 abbrev pub line_of : List (List ℕ) → List ℕ → Line
 line_of names line = if slice_index line 0 == 35 then Empty else says names (words line)
 

@@ -106,7 +106,7 @@ fn ask_at(node: Option<u64>, request: Option<Request>) -> Line
     }
 }
 
-/// What `req` says with these words.
+/// The line of `req` with these words.
 pub(crate) fn asks(alloc: Global, names: &[&str], args: &[&str]) -> Result<Line, AllocError>
     ensures { IfOk result (λ l. l ≡ asks (map (λ n. n.now) names.now) (map (λ w. w.now) args.now)) }
 {

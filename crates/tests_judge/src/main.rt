@@ -66,7 +66,7 @@ const SIZES: [Size; 3] = [
     },
 ];
 
-/// What is changed in what the first cluster prints, one at a time: a line is lost, a place is
+/// Changes of the lines that the first cluster prints, one at a time: a line is lost, a place is
 /// taken, a place is none, codes are others, and a call is refused.
 const CHANGES: [(&str, &str); 5] = [
     ("call 0 place 0 code -2 output -\n", ""),
@@ -174,7 +174,7 @@ fn tell<R: Threads + Wait + Clock + Sync + Print + AllocGlobal>(rt: &R, size: Si
     println!(rt; "clients {clients} calls {calls} groups {groups}: {verdict}").map_err(Error::from)
 }
 
-/// How a cluster is judged.
+/// The verdict on a cluster.
 fn verdict_of<R: Threads + Wait + Clock + Sync>(
     alloc: Global,
     rt: &R,

@@ -36,7 +36,7 @@ impl Files for Memory {
     }
 }
 
-/// What `cluster` prints of a file.
+/// The text that `cluster` prints of a file.
 pub fn played<R: Threads + Wait + Clock + Sync>(
     alloc: Global,
     rt: &R,

@@ -23,7 +23,7 @@ const WORKERS: usize = 4;
 
 const CALLERS: usize = 64;
 
-/// What a run leaves: its history, if memory sufficed, and what its threads say.
+/// The remains of a run: its history, if memory sufficed, and the fault that its threads saw.
 #[derive(Drop)]
 struct Played {
     history: Option<History>,
@@ -51,7 +51,7 @@ pub fn run<R: Threads + Wait + Clock + Sync>(
     judged(alloc, &played, totals)
 }
 
-/// What is wrong with a run that was played.
+/// The fault of a run that was played, if it has one.
 fn judged(
     alloc: Global,
     played: &Played,
@@ -122,7 +122,7 @@ fn callers(alloc: Global, trouble: &Trouble) -> Option<Vec<Caller>> {
     Some(callers)
 }
 
-/// What a thread says that it came to, if one does.
+/// The fault that a thread saw, if one did.
 fn said_by(callers: &[Caller], unrest: &Unrest) -> Option<Fault> {
     for caller in callers {
         if let Some(text) = caller.fault {

@@ -1,4 +1,4 @@
-//! What `cluster --show` prints: each line has the group of the call's object and the request.
+//! `cluster --show`: each line has the group of the call's object and the request.
 
 use std::process::Abort;
 use std::sync::Wait;
@@ -41,7 +41,7 @@ static ROWS: [(&str, &str, &str); 4] = [
     ),
 ];
 
-/// Whether a file of that many groups and these lines prints that, and ends with 0.
+/// True if a file of that many groups and these lines prints that, and ends with 0.
 fn shows<R: Abort + AllocGlobal + Threads + Wait + Clock + Sync>(
     rt: &R,
     groups: &str,

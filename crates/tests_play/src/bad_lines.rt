@@ -61,7 +61,7 @@ fn a_bad_line_is_the_last(rt: HostRuntime) {
     }
 }
 
-/// How the request is answered whose object's name has that many bytes, and how the run ends.
+/// Checks the answer to the request whose object's name has that many bytes, and the run's end.
 fn asks_beside<R: Abort + AllocGlobal + Threads + Wait + Clock + Sync>(
     rt: &R,
     length: usize,

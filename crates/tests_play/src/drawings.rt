@@ -83,7 +83,7 @@ deliver 21
 show 2
 ";
 
-/// What its lines come to.
+/// The output of its lines.
 const SURVIVED: &str = "\
 map 1 prev 0
 m1 1->2 Install 1 0

@@ -45,8 +45,8 @@ fn text_of(alloc: Global, tens: usize, elevens: usize) -> io::Result<Vec<u8>> {
     Ok(text)
 }
 
-/// Whether of the class in that text just its first bytes are printed, as many as there is room
-/// for; and the program ends with 0 where that is the text, and else with 1.
+/// True if of the class in that text just its first bytes are printed, as many as there is room
+/// for; and the program ends with 0 if that is the whole text, and else with 1.
 fn prints_beginning<R: Abort + AllocGlobal + Threads + Wait + Clock + Sync>(
     rt: &R,
     text: &[u8],
@@ -73,7 +73,7 @@ fn prints_beginning<R: Abort + AllocGlobal + Threads + Wait + Clock + Sync>(
         && has_failed != is_whole
 }
 
-/// How many lines there are of 10 bytes and of 11, and how many bytes that makes.
+/// The numbers of lines of 10 bytes and of 11, and the bytes of them all.
 static TEXTS: [(usize, usize, usize); 4] = [
     // less than a window, one, less than two, two
     (2, 0, 41),
@@ -87,7 +87,7 @@ static ROOMS: [usize; 12] = [
     0, 1, 16, 40, 41, 1_023, 1_024, 1_025, 2_020, 2_021, 2_047, 2_048,
 ];
 
-/// How many bytes a write takes at most.
+/// The most bytes that a write takes.
 static STEPS: [usize; 3] = [1, 1_000, 4_096];
 
 #[test]
@@ -123,7 +123,7 @@ static UNREAD: [(ErrorKind, ExitStatus, &str, &str); 2] = [
     ),
 ];
 
-/// Whether words that can't be read end so, and no file is written.
+/// True if words that can't be read end so, and no file is written.
 fn ends_unread<R: Abort + AllocGlobal + Threads + Wait + Clock + Sync>(
     rt: &R,
     kind: ErrorKind,

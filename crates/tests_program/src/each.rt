@@ -1,4 +1,4 @@
-//! What `verify --all` prints: each method's verdict.
+//! `verify --all` prints each method's verdict.
 
 use tests_folder::{TWO, only_prints};
 

@@ -378,7 +378,7 @@ fn disassembles_a_long_text(rt: HostRuntime) {
     );
 }
 
-/// How many bytes are asked for of an image that has bytes after its end.
+/// The number of bytes that are asked for of an image that has bytes after its end.
 fn most_read<R: Abort + AllocGlobal + Threads + Wait + Clock + Sync>(rt: &R, image: &str) -> usize {
     let mut folder = Folder::of(rt.alloc(), image, b"").expect(rt, "memory");
     let printed = "image refused after 1 methods: 11 Trailing\n";

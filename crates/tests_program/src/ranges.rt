@@ -1,4 +1,4 @@
-//! What `verify` prints of ranges of numbers, and of pointers on the stack in both rule sets.
+//! `verify` on ranges of numbers, and on pointers on the stack in both rule sets.
 
 use tests_folder::Row;
 
