@@ -1,10 +1,10 @@
 //! `cluster --show`: each line has the group of the call's object and the request.
 
+use memory_folder::{only_prints, with_repeated};
 use std::process::Abort;
 use std::sync::Wait;
 use std::thread::Threads;
 use std::time::Clock;
-use tests_folder::{only_prints, with_repeated};
 
 /// The words of a run that shows what its calls ask.
 const SHOWN: [&str; 3] = ["cluster", "--show", "text"];

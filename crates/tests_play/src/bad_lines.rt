@@ -1,9 +1,9 @@
 use crate::script::prints;
+use memory_folder::{only_prints, with_repeated};
 use std::process::Abort;
 use std::sync::Wait;
 use std::thread::Threads;
 use std::time::Clock;
-use tests_folder::{only_prints, with_repeated};
 
 /// Files of events whose last line is bad: what is printed stands below each event.
 static BAD: [&str; 34] = [

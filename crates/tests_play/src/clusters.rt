@@ -2,12 +2,12 @@
 //! malformed line, and each refusal.
 
 use crate::tenants::SPILLS;
+use memory_folder::{Row, only_prints, with_repeated};
 use std::fmt::Write;
 use std::process::Abort;
 use std::sync::Wait;
 use std::thread::Threads;
 use std::time::Clock;
-use tests_folder::{Row, only_prints, with_repeated};
 
 /// The words of a run.
 const CLUSTER: [&str; 2] = ["cluster", "text"];

@@ -1,6 +1,6 @@
 //! Files of events of examples/, and their drawings.
 
-use tests_folder::Row;
+use memory_folder::Row;
 
 /// An acknowledgement that is lost, of examples/lost_ack.sim.
 const LOST_ACK: &str = "# Nodes 1, 2 and 3 become a group.

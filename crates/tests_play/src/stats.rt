@@ -1,6 +1,7 @@
 //! `cluster --stats` writes numbers to standard error.
 
 use cluster_tool::{Figures, Meter};
+use memory_folder::{Ended, Folder, only_prints, run_on, with_repeated};
 use osd::{DeliveryMode, Fate, Gate};
 use std::cell::Cell;
 use std::io::{self, ErrorKind};
@@ -8,7 +9,6 @@ use std::process::Abort;
 use std::sync::Wait;
 use std::thread::Threads;
 use std::time::{Clock, Duration, Instant};
-use tests_folder::{Ended, Folder, only_prints, run_on, with_repeated};
 
 /// The words of a run that is measured.
 const MEASURED: [&str; 3] = ["cluster", "--stats", "text"];

@@ -1,9 +1,9 @@
+use memory_folder::{Ended, Folder, Row, TWO, only_prints, run_on};
 use std::fmt::Write;
 use std::process::Abort;
 use std::sync::Wait;
 use std::thread::Threads;
 use std::time::Clock;
-use tests_folder::{Ended, Folder, Row, TWO, only_prints, run_on};
 
 /// A class whose method `hello` answers five bytes.
 const HELLO: &str =

@@ -2,6 +2,7 @@
 //! first call waits until another has begun one, and until the process has as many threads as it
 //! should, and neither waits for ever.
 
+use memory_folder::only_prints;
 use std::alloc::Global;
 use std::rt::Files;
 use std::sync::Wait;
@@ -9,7 +10,6 @@ use std::sync::atomic::{AtomicU64, Ordering};
 use std::thread::{Threads, yield_now};
 use std::time::{Clock, Duration};
 use std::{fs, io};
-use tests_folder::only_prints;
 
 /// The most looks of a client whether another has begun a call.
 const LOOKS: u32 = 10_000_000;

@@ -1,4 +1,5 @@
 use class_tool::Printer;
+use memory_folder::{Folder, TWO, run_on};
 use radoscls_program::{ExitStatus, end_of, program};
 use std::alloc::Global;
 use std::io::{self, ErrorKind, Write};
@@ -6,7 +7,6 @@ use std::process::Abort;
 use std::sync::Wait;
 use std::thread::Threads;
 use std::time::Clock;
-use tests_folder::{Folder, TWO, run_on};
 
 /// A writer with room for some bytes, which takes some of them a time, and keeps them.
 #[derive(Drop)]

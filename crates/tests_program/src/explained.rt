@@ -1,7 +1,7 @@
 //! `--explain` adds a note to a failure.
 
 use crate::pages::prints_of;
-use tests_folder::{TWO, only_prints, with_repeated};
+use memory_folder::{TWO, only_prints, with_repeated};
 
 /// Methods' texts, and what `verify --explain` prints of the class.
 static REFUSED: [(&str, &str); 8] = [

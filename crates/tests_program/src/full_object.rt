@@ -1,12 +1,12 @@
 //! A call beside a full object: 65,536 bytes of data, 32 xattrs and 1,024 keys, with names of 64
 //! bytes and values of 4,096.
 
+use memory_folder::{TWO, only_prints, with_repeated};
 use std::fmt::Write;
 use std::process::Abort;
 use std::sync::Wait;
 use std::thread::Threads;
 use std::time::Clock;
-use tests_folder::{TWO, only_prints, with_repeated};
 
 /// The rest of an xattr's and of a key's name after the first bytes.
 const REST: &str = "____________________________________________________________";

@@ -1,8 +1,8 @@
+use memory_folder::{Folder, Row, TWO, only_prints, prints_on, with_repeated};
 use std::process::Abort;
 use std::sync::Wait;
 use std::thread::Threads;
 use std::time::Clock;
-use tests_folder::{Folder, Row, TWO, only_prints, prints_on, with_repeated};
 
 /// Writes its three bytes of input to the object, and fails: `mov r2, r1`, `mov r1, 0`, `mov r3,
 /// 3`, `call 3`, `mov r0, -5`, `exit`.

@@ -1,12 +1,12 @@
 //! The largest class, through the commands that read or write one: 32 methods of 4,096 slots, with
 //! names of 64 bytes, and inputs and outputs of 4,096 bytes.
 
+use memory_folder::{Folder, bytes_of, only_prints, prints_on};
 use std::fmt::Write;
 use std::process::Abort;
 use std::sync::Wait;
 use std::thread::Threads;
 use std::time::Clock;
-use tests_folder::{Folder, bytes_of, only_prints, prints_on};
 
 /// The number of the class's methods.
 const METHODS: u32 = 32;

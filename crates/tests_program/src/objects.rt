@@ -2,7 +2,7 @@
 
 use crate::examples::COUNT;
 use crate::pages::prints_of;
-use tests_folder::{Folder, TWO, only_prints, run_on, with_repeated};
+use memory_folder::{Folder, TWO, only_prints, run_on, with_repeated};
 
 /// Words on a class that counts in the key `n`, and what they print.
 static COUNTED: [(&[&str], &str); 3] = [

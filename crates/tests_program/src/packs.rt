@@ -1,10 +1,10 @@
 //! Raw code that is packed: what clang 14 makes of the classes in examples/c, and what is refused.
 
+use memory_folder::{Folder, Row, prints_on};
 use std::process::Abort;
 use std::sync::Wait;
 use std::thread::Threads;
 use std::time::Clock;
-use tests_folder::{Folder, Row, prints_on};
 
 /// counter.c: its number is in the xattr `count`.
 const INC: &str =

@@ -1,11 +1,11 @@
 use class_tool::Printer;
+use memory_folder::{Folder, TWO, run_on};
 use radoscls_program::program;
 use std::io::{self, ErrorKind, Write};
 use std::process::Abort;
 use std::sync::Wait;
 use std::thread::Threads;
 use std::time::Clock;
-use tests_folder::{Folder, TWO, run_on};
 
 /// Words that ask for nothing that the program does, or for help.
 static USAGES: [&[&str]; 54] = [

@@ -1,8 +1,8 @@
+use memory_folder::{Folder, Row, TWO, bytes_of, only_prints, prints_on};
 use std::process::Abort;
 use std::sync::Wait;
 use std::thread::Threads;
 use std::time::Clock;
-use tests_folder::{Folder, Row, TWO, bytes_of, only_prints, prints_on};
 
 /// The text of the two instructions.
 const TWO_TEXT: &str = ".method f r 0 0\nmov r0, 0\nexit\n";
