@@ -24,20 +24,15 @@ two_in _ = None
 abbrev pub ids_in : List ℕ → List ℕ → Option (ℕ × ℕ)
 ids_in client number = option_and_then (λ c. option_map (λ n. (c, n)) (id_in number)) (id_in client)
 
--- and its words in their order: client and number, object and class, method and input; too few or
--- too many are none
-abbrev pub request_with_method : ℕ → ℕ → List ℕ → ℕ → List (List ℕ) → Option ClientRequest
-request_with_method client number object class (method ∷ input ∷ []) =
-    option_map (λ bytes. record { client = client; number = number; object = object; class = class; method = method; input = bytes }) (bytes_in input)
-request_with_method client number object class _ = None
+-- a request by its words: client, number, object, class, method and input; none if they are more or
+-- less
+abbrev pub request_by : List (List ℕ) → List ℕ → List ℕ → List ℕ → List ℕ → List ℕ → List ℕ → Option ClientRequest
+request_by names client number object class method input =
+    option_and_then (λ ids. option_and_then (λ name. option_map (λ bytes. record { client = ids.0; number = ids.1; object = name; class = class_of 0 names class; method = method; input = bytes }) (bytes_in input)) (object_in object)) (ids_in client number)
 
-abbrev pub request_with_object : List (List ℕ) → ℕ → ℕ → List (List ℕ) → Option ClientRequest
-request_with_object names client number (object ∷ class ∷ args) = option_and_then (λ name. request_with_method client number name (class_of 0 names class) args) (object_in object)
-request_with_object names client number _ = None
-
-abbrev pub request_with_client : List (List ℕ) → List (List ℕ) → Option ClientRequest
-request_with_client names (client ∷ number ∷ args) = option_and_then (λ ids. request_with_object names ids.0 ids.1 args) (ids_in client number)
-request_with_client names _ = None
+abbrev pub request_of : List (List ℕ) → List (List ℕ) → Option ClientRequest
+request_of names (client ∷ number ∷ object ∷ class ∷ method ∷ input ∷ []) = request_by names client number object class method input
+request_of names _ = None
 
 abbrev pub ask_at : Option ℕ → Option ClientRequest → Line
 ask_at None r = Bad
@@ -46,7 +41,7 @@ ask_at (Some n) (Some r) = Ask n r
 
 abbrev pub asks : List (List ℕ) → List (List ℕ) → Line
 asks names [] = Bad
-asks names (node ∷ args) = ask_at (number_in node) (request_with_client names args)
+asks names (node ∷ args) = ask_at (number_in node) (request_of names args)
 
 -- the words with one number
 abbrev pub of_one : List ℕ → ℕ → Line
