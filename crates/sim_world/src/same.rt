@@ -8,8 +8,7 @@ use crate::sent::Sent;
 use carried::Carried;
 use group_world::{Epoch, Event, GroupMap, MessageKind, Packet, Party, Place, Requests};
 use peering_messages::{are_same, is_same_request};
-use pg_log::{ClientId, Request, are_same_requests};
-use placement::NodeId;
+use pg_log::{Request, are_same_requests};
 use sim_text::{Numbers, sender_of};
 use std::alloc::{AllocError, Global};
 
@@ -96,47 +95,11 @@ fn is_same_kind(kind: &MessageKind, other: &MessageKind) -> bool
     }
 }
 
-/// True if it is that node.
-fn is_node(party: Party, node: NodeId) -> bool
-    ensures { result ≡ is_same_party (Party.Node node) party }
-{
-    match party {
-        Party::Node(other) => node == other,
-        Party::Monitor => false,
-        Party::Client(_) => false,
-    }
-}
-
-/// True if it is the monitor.
-fn is_monitor(party: Party) -> bool
-    ensures { result ≡ is_same_party Party.Monitor party }
-{
-    match party {
-        Party::Node(_) => false,
-        Party::Monitor => true,
-        Party::Client(_) => false,
-    }
-}
-
-/// True if it is that client.
-fn is_client(party: Party, client: ClientId) -> bool
-    ensures { result ≡ is_same_party (Party.Client client) party }
-{
-    match party {
-        Party::Node(_) => false,
-        Party::Monitor => false,
-        Party::Client(other) => client == other,
-    }
-}
-
+/// True if the parties are equal.
 fn is_same_party(party: Party, other: Party) -> bool
     ensures { result ≡ is_same_party party other }
 {
-    match party {
-        Party::Node(node) => is_node(other, node),
-        Party::Monitor => is_monitor(other),
-        Party::Client(client) => is_client(other, client),
-    }
+    party == other
 }
 
 /// True if a message that is kept says the same.
