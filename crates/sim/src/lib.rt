@@ -13,6 +13,7 @@ mod file;
 mod laws;
 mod note;
 mod play;
+mod setup;
 mod tool;
 mod verified;
 
