@@ -27,10 +27,9 @@ const WORKER_LIMIT: usize = 16;
 /// names, which are those of the parts and classes.
 pub(crate) fn play<
     N: ClusterName + Send + Sync,
-    R: Threads + Wait + Clock + Sync + Drop,
+    R: AllocGlobal + Threads + Wait + Clock + Sync + Drop,
     E: io::Write,
 >(
-    alloc: Global,
     rt: R,
     parts: Parts,
     table: ClassTable,
@@ -43,6 +42,7 @@ pub(crate) fn play<
     requires table { table ≡ N.classes }
     ensures { IfOk result (Plays table parts.config plan.now.steps) }
 {
+    let alloc = rt.alloc();
     let running = Running::<N, R>::named(alloc, rt, parts, table)?;
     Ok(play_while_served(alloc, &running, plan, meter))
 }

@@ -45,14 +45,7 @@ pub fn run_on<R: AllocGlobal + Threads + Wait + Clock + Sync>(
     let mut printed = Vec::new(rt.alloc());
     let mut explained = Vec::new(rt.alloc());
     let mut out = Printer::new(&mut printed);
-    let status = program(
-        rt.alloc(),
-        rt,
-        line.as_slice(),
-        folder,
-        &mut out,
-        &mut explained,
-    );
+    let status = program(rt, line.as_slice(), folder, &mut out, &mut explained);
     Some(Ended {
         status,
         printed,

@@ -46,7 +46,6 @@ use crate::memory::played;
 use crate::system::tell_of_system;
 use crate::thrash::{Asked, tell_thrash, tell_thrash_alone};
 use anyhow::{Context, Error, Result};
-use std::alloc::Global;
 use std::env;
 use std::process::ExitCode;
 use std::sync::Wait;
@@ -166,7 +165,7 @@ fn tell_all<R: Threads + Wait + Clock + Sync + Print + AllocGlobal>(rt: &R) -> R
 /// Plays the first cluster, and prints how its lines are judged with each change.
 fn tell_of_changes<R: Threads + Wait + Clock + Sync + Print + AllocGlobal>(rt: &R) -> Result<()> {
     let plan = Plan::new(rt.alloc(), SIZES[0])?;
-    let printed = played(rt.alloc(), rt, plan.text(rt.alloc())?)?;
+    let printed = played(rt, plan.text(rt.alloc())?)?;
     tell_each_change(rt, &plan, &printed)
 }
 
@@ -182,7 +181,7 @@ fn tell_each_change<R: Print + AllocGlobal>(rt: &R, plan: &Plan, printed: &str) 
 
 /// Plays a cluster, and prints how it is judged.
 fn tell<R: Threads + Wait + Clock + Sync + Print + AllocGlobal>(rt: &R, size: Size) -> Result<()> {
-    let verdict = verdict_of(rt.alloc(), rt, size)?;
+    let verdict = verdict_of(rt, size)?;
     let Size {
         clients,
         calls,
@@ -192,13 +191,12 @@ fn tell<R: Threads + Wait + Clock + Sync + Print + AllocGlobal>(rt: &R, size: Si
 }
 
 /// The verdict on a cluster.
-fn verdict_of<R: Threads + Wait + Clock + Sync>(
-    alloc: Global,
+fn verdict_of<R: AllocGlobal + Threads + Wait + Clock + Sync>(
     rt: &R,
     size: Size,
 ) -> Result<Verdict> {
-    let plan = Plan::new(alloc, size)?;
-    let text = plan.text(alloc)?;
-    let printed = played(alloc, rt, text)?;
-    Ok(judge(alloc, &plan, &printed)?)
+    let plan = Plan::new(rt.alloc(), size)?;
+    let text = plan.text(rt.alloc())?;
+    let printed = played(rt, text)?;
+    Ok(judge(rt.alloc(), &plan, &printed)?)
 }

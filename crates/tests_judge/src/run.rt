@@ -31,12 +31,12 @@ struct Played {
 }
 
 /// Plays a run of that shape, adds to the totals, and tells what is wrong, if anything is.
-pub fn run<R: Threads + Wait + Clock + Sync>(
-    alloc: Global,
+pub fn run<R: AllocGlobal + Threads + Wait + Clock + Sync>(
     rt: &R,
     shape: Shape,
     totals: &mut Totals,
 ) -> Result<Option<Fault>, AllocError> {
+    let alloc = rt.alloc();
     let Ok(mut cluster) = Cluster::new(alloc, shape.config) else {
         return Ok(Some(Fault::Said("no cluster")));
     };
@@ -44,7 +44,7 @@ pub fn run<R: Threads + Wait + Clock + Sync>(
         return Ok(Some(Fault::Said("no parts")));
     };
     let trouble = Trouble::new(shape);
-    let Some(played) = play(alloc, rt, parts, table, &trouble, totals) else {
+    let Some(played) = play(rt, parts, table, &trouble, totals) else {
         return Ok(Some(Fault::Said("memory for the nodes is refused")));
     };
     totals.note_messages(trouble.counts());
@@ -67,20 +67,18 @@ fn judged(
     fault_of(alloc, history)
 }
 
-fn play<R: Threads + Wait + Clock + Sync + Drop>(
-    alloc: Global,
+fn play<R: AllocGlobal + Threads + Wait + Clock + Sync + Drop>(
     rt: R,
     parts: Parts,
     table: ClassTable,
     trouble: &Trouble,
     totals: &mut Totals,
 ) -> Option<Played> {
-    play_named::<Brand, R>(alloc, rt, parts, table, trouble, totals)
+    play_named::<Brand, R>(rt, parts, table, trouble, totals)
 }
 
 /// Names the cluster, and plays on it.
-fn play_named<N: ClusterName + Send + Sync, R: Threads + Wait + Clock + Sync + Drop>(
-    alloc: Global,
+fn play_named<N: ClusterName + Send + Sync, R: AllocGlobal + Threads + Wait + Clock + Sync + Drop>(
     rt: R,
     parts: Parts,
     table: ClassTable,
@@ -92,6 +90,7 @@ fn play_named<N: ClusterName + Send + Sync, R: Threads + Wait + Clock + Sync + D
     requires config { parts.config ≡ N.config }
     requires table { table ≡ N.classes }
 {
+    let alloc = rt.alloc();
     let running = Running::<N, R>::named(alloc, rt, parts, table).ok()?;
     play_served(alloc, &running, trouble, totals)
 }

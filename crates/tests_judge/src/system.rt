@@ -130,7 +130,7 @@ fn call<R: Granted + AllocGlobal + Input + Threads + Wait + Clock + Sync, O: io:
     let mut files = SystemFiles::new(rt);
     let mut err = Vec::new(rt.alloc());
     let mut printer = Printer::new(out);
-    let status = program(rt.alloc(), rt, words, &mut files, &mut printer, &mut err);
+    let status = program(rt, words, &mut files, &mut printer, &mut err);
     (status, !err.is_empty())
 }
 

@@ -64,7 +64,7 @@ fn prints_beginning<R: Abort + AllocGlobal + Threads + Wait + Clock + Sync>(
     let mut err = Vec::new(alloc);
     let mut printer = Printer::new(&mut out);
     let words = ["radoscls", "dis", "image"];
-    let status = program(alloc, rt, &words, &mut folder, &mut printer, &mut err);
+    let status = program(rt, &words, &mut folder, &mut printer, &mut err);
     let has_failed = printer.has_failed();
     let is_whole = text.len() <= room;
     made.status == 0
@@ -137,7 +137,6 @@ fn ends_unread<R: Abort + AllocGlobal + Threads + Wait + Clock + Sync>(
     let mut err = Vec::new(alloc);
     let words = Err(io::Error::from(kind));
     let status = end_of(
-        alloc,
         rt,
         &words,
         &mut folder,

@@ -350,7 +350,7 @@ fn ends_with<R: Abort + AllocGlobal + Threads + Wait + Clock + Sync>(
     let mut err = Limited { room: 0, flushes };
     let mut folder = Folder::of(rt.alloc(), TWO, text.as_bytes()).expect(rt, "memory");
     let mut out = Printer::new(Limited { room, flushes });
-    let status = program(rt.alloc(), rt, words, &mut folder, &mut out, &mut err);
+    let status = program(rt, words, &mut folder, &mut out, &mut err);
     status == want && out.has_failed() == (want == 1)
 }
 
