@@ -1,4 +1,4 @@
--- How advice prints: a line or two.
+-- The text of advice: a line or two.
 use Rattle.std.specs.Prelude.{ℕ, ◌-◌, nat_lt, Bool, true, false, List, [], ◌++◌, Option, Some, None, codes, if◌then◌else◌}
 use Rattle.std.specs.Fmt.{decimal}
 use Rattle.bpf_decode.specs.declared.region.Region.{Region}
@@ -6,6 +6,8 @@ use Rattle.bpf_decode.specs.declared.region.Region.TheVariants.{Input, Output, S
 use Rattle.class_advice.specs.Known.{region_text}
 use Rattle.class_advice.specs.declared.advice.Advice.{Advice}
 use Rattle.class_advice.specs.declared.advice.Advice.TheVariants.{Forward, CountSlots, EndByExit, Inline, Unset, StoreWhole, CopyOfR10, NumbersFirst, NeverNull, TakeRules, AtMultiple, NoPlace, Outside, Length, Place, ReadOnlyStore, ReadOnlyRange, HelpersOnly, TakesNumber, TakesPointer, OutLength, MayWrite, CodeIsNumber, LoadWhole, PassNoPointer}
+use Rattle.class_advice.specs.declared.advice.OutsideAccess.{OutsideAccess}
+use Rattle.class_advice.specs.declared.advice.LongRange.{LongRange}
 use Rattle.class_advice.specs.declared.advice.Last.{Last}
 use Rattle.class_advice.specs.declared.advice.Last.TheVariants as last
 
@@ -58,12 +60,13 @@ span_text region at bytes = bytes_text bytes ++ place_text region at
 unfoldable pub room_text : Region → ℕ → ℕ → List ℕ
 room_text region bytes size = codes " on, of " ++ decimal size ++ codes ": " ++ most_text region bytes size
 
-abbrev pub outside_text : ℕ → Bool → Region → ℕ → ℕ → ℕ → List ℕ
-outside_text r moves region at bytes size = span_text region at bytes ++ room_text region bytes size ++ move_text r moves region
+abbrev pub outside_text : OutsideAccess → List ℕ
+outside_text a = span_text a.region a.at a.bytes ++ room_text a.region a.bytes a.size ++ move_text a.register a.is_moved a.region
 
 -- a length that is too great from a place on
-abbrev pub length_text : ℕ → ℕ → ℕ → Region → ℕ → List ℕ
-length_text r high most region at = codes "  " ++ register_text r ++ codes " may be " ++ decimal high ++ codes ": at most " ++ decimal most ++ codes " bytes from " ++ place_text region at ++ codes ";" ++ test_text r most
+abbrev pub length_text : LongRange → List ℕ
+length_text l =
+    codes "  " ++ register_text l.register ++ codes " may be " ++ decimal l.high ++ codes ": at most " ++ decimal l.most ++ codes " bytes from " ++ place_text l.region l.at ++ codes ";" ++ test_text l.register l.most
 
 abbrev pub advice_text : Advice → List ℕ
 advice_text Forward = codes "  jumps go forward: write a loop out, with an exit where it may end early\n"
@@ -79,8 +82,8 @@ advice_text TakeRules = codes "  keep it in r6 to r9; or begin the class with `.
 advice_text AtMultiple = codes "  a pointer is stored whole: by `stxdw`, in the stack, at one place that is a multiple of 8, as [r10-8] or [r10-16]\n"
 advice_text (NoPlace r) =
     codes "  " ++ register_text r ++ codes " is a number: a place is what r1 (input), r3 (output) or r10 (stack) was at first, plus a number; a string is written to the stack\n"
-advice_text (Outside r moves region at bytes size) = outside_text r moves region at bytes size
-advice_text (Length r high most region at) = length_text r high most region at
+advice_text (Outside access) = outside_text access
+advice_text (Length range) = length_text range
 advice_text (Place r region at most) = codes "  " ++ register_text r ++ codes " may be " ++ place_text region at ++ codes ": at most " ++ place_text region most ++ codes " for the range\n" ++ move_text r true region
 advice_text (ReadOnlyStore r) = codes "  " ++ register_text r ++ codes " points to the input, which is read only: store to the output or the stack\n"
 advice_text (ReadOnlyRange r) = codes "  the call writes where " ++ register_text r ++ codes " points, and the input is read only: give it the output or the stack\n"

@@ -1,5 +1,5 @@
--- What would do in place of what a rule refuses, from the rule, the instruction, what the method
--- declares and what is known before it.
+-- The code that would do in place of the refused code, by the rule, the instruction, what the
+-- method declares and what is known before it.
 use Rattle.std.specs.Prelude.{ℕ, ◌+◌, ◌-◌, ◌==◌, ◌&&◌, ◌||◌, not, nat_le, Bool, List, [], ◌∷◌, Option, Some, None, if◌then◌else◌}
 use Rattle.std.specs.Option.{option_map}
 use Rattle.abstract_num.specs.Plain.{Plain}
@@ -61,19 +61,16 @@ unset_advice is slot (Some r) = advice.Unset r (why_unset is slot r)
 abbrev pub moves : Plain → Bool
 moves at = not (at.low == at.high)
 
-abbrev pub placed_advice : ℕ → Bool → Region → ℕ → ℕ → Option Plain → Option Advice
-placed_advice r is_moved region w size None = None
-placed_advice r is_moved region w size (Some place) = Some (advice.Outside r is_moved region place.high w size)
-
 abbrev pub access_advice : Caps → ℕ → PlainKind → ℕ → ℕ → Option Advice
 access_advice caps r Unset distance w = None
 access_advice caps r (Num n) distance w = Some (advice.NoPlace r)
-access_advice caps r (Ptr region at) distance w = placed_advice r (moves at) region w (size caps region) (last_place at distance)
+access_advice caps r (Ptr region at) distance w =
+    option_map (λ place. advice.Outside (record { register = r; is_moved = moves at; region = region; at = place.high; bytes = w; size = size caps region })) (last_place at distance)
 
 -- a range that begins within the region is too long, one that doesn't begins too late
 abbrev pub range_outside : ℕ → Region → Plain → Plain → ℕ → Advice
 range_outside r region at len size =
-    if nat_le at.high size then advice.Length (r + 1) len.high (size - at.high) region at.high
+    if nat_le at.high size then advice.Length (record { register = r + 1; high = len.high; most = size - at.high; region = region; at = at.high })
     else advice.Place r region at.high (size - len.high)
 
 abbrev pub range_advice : Caps → ℕ → PlainKind → PlainKind → Option Advice

@@ -1,4 +1,4 @@
--- What is printed of what is known of a register.
+-- The text of what is known of a register.
 use Rattle.std.specs.Prelude.{ℕ, pos, negsuc, ◌+◌, ◌%◌, ◌^◌, ◌==◌, ◌&&◌, ◌||◌, not, nat_le, int_lt, bit_and, Bool, true, false, List, [], ◌++◌, codes, if◌then◌else◌}
 use Rattle.std.specs.Fmt.{decimal, signed_decimal}
 use Rattle.abstract_num.specs.Plain.{Plain}

@@ -1,4 +1,4 @@
--- What is printed of a refused method below the line that refuses it.
+-- The note below the line that refuses a method.
 use Rattle.std.specs.Prelude.{ℕ, zero, suc, ◌+◌, List, [], ◌∷◌, ◌++◌, Option, Some, None, codes, slice_get, if◌then◌else◌}
 use Rattle.std.specs.Fmt.{decimal}
 use Rattle.abstract_regs.specs.Frame.{PlainFrame, kind_at}
@@ -87,6 +87,6 @@ abbrev pub unless_memory : Rule → List ℕ → List ℕ
 unless_memory NoMemory text = []
 unless_memory rule text = text
 
--- What is printed of a class with that refusal; nothing where memory was refused.
+-- The note on a class with that refusal; empty if memory was refused.
 abbrev pub refusal_note : Class → Refusal → List ℕ
 refusal_note c refusal = unless_memory refusal.rule (of_method c.rules (slice_get c.methods refusal.method))

@@ -1,5 +1,5 @@
--- Whether a way through a method leads to a slot on which a register is unset: from the method's
--- beginning, or from a call that unsets it, past no instruction that sets it.
+-- A register is missed at a slot if a way through the method leads there on which it is unset: from
+-- the method's beginning, or from a call that unsets it, past no instruction that sets it.
 use Rattle.std.specs.Prelude.{ℕ, ◌-◌, ◌==◌, ◌&&◌, ◌||◌, not, Bool, true, false, List, [], ◌∷◌, ◌++◌, if◌then◌else◌}
 use Rattle.std.specs.List.{list_any}
 use Rattle.abstract_regs.specs.Flow.{target}

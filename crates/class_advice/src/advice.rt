@@ -1,4 +1,4 @@
-//! What would do in place of what a rule refuses, and how that prints.
+//! Advice: code that would do in place of the refused code, and how that prints.
 ghost use Rattle.std.specs.Prelude.{◌≡◌, ◌++◌, nat_lt, OnOk, string_bytes};
 ghost use Rattle.class_advice.specs.Advice.{advice_text, advised_text, at_most_out_text, bytes_text, length_text, may_be_text, most_text, move_text, outside_text, place_text, room_text, span_text, test_text, unset_text};
 
@@ -6,20 +6,50 @@ use crate::known::region_text;
 use bpf_decode::Region;
 use std::alloc::AllocError;
 
-/// What the last instruction that changed a register did.
+/// A register's last change.
 #[derive(Clone, Copy, PartialEq, Eq)]
 pub enum Last {
     /// None changed it.
     Never,
-    /// It set it.
+    /// An instruction set it.
     Set,
-    /// It left it unset.
+    /// An instruction left it unset.
     Unset,
     /// Each way that leads here set it, one to another kind than another.
     Unlike,
 }
 
-/// What would do in place of what a rule refuses. Registers are numbers, 0 to 10.
+/// An access that may leave its region.
+#[derive(Clone, Copy)]
+pub struct OutsideAccess {
+    /// The register that points.
+    pub register: usize,
+    /// True if its offset is more than one: a number that isn't known was added.
+    pub is_moved: bool,
+    pub region: Region,
+    /// The last place where the access may begin.
+    pub at: u64,
+    /// The bytes of the access.
+    pub bytes: u64,
+    /// The bytes of the region.
+    pub size: u64,
+}
+
+/// A range that may be too long for its region.
+#[derive(Clone, Copy)]
+pub struct LongRange {
+    /// The register of its length.
+    pub register: usize,
+    /// The greatest length that it may have.
+    pub high: u64,
+    /// The greatest length that the region has room for.
+    pub most: u64,
+    pub region: Region,
+    /// The last place where the range may begin.
+    pub at: u64,
+}
+
+/// Code that would do in place of the refused code. Registers are numbers, 0 to 10.
 #[derive(Clone, Copy)]
 pub enum Advice {
     /// A jump that goes forward.
@@ -45,12 +75,10 @@ pub enum Advice {
     AtMultiple,
     /// A register is a number, which is taken for a place.
     NoPlace(usize),
-    /// The register of an access, whether its offset is more than one, the region, where the access
-    /// may begin at most, its bytes, and the region's.
-    Outside(usize, bool, Region, u64, u64, u64),
-    /// The register of a range's length, what it may be, what it may be at most, and where the range
-    /// may begin at most.
-    Length(usize, u64, u64, Region, u64),
+    /// An access leaves its region.
+    Outside(OutsideAccess),
+    /// A range is too long.
+    Length(LongRange),
     /// The register of a range's pointer, where the range may begin, and where at most.
     Place(usize, Region, u64, u64),
     /// A store through a register into the input.
@@ -180,33 +208,25 @@ fn push_room(out: &mut String, region: Region, bytes: u64, size: u64) -> Result<
 }
 
 /// Adds that an access leaves its region.
-fn push_outside(
-    out: &mut String,
-    register: usize,
-    moves: bool,
-    region: Region,
-    at: u64,
-    bytes: u64,
-    size: u64,
-) -> Result<(), AllocError>
-    ensures { OnOk result (string_bytes out.new ≡ string_bytes out.old ++ outside_text register moves region at bytes size) }
+fn push_outside(out: &mut String, access: OutsideAccess) -> Result<(), AllocError>
+    ensures { OnOk result (string_bytes out.new ≡ string_bytes out.old ++ outside_text access) }
 {
-    push_span(out, region, at, bytes)?;
-    push_room(out, region, bytes, size)?;
-    push_move(out, register, moves, region)
+    push_span(out, access.region, access.at, access.bytes)?;
+    push_room(out, access.region, access.bytes, access.size)?;
+    push_move(out, access.register, access.is_moved, access.region)
 }
 
 /// Adds that a length is too great.
-fn push_length(
-    out: &mut String,
-    register: usize,
-    high: u64,
-    most: u64,
-    region: Region,
-    at: u64,
-) -> Result<(), AllocError>
-    ensures { OnOk result (string_bytes out.new ≡ string_bytes out.old ++ length_text register high most region at) }
+fn push_length(out: &mut String, range: LongRange) -> Result<(), AllocError>
+    ensures { OnOk result (string_bytes out.new ≡ string_bytes out.old ++ length_text range) }
 {
+    let LongRange {
+        register,
+        high,
+        most,
+        region,
+        at,
+    } = range;
     write!(
         out,
         "  r{register} may be {high}: at most {most} bytes from "
@@ -266,8 +286,8 @@ fn push_advice(out: &mut String, advice: Advice) -> Result<(), AllocError>
         Advice::TakeRules => out.push_str("  keep it in r6 to r9; or begin the class with `.rules 2`, where a pointer may be stored whole at a multiple of 8, as `stxdw [r10-8], r1`\n"),
         Advice::AtMultiple => out.push_str("  a pointer is stored whole: by `stxdw`, in the stack, at one place that is a multiple of 8, as [r10-8] or [r10-16]\n"),
         Advice::NoPlace(register) => write!(out, "  r{register} is a number: a place is what r1 (input), r3 (output) or r10 (stack) was at first, plus a number; a string is written to the stack\n"),
-        Advice::Outside(register, moves, region, at, bytes, size) => push_outside(out, register, moves, region, at, bytes, size),
-        Advice::Length(register, high, most, region, at) => push_length(out, register, high, most, region, at),
+        Advice::Outside(access) => push_outside(out, access),
+        Advice::Length(range) => push_length(out, range),
         Advice::Place(register, region, at, most) => push_begun(out, register, region, at, most),
         Advice::ReadOnlyStore(register) => write!(out, "  r{register} points to the input, which is read only: store to the output or the stack\n"),
         Advice::ReadOnlyRange(register) => write!(out, "  the call writes where r{register} points, and the input is read only: give it the output or the stack\n"),

@@ -1,16 +1,16 @@
-//! What would do in place of what a rule refuses.
+//! Finds code that would do in place of the refused code.
 ghost use Rattle.std.specs.Prelude.{◌≡◌, ◌+◌, ◌<◌, IfOk, length};
 ghost use Rattle.std.specs.Option.{option_map};
 ghost use Rattle.abstract_num.specs.Plain.{view};
 ghost use Rattle.abstract_regs.specs.Kind.{last_place};
 ghost use Rattle.abstract_regs.specs.Seen.{seen};
 ghost use Rattle.bpf_machine.specs.Safe.{caps_of};
-ghost use Rattle.class_advice.specs.Advise.{access_advice, advice_for, argument_advice, arguments_advice, at_first, bounds_advice, bounds_of, call_advice, changed, helper_in, known_advice, last_of, moves, number_advice, or_else, output_advice, part_of, placed_advice, pointer_advice, range_advice, range_outside, read_only_advice, read_only_of, shape_advice, stored_by, unset_advice, why_unset, wrong_kind_advice, wrong_kind_of, is_set_first};
+ghost use Rattle.class_advice.specs.Advise.{access_advice, advice_for, argument_advice, arguments_advice, at_first, bounds_advice, bounds_of, call_advice, changed, helper_in, known_advice, last_of, moves, number_advice, or_else, output_advice, part_of, pointer_advice, range_advice, range_outside, read_only_advice, read_only_of, shape_advice, stored_by, unset_advice, why_unset, wrong_kind_advice, wrong_kind_of, is_set_first};
 ghost use Rattle.class_advice.specs.Read.{first_read};
 ghost use Rattle.helpers.specs.Table.{signature_of};
 ghost use Rattle.verifier.specs.Kind.{range_is_read_only};
 
-use crate::advice::{Advice, Last};
+use crate::advice::{Advice, Last, LongRange, OutsideAccess};
 use crate::read::{count_registers, first_read, sets, unsets};
 use crate::ways::Read;
 use abstract_num::{Number, arithmetic, constant};
@@ -38,7 +38,7 @@ fn at_first(register: usize) -> Last
     }
 }
 
-/// What was last done to a register, after an instruction.
+/// The last change of a register, after an instruction.
 fn changed(before: Last, insn: &Insn, register: usize) -> Last
     ensures { result ≡ changed before insn.now register }
 {
@@ -51,7 +51,7 @@ fn changed(before: Last, insn: &Insn, register: usize) -> Last
     before
 }
 
-/// What the last of the instructions in the first `left` slots did that changed a register.
+/// The last change of a register by the instructions in the first `left` slots.
 fn last_of(insns: &[Insn], left: usize, register: usize, before: Last) -> Last
     ensures { result ≡ last_of insns.now left register before }
 {
@@ -113,29 +113,6 @@ fn moves(at: &Number) -> bool
     at.first.low != at.first.high
 }
 
-fn placed_advice(
-    register: usize,
-    is_moved: bool,
-    region: Region,
-    bytes: usize,
-    size: usize,
-    place: Option<Number>,
-) -> Option<Advice>
-    ensures { result ≡ placed_advice register is_moved region bytes size (option_map view place) }
-{
-    match place {
-        None => None,
-        Some(place) => Some(Advice::Outside(
-            register,
-            is_moved,
-            region,
-            place.first.high,
-            bytes as u64,
-            size as u64,
-        )),
-    }
-}
-
 /// Of an access of bytes at a distance from what a register was known to be.
 fn access_advice(
     caps: &Caps,
@@ -150,15 +127,15 @@ fn access_advice(
         Kind::Unset => None,
         Kind::Num(_) => Some(Advice::NoPlace(register)),
         Kind::Ptr(region, at) => {
-            let place = arithmetic(OpWidth::Bits64, Arithmetic::Add, at, constant(distance));
-            placed_advice(
+            let place = arithmetic(OpWidth::Bits64, Arithmetic::Add, at, constant(distance))?;
+            Some(Advice::Outside(OutsideAccess {
                 register,
-                moves(&at),
+                is_moved: moves(&at),
                 region,
-                bytes,
-                caps.size(region),
-                place,
-            )
+                at: place.first.high,
+                bytes: bytes as u64,
+                size: caps.size(region) as u64,
+            }))
         }
     }
 }
@@ -174,15 +151,22 @@ fn range_outside(
     requires { register < 100 }
     ensures { result ≡ range_outside register region (view at.now) (view length.now) size }
 {
-    let (begin, most) = (at.first.high, size as u64);
-    if begin <= most {
-        Advice::Length(register + 1, length.first.high, most - begin, region, begin)
+    let (begin, size) = (at.first.high, size as u64);
+    if begin <= size {
+        Advice::Length(LongRange {
+            // the length follows the pointer
+            register: register + 1,
+            high: length.first.high,
+            most: size - begin,
+            region,
+            at: begin,
+        })
     } else {
         Advice::Place(
             register,
             region,
             begin,
-            most.saturating_sub(length.first.high),
+            size.saturating_sub(length.first.high),
         )
     }
 }
@@ -222,7 +206,7 @@ fn bounds_advice(caps: &Caps, frame: &Frame, argument: Argument, register: usize
     }
 }
 
-/// Whether a helper's range is in the region that is read only.
+/// True if a helper's range is in the region that is read only.
 fn is_read_only(pointer: Kind, length: Kind) -> bool
     ensures { result ≡ range_is_read_only (seen pointer) (seen length) }
 {
@@ -507,7 +491,7 @@ fn shape_advice(rule: Rule) -> Option<Advice>
     }
 }
 
-/// What would do in place of a refused instruction of a method.
+/// The advice for a refused instruction of a method.
 pub(crate) fn advice_for(
     alloc: Global,
     rules: RuleSet,

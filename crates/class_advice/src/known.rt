@@ -1,4 +1,4 @@
-//! What is printed of what is known of a register.
+//! Prints what is known of a register.
 ghost use Rattle.std.specs.Prelude.{◌≡◌, ◌++◌, OnOk, string_bytes};
 ghost use Rattle.abstract_num.specs.Plain.{view};
 ghost use Rattle.abstract_regs.specs.Seen.{seen};
@@ -23,7 +23,7 @@ fn push_range(out: &mut String, n: Number) -> Result<(), AllocError>
     write!(out, "{low}..{high}")
 }
 
-/// Whether the signed range says more.
+/// True if the signed range says more.
 fn says_signed(n: &Number) -> bool
     ensures { result ≡ says_signed (view n.now) }
 {
@@ -42,7 +42,7 @@ fn push_signed(out: &mut String, n: Number) -> Result<(), AllocError>
     write!(out, ", signed {least}..{greatest}")
 }
 
-/// Whether the known bits say more.
+/// True if the known bits say more.
 #[tactic(auto, unfolding(crate::specs::Known::says_bits))]
 fn says_bits(n: &Number) -> bool
     ensures { result ≡ says_bits (view n.now) }

@@ -1,4 +1,4 @@
-//! What is printed of a refused method below the line that refuses it.
+//! The note below the line that refuses a method.
 ghost use Rattle.std.specs.Prelude.{◌≡◌, ◌++◌, ◌+◌, ◌<◌, [], ◌∷◌, IfOk, OnOk, codes, string_bytes};
 ghost use Rattle.std.specs.Fmt.{decimal};
 ghost use Rattle.abstract_regs.specs.Seen.{seen};
@@ -56,7 +56,7 @@ fn push_known(out: &mut String, insn: &Insn, known: &Option<Frame>) -> Result<()
     }
 }
 
-/// What a rule wants.
+/// The text of a rule: what it wants.
 #[rattlefmt::skip]
 fn wanted(rule: Rule) -> &'static str
     ensures { result.now ≡ wanted rule }
@@ -102,7 +102,7 @@ fn push_head(out: &mut String, method: &Method) -> Result<(), AllocError>
     write!(out, ", IN {in_cap}, OUT {out_cap}\n  ")
 }
 
-/// What the rule wants, and the page.
+/// Appends what the rule wants, and the page.
 fn push_wanted(out: &mut String, rule: Rule) -> Result<(), AllocError>
     ensures { OnOk result (string_bytes out.new ≡ string_bytes out.old ++ wanted_text rule) }
 {
@@ -111,7 +111,7 @@ fn push_wanted(out: &mut String, rule: Rule) -> Result<(), AllocError>
     write!(out, "\n  see docs/VERIFIER.md, {rule}\n")
 }
 
-/// What is printed of a refused slot of a method.
+/// The note on a refused slot of a method.
 fn slot_text(
     alloc: Global,
     rules: RuleSet,
@@ -130,7 +130,7 @@ fn slot_text(
     Ok(text)
 }
 
-/// What is printed of a method under a rule set: nothing where no rule refuses it.
+/// The note on a method under a rule set: empty if no rule refuses it.
 fn of_verdict(alloc: Global, rules: RuleSet, method: &Method) -> Result<String, AllocError>
     requires { IsMethod method.now }
     ensures { IfOk result (λ text. string_bytes text ≡ of_verdict rules method.now (method_verdict rules method.now)) }
@@ -141,8 +141,8 @@ fn of_verdict(alloc: Global, rules: RuleSet, method: &Method) -> Result<String, 
     }
 }
 
-/// What is printed of a class with that refusal; nothing where memory was refused. It costs what
-/// `verify` does of the method.
+/// The note on a class with that refusal; empty if memory was refused. It costs as much as `verify`
+/// of the method.
 pub fn refusal_note(
     alloc: Global,
     class: &ClassImage,

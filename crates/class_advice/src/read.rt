@@ -11,7 +11,7 @@ use bpf_decode::{Insn, Operand, Register};
 use helpers::{Argument, signature};
 use verifier::{Callee, Reads, callee_of, reads_of, writes_of};
 
-/// How many registers an argument takes.
+/// The number of registers that an argument takes.
 pub(crate) fn count_registers(argument: Argument) -> usize
     ensures { result ≡ register_count argument }
 {
@@ -21,7 +21,7 @@ pub(crate) fn count_registers(argument: Argument) -> usize
     }
 }
 
-/// Whether one of the arguments is taken from the register, which are taken from `first` on.
+/// True if one of the arguments is taken from the register; they are taken from `first` on.
 fn take_register(arguments: &[Argument], first: usize, register: usize) -> bool
     requires { first + length arguments.now + length arguments.now < 100 }
     ensures { result ≡ take_register arguments.now first register }
@@ -35,7 +35,7 @@ fn take_register(arguments: &[Argument], first: usize, register: usize) -> bool
     }
 }
 
-/// Whether the helper takes the register. An id that is no helper's takes none.
+/// True if the helper takes the register. An id that is no helper's takes none.
 fn takes_register(helper: u32, register: usize) -> bool
     ensures { result ≡ takes_register (signature_of helper) register }
 {
@@ -54,7 +54,7 @@ fn is_source(source: Operand, register: usize) -> bool
     }
 }
 
-/// Whether an instruction reads a register.
+/// True if an instruction reads a register.
 pub(crate) fn is_read(insn: &Insn, register: usize) -> bool
     ensures { result ≡ is_read insn.now register }
 {
@@ -81,7 +81,7 @@ fn is_taken(callee: Callee, register: usize) -> bool
     }
 }
 
-/// Whether what is known of a register is that it is unset, or a pointer.
+/// True if a register is known to be unset, or a pointer, as `content` says.
 fn has(content: Content, kind: Kind) -> bool
     ensures { result ≡ has content (seen kind) }
 {
@@ -111,7 +111,7 @@ pub(crate) fn first_read(
     first_read(content, insn, frame, register + 1, left - 1)
 }
 
-/// Whether an instruction sets a register; a call of a helper sets register 0.
+/// True if an instruction sets a register; a call of a helper sets register 0.
 pub(crate) fn sets(insn: &Insn, register: usize) -> bool
     ensures { result ≡ sets insn.now register }
 {
@@ -136,7 +136,7 @@ fn is_answer(callee: Callee, register: usize) -> bool
     }
 }
 
-/// Whether an instruction leaves a register unset; a call of a helper does so with 1 to 5.
+/// True if an instruction leaves a register unset; a call of a helper does so with 1 to 5.
 pub(crate) fn unsets(insn: &Insn, register: usize) -> bool
     ensures { result ≡ unsets insn.now register }
 {

@@ -9,7 +9,7 @@ use asm_lines::{AsmError, AsmFault, Draft, Statement, statements};
 use bpf_decode::width;
 use std::alloc::{AllocError, Global};
 
-/// How many slots an instruction takes; one that is refused counts for one.
+/// The number of slots that an instruction takes; one that is refused counts for one.
 fn draft_slots(draft: &Result<Draft, AsmFault>) -> usize
     ensures { result ≡ draft_slots draft.now }
 {
@@ -19,7 +19,7 @@ fn draft_slots(draft: &Result<Draft, AsmFault>) -> usize
     }
 }
 
-/// How many slots a line takes.
+/// The number of slots that a line takes.
 fn line_slots(line: &Statement) -> usize
     ensures { result ≡ line_slots line.now }
 {
@@ -151,7 +151,7 @@ fn is_memory(fault: AsmFault) -> bool
     }
 }
 
-/// What is wanted of a line with a fault.
+/// The note that says what a line with that fault must have.
 #[rattlefmt::skip]
 fn fault_wanted(fault: AsmFault) -> &'static str
     ensures { result.now ≡ fault_wanted fault }

@@ -18,7 +18,7 @@ use helpers::{Argument, signature};
 use std::alloc::AllocError;
 use verifier::{Callee, Rule, Touches, callee_of, touches_of};
 
-/// Whether bytes may be in a slot: as many as `bytes`, from a place between `low` and `high` on.
+/// True if `bytes` bytes from a place between `low` and `high` on may be in a slot.
 fn are_in(low: u64, high: u64, bytes: u64, slot: u64) -> bool
     requires { slot < 64 }
     ensures { result ≡ (nat_lt (8 * slot) (high + bytes) && nat_lt low (8 * slot + 8)) }
@@ -26,7 +26,7 @@ fn are_in(low: u64, high: u64, bytes: u64, slot: u64) -> bool
     (8 * slot < high || 8 * slot - high < bytes) && low < 8 * slot + 8
 }
 
-/// Whether an access of bytes at a distance from what a kind points to may touch a slot.
+/// True if an access of bytes at a distance from what a kind points to may touch a slot.
 fn access_touches(kind: Kind, distance: u64, bytes: usize, slot: u64) -> bool
     requires { slot < 64 }
     ensures { result ≡ access_touches (seen kind) distance bytes slot }
@@ -43,7 +43,7 @@ fn access_touches(kind: Kind, distance: u64, bytes: usize, slot: u64) -> bool
     }
 }
 
-/// Whether a range in the stack may touch a slot; one of length 0 does not.
+/// True if a range in the stack may touch a slot; one of length 0 does not.
 fn numbers_touch(at: Number, length: Number, slot: u64) -> bool
     requires { slot < 64 }
     ensures { result ≡ touches (stack_range (seen (Kind.Ptr Region.Stack at)) (seen (Kind.Num length))) slot }
@@ -51,7 +51,7 @@ fn numbers_touch(at: Number, length: Number, slot: u64) -> bool
     length.first.high != 0 && are_in(at.first.low, at.first.high, length.first.high, slot)
 }
 
-/// Whether a helper's range may touch a slot.
+/// True if a helper's range may touch a slot.
 fn range_touches(pointer: Kind, length: Kind, slot: u64) -> bool
     requires { slot < 64 }
     ensures { result ≡ touches (stack_range (seen pointer) (seen length)) slot }
@@ -77,7 +77,7 @@ fn argument_touches(frame: &Frame, argument: Argument, register: usize, slot: u6
     }
 }
 
-/// Whether one of the arguments may, which are taken from that register on.
+/// True if one of the arguments may, which are taken from that register on.
 fn arguments_touch(frame: &Frame, arguments: &[Argument], register: usize, slot: u64) -> bool
     requires slot { slot < 64 }
     requires few { register + length arguments.now + length arguments.now < 100 }
@@ -107,7 +107,7 @@ fn call_touches(frame: &Frame, helper: u32, slot: u64) -> bool
     }
 }
 
-/// Whether an instruction may touch a slot.
+/// True if an instruction may touch a slot.
 fn insn_touches(frame: &Frame, insn: &Insn, slot: u64) -> bool
     requires { slot < 64 }
     ensures { result ≡ insn_touches frame.now insn.now slot }
@@ -153,7 +153,7 @@ fn push_slot(out: &mut String, slot: u64, kind: Option<Kind>) -> Result<(), Allo
     }
 }
 
-/// What is known of a slot of the stack, where slots are known.
+/// The kind of a slot of the stack, if slots are known.
 fn slot_at(frame: &Frame, slot: u64) -> Option<Kind>
     requires { slot < 64 }
     ensures { option_map seen result ≡ kept_kind frame.now (APtr Region.Stack (constant (8 * slot))) 0 8 }
@@ -197,7 +197,7 @@ fn push_slots(
     push_slots(out, insn, frame, slot + 1, left - 1)
 }
 
-/// Whether the rule looks at slots of the stack.
+/// True if the rule looks at slots of the stack.
 #[rattlefmt::skip]
 fn is_of_slots(rule: Rule) -> bool
     ensures { result ≡ is_of_slots rule }

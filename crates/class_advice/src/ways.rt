@@ -1,4 +1,4 @@
-//! Whether a way through a method leads to a slot on which a register is unset.
+//! Looks for a way through a method to a slot on which a register is unset.
 ghost use Rattle.std.specs.Prelude.{◌≡◌, ◌++◌, IfOk, OnOk};
 ghost use Rattle.bpf_decode.specs.Jump.{jump_target};
 ghost use Rattle.bpf_decode.specs.Values.{extended};
@@ -9,14 +9,14 @@ use bpf_decode::{Insn, width};
 use std::alloc::{AllocError, Global};
 use verifier::{Goes, goes_of};
 
-/// Whether such a way goes on past an instruction.
+/// True if such a way goes on past an instruction.
 fn stays_unset(before: bool, insn: &Insn, register: usize) -> bool
     ensures { result ≡ stays_unset before insn.now register }
 {
     !sets(insn, register) && (before || unsets(insn, register))
 }
 
-/// Whether a way goes on to the instruction after one.
+/// True if a way goes on to the instruction after one.
 fn falls_on(insn: &Insn) -> bool
     ensures { result ≡ falls_on insn.now }
 {
@@ -53,7 +53,7 @@ fn push_jumps(
     }
 }
 
-/// Whether a way leads to a slot: from the instruction before it, or by a jump.
+/// True if a way leads to a slot: from the instruction before it, or by a jump.
 fn arrives(falls: bool, targets: &[usize], at: usize) -> bool
     ensures { result ≡ arrives falls targets.now at }
 {
@@ -68,7 +68,7 @@ pub(crate) struct Read {
 }
 
 impl Read {
-    /// Whether the register is unset at the slot by a way that leads on to the first of these
+    /// True if the register is unset at the slot by a way that leads on to the first of these
     /// instructions, which begins `left` slots before, or by a jump to one of the targets. It costs
     /// a comparison for each instruction and each target.
     pub(crate) fn is_missed(

@@ -1,4 +1,4 @@
--- What a group of one request tells of a call: why it is refused, and that both are of one outcome.
+-- A group of one request tells why a call is refused, and that both are of one outcome.
 use Rattle.std.proofs.Common.{◌≡◌, ◌⊎◌, inl, inr, ℕ, ℤ, ◌^◌, ◌<◌, true, false, cond, nat_lt, List, [], ◌∷◌, length, Option, Some, None, Err, refl, ap, sym, ◌∙◌, subst, SFits, arith}
 use Rattle.std.specs.List.{AllByRecursion}
 use Rattle.std.specs.FinMap as fin

@@ -1,4 +1,4 @@
--- What the beginning of a file says as a class, the whole file says.
+-- The whole file has the class that its beginning has.
 use Rattle.std.proofs.Common.{◌≡◌, ◌+◌, ◌≤◌, ◌⊎◌, inl, inr, ℕ, List, Option, Some, None, Result, Ok, Err, take, length, sym, ap, subst, ◌∙◌, arith, length-take}
 use Rattle.std.specs.Prelude.{◌↔◌, IfErr, string_bytes}
 use Rattle.std.proofs.lemmas.List.{take_all}

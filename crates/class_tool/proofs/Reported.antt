@@ -1,4 +1,4 @@
--- What a call that was made and logged tells of the files.
+-- A call that was made and logged tells of the files.
 use Rattle.std.proofs.Common.{◌≡◌, ℕ, Bool, List, Option, Some, None, Result, Ok, Err, SFits}
 use Rattle.std.specs.Prelude.{IfOk}
 use Rattle.std.specs.Int.{w64}

@@ -1,4 +1,4 @@
--- What answers an action, and what is printed of it.
+-- The answer to an action, and the text that is printed of it.
 use Rattle.std.specs.Prelude.{◌≡◌, ℕ, List, [], ◌++◌, codes, length, string_bytes}
 use Rattle.std.specs.List.{flat_map}
 use Rattle.std.specs.Fmt.{decimal}

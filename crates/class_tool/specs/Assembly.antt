@@ -1,4 +1,4 @@
--- What `asm` writes and `dis` gives, and why they do not.
+-- The image that `asm` writes, the text that `dis` gives, and why they do not.
 use Rattle.std.specs.Prelude.{◌≡◌, ◌⊎◌, ⊤, ℕ, Bool, true, false, List, Option, IsUtf8}
 use Rattle.bpf_asm.specs.Canonical.{class_text, class_with_slots}
 use Rattle.bpf_asm.specs.Fault.{no_memory}

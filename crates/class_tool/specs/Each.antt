@@ -1,4 +1,4 @@
--- What `verify --all` prints: of each method the verdict of that method by itself.
+-- `verify --all` prints of each method the verdict of that method by itself.
 use Rattle.std.specs.Prelude.{◌≡◌, ℕ, ◌+◌, ◌&&◌, Bool, true, false, List, [], ◌∷◌, ◌++◌, Option, Some, None, codes, is_none, string_bytes}
 use Rattle.bpf_decode.specs.Class.{ClassMethod}
 use Rattle.bpf_decode.specs.declared.rule_set.RuleSet.{RuleSet}

@@ -1,4 +1,4 @@
--- What a failure prints.
+-- The text of a failure.
 use Rattle.std.specs.Prelude.{ℕ, List, ◌++◌, codes}
 use Rattle.std.specs.Fmt.{decimal}
 use Rattle.bpf_asm.specs.Fault.{error_text}

@@ -1,11 +1,11 @@
--- What files hold.
+-- The bytes of files.
 use Rattle.std.specs.Prelude.{◌≡◌, ◌≢◌, ⊤, ℕ, Bool, true, false, List, Option, Some, None, take}
 
 -- the bytes of each file that can be read, by its name
 abbrev pub Disk : Type 0
 Disk = List ℕ → Option (List ℕ)
 
--- What files hold, where that is known, and whether a write of one failed.
+-- The bytes of files, if they are known, and whether a write of one failed.
 pub record Storage : Type 0 where
   pub disk : Option Disk
   pub failed : Bool

@@ -1,4 +1,4 @@
--- What a file says as a class, by its image or its text, and why it says nothing.
+-- The class of a file, by its image or its text, and why it has none.
 use Rattle.std.specs.Prelude.{◌≡◌, ◌⊎◌, ◌≤◌, ◌==◌, ◌&&◌, ◌||◌, nat_lt, ⊤, ℕ, Bool, false, List, Option, Some, None, Err, IsUtf8, length, slice_index, string_bytes}
 use Rattle.std.specs.List.{AllByRecursion, list_any}
 use Rattle.bpf_asm.specs.Classes.{AsmError, read_class_text}

@@ -1,4 +1,4 @@
--- What is asked of the log, and what it has of it.
+-- A question to the log, and its answer.
 use Rattle.std.specs.Prelude.{◌≡◌, ◌∷◌, [], ⊤, ℕ, List, Some, None, codes}
 use Rattle.std.specs.Int.{w64, cast_unsigned}
 use Rattle.bpf_decode.specs.Class.{ClassMethod}

@@ -1,4 +1,4 @@
--- What a printer knows, and what a print that failed left.
+-- The knowledge of a printer, and the text that a failed print left.
 use Rattle.std.specs.Prelude.{ℕ, List, Option, Bool, take}
 use Rattle.std.specs.Io.KnownBytes.{Appends}
 use Rattle.class_tool.specs.declared.output.Printer.{Printer}
@@ -10,7 +10,7 @@ writer_of p = p.writer
 abbrev pub has_failed : {W : Type 0} → Printer W → Bool
 has_failed p = p.failed
 
--- What was printed grew by a beginning of that text, where it was known.
+-- The printed text grew by a beginning of that text, if it was known.
 pub record Begins (old new : Option (List ℕ)) (text : List ℕ) : Type 0 where
   pub count : ℕ
   pub grew : Appends old new (take count text)

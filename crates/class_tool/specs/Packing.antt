@@ -1,4 +1,4 @@
--- What `pack` writes, and why it does not.
+-- The image that `pack` writes, and why it does not.
 use Rattle.std.specs.Prelude.{◌≡◌, ◌⊎◌, ⊤, ℕ, List, [], ◌∷◌, ◌++◌, Option, Err, length}
 use Rattle.bpf_decode.specs.declared.rule_set.RuleSet.{RuleSet}
 use Rattle.bpf_decode.specs.Class.{ClassMethod, IsImage}

@@ -1,4 +1,4 @@
--- What is printed of a call.
+-- The text of a call's reply.
 use Rattle.std.specs.Prelude.{◌≡◌, ⊤, ℕ, Bool, List, ◌++◌, Option, Some, None, Ok, option_map, length, codes, string_bytes}
 use Rattle.std.specs.FinMap as fin
 use Rattle.std.specs.Fmt.{decimal, signed_decimal}

@@ -1,4 +1,4 @@
--- What is printed of all that an object holds.
+-- The lines of all that an object holds.
 use Rattle.std.specs.Prelude.{ℕ, ◌==◌, ◌&&◌, nat_le, not, List, [], ◌∷◌, ◌++◌, Some, None, Bool, true, false, codes, slice_index, if◌then◌else◌}
 use Rattle.std.specs.List.{flat_map, list_any}
 use Rattle.std.specs.FinMap as fin

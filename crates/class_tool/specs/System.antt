@@ -1,4 +1,4 @@
--- What is known of the files of the system.
+-- The knowledge of the system's files.
 use Rattle.std.specs.Prelude.{Bool}
 use Rattle.class_tool.specs.declared.files.SystemFiles.{SystemFiles}
 

@@ -32,7 +32,7 @@ pub struct Call<'a> {
     pub load: Option<&'a str>,
     /// The file that becomes the text of the object after it.
     pub save: Option<&'a str>,
-    /// Whether the reply shows what the object holds after the call.
+    /// True if the reply shows all that the object holds after the call.
     pub is_shown: bool,
 }
 
@@ -62,10 +62,10 @@ pub struct Packing<'a> {
     pub methods: Vec<RawMethod<'a>>,
 }
 
-/// What is asked for.
+/// A request to the program, as its words ask it.
 #[derive(Drop)]
 pub enum Action<'a> {
-    /// Whether the class in a file is safe.
+    /// Tell whether the class in a file is safe.
     Verify { image: &'a str },
     /// A call.
     Run(Call<'a>),

@@ -7,7 +7,7 @@ use crate::reply::Reply;
 use std::fmt;
 use verifier::{VerifiedClass, VerifiedMethod};
 
-/// What was found. It prints as its lines; there are none where an image was written.
+/// An answer. It prints as its lines; there are none if an image was written.
 #[derive(Drop)]
 pub enum Answer {
     /// The class is safe.

@@ -10,7 +10,7 @@ use crate::image::{fault_note, read_class};
 use bpf_decode::ClassImage;
 use std::alloc::Global;
 
-/// What a file holds, where that is UTF-8.
+/// The text of a file, if that is UTF-8.
 pub fn read_text<F: Reads>(alloc: Global, files: &F, name: &str) -> Result<String, Failure>
     ensures held { IfOk result (λ text. Holds (F.disk files.now) name.now (string_bytes text)) }
     ensures fails { IfErr result (TextFails (F.disk files.now) name.now) }

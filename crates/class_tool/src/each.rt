@@ -27,7 +27,7 @@ pub struct Verdicts {
 impl Verdicts {
     ghost use Rattle.std.specs.Prelude.{◌≡◌};
 
-    /// Whether no rule refuses a method.
+    /// True if no rule refuses a method.
     pub fn are_accepted(&self) -> bool
         ensures { result ≡ self.now.are_accepted }
     {

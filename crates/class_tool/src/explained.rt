@@ -1,4 +1,4 @@
-//! What was found, and the note below a failure's line.
+//! Finds an answer, and the note below a failure's line.
 ghost use Rattle.std.specs.Prelude.{◌≡◌, ◌⊎◌, [], IfOk, IfErr, OnErr, OnOk, slice_get, string_bytes};
 ghost use Rattle.class_advice.specs.Note.{unless_memory};
 ghost use Rattle.class_advice.specs.Source.{source_text};
@@ -131,7 +131,7 @@ fn verify_noted<F: Files>(
     }
 }
 
-/// What is wanted of a call that is refused.
+/// The note that says what a refused call must have.
 #[rattlefmt::skip]
 fn call_wanted(failure: &Failure) -> &'static str
     ensures { result.now ≡ call_wanted failure.now }

@@ -40,7 +40,7 @@ pub enum Failure {
 }
 
 impl Failure {
-    /// What a failed read of a file is: want of memory, or a file that cannot be read.
+    /// The failure that a failed read is: want of memory, or a file that cannot be read.
     pub fn of_read(error: &io::Error) -> Failure
         ensures no_memory { (result ≡ Failure.NoMemory) ↔ (error_kind error.now ≡ ErrorKind.OutOfMemory) }
         ensures other { result ≢ Failure.NoMemory → result ≡ Failure.CannotRead }

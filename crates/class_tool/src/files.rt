@@ -9,7 +9,7 @@ use std::io::{self, ErrorKind, Input, Read};
 
 /// The files that can be read.
 pub trait Reads {
-    // What each of them holds, where that is known.
+    // The bytes of each file, if they are known.
     ghost disk: { Self → Option Disk } = { λ _. None };
 
     /// All bytes of the file of that name.
@@ -25,7 +25,7 @@ pub trait Reads {
 
 /// The files that can be read and written.
 pub trait Files: Reads {
-    // Whether a write failed.
+    // True if a write failed.
     ghost failed: { Self → Bool };
 
     /// Makes those bytes the whole of the file of that name. Every other file stays as it was, also

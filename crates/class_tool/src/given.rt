@@ -11,7 +11,7 @@ use hex::FromHexError;
 use object_store::{Object, StoreError, calls};
 use std::alloc::Global;
 
-/// What entries are set in.
+/// The part of an object that entries are set in.
 #[derive(Clone, Copy)]
 pub(crate) enum Part {
     Xattrs,
@@ -39,7 +39,7 @@ fn name_in(alloc: Global, text: &[u8]) -> Result<Vec<u8>, Failure>
     }
 }
 
-/// What a change of an object made of it.
+/// The changed object, or why the store refused the change.
 fn changed(made: Result<Object, StoreError>) -> Result<Object, Failure>
     ensures { (answer : Result Content AStoreError) → Answered (λ o. o) made answer → Gives (λ o. o) result (of_change answer) }
 {

@@ -33,7 +33,7 @@ impl Source {
     }
 }
 
-/// Whether bytes begin as an image does, are too few for a text, or have a zero among them.
+/// True if bytes begin as an image does, are too few for a text, or have a zero among them.
 fn is_for_image(bytes: &[u8]) -> bool
     ensures { result ≡ is_for_image bytes.now }
 {
@@ -68,7 +68,7 @@ fn class_of_text(alloc: Global, text: &str) -> Result<ClassImage, Failure>
     }
 }
 
-/// What is wanted of a file that is read as an image.
+/// The note that says what a file that is read as an image must hold.
 const IMAGE_WANTED: &str =
     "  wanted: an image, which begins with RCL1 or RCL2, or a class's text in UTF-8\n  see docs/IMAGE.md\n";
 
@@ -163,7 +163,7 @@ pub(crate) fn read_source<F: Reads>(
     ensures noted { IfErr result (λ e. IsReadNote (F.disk files.now) name.now e (string_bytes note.new)) }
     ensures silent { OnOk result (string_bytes note.new ≡ []) }
 {
-    // What is proved of the bytes after those; the call does nothing.
+    // Bytes after those make no difference, which this call proves; it does nothing.
     beginning();
     let bytes = match files.read_first(alloc, name, IMAGE_LIMIT + 1) {
         Ok(bytes) => bytes,

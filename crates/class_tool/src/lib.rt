@@ -1,8 +1,9 @@
-//! What the program `radoscls` does once its words are read: `find` tells whether a class is safe,
+//! Does what the words of the program `radoscls` ask for: `find` tells whether a class is safe,
 //! calls a method of one, writes the image of a text or of raw code, or gives the text of an image.
 //! Its answer is true of the files as they were, and a failure says why, the first reason in a
-//! stated order. `verify_each` tells it of each method. Only an image is written, or a call's object,
-//! to the file that is named for it, and only where it is right. An answer and a failure print as the lines of `answer_text` and `failure_text`.
+//! stated order. `verify_each` tells it of each method. Only an image is written, or a call's
+//! object, to the file that is named for it, and only if it is right. An answer and a failure print
+//! as the lines of `answer_text` and `failure_text`.
 #![tactic(auto)]
 
 mod action;

@@ -12,7 +12,7 @@ use std::alloc::{AllocError, Global};
 use std::marker::Brand;
 use verifier::VerifiedClass;
 
-/// What a log has of an answered request.
+/// An answered request, as a log has it.
 #[derive(Drop)]
 pub struct Logged {
     /// The code that it was answered.

@@ -10,10 +10,10 @@ use std::{fmt, io};
 
 /// Where lines are printed.
 pub trait Output {
-    // What was printed, where that is known.
+    // The text that was printed, if that is known.
     ghost printed: { Self → Option (List ℕ) } = { λ _. None };
 
-    // Whether a write or a flush of it failed.
+    // True if a write or a flush of it failed.
     ghost failed: { Self → Bool };
 
     /// Prints a whole text, and lets nothing of it wait. It fails exactly where a write or a flush
@@ -46,7 +46,7 @@ impl<W: io::Write> Printer<W> {
         }
     }
 
-    /// Whether a write or a flush failed.
+    /// True if a write or a flush failed.
     pub fn has_failed(&self) -> bool
         ensures { result ≡ has_failed self.now }
     {
@@ -93,7 +93,7 @@ fn write_bytes<W: io::Write>(writer: &mut W, bytes: &[u8]) -> io::Result<()>
     Err(io::Error::from(ErrorKind::TimedOut))
 }
 
-/// What a text has after that many bytes, as far as a window shows it.
+/// The bytes of a text after that many, as far as a window shows them.
 fn window_of<D: fmt::Display>(text: &D, skip: usize) -> Result<Window, fmt::Error>
     ensures { IfOk result (λ w. IfSome (D.output text.now) (λ t. shown w ≡ take 1024 (drop skip t))) }
 {

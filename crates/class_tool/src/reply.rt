@@ -11,8 +11,7 @@ use object_store::Object;
 use std::alloc::{AllocError, Global};
 use std::fmt;
 
-/// What a call of a method came to. It prints as four lines, and those of what is shown of the
-/// object.
+/// The end of a call of a method. It prints as four lines, and those that show the object.
 #[derive(Drop)]
 pub struct Reply {
     /// The code that was answered.
@@ -21,7 +20,7 @@ pub struct Reply {
     pub output: String,
     /// The instructions that the call executed.
     pub steps: usize,
-    /// How much the object holds after the call; `None` where it is absent.
+    /// The sizes of the object's parts after the call; `None` if it is absent.
     pub object: Option<Holdings>,
     /// The lines of all that the object holds then, where they are asked for.
     pub shown: String,
@@ -29,7 +28,7 @@ pub struct Reply {
     pub(crate) after: Option<Object>,
 }
 
-/// How much an object holds.
+/// The sizes of an object's parts.
 #[derive(Clone, Copy, PartialEq, Eq)]
 pub struct Holdings {
     /// Bytes of data.
@@ -41,7 +40,7 @@ pub struct Holdings {
 }
 
 impl Holdings {
-    /// How much an object holds, if there is one.
+    /// The sizes of an object's parts, if there is one.
     fn of(object: Option<&Object>) -> Option<Holdings>
         ensures { result ≡ option_map holdings_of (option_copied object.entry) }
     {

@@ -22,7 +22,7 @@ fn digits_of<'a>(word: &'a str) -> &'a str
     if word == "-" { "" } else { word }
 }
 
-/// What the first line makes.
+/// The object that the first line makes.
 fn of_data(alloc: Global, words: &[&str]) -> Result<Object, Failure>
     ensures { Gives (λ o. o) result (of_data (map (λ w. w.now) words.now)) }
 {
@@ -32,7 +32,7 @@ fn of_data(alloc: Global, words: &[&str]) -> Result<Object, Failure>
     }
 }
 
-/// What a line's first word has set.
+/// The part that a line's first word has set.
 fn part_named(word: &str) -> Option<Part>
     ensures { result ≡ part_named word.now }
 {
@@ -45,7 +45,7 @@ fn part_named(word: &str) -> Option<Part>
     None
 }
 
-/// What a name and the words after it make of an object: one value.
+/// Sets the one value that a name and the words after it spell.
 fn of_value(
     alloc: Global,
     part: Part,
@@ -67,7 +67,7 @@ fn of_value(
     }
 }
 
-/// What a name and a value make of an object.
+/// Sets the value that a name and the next word spell.
 fn of_name(alloc: Global, part: Part, object: &Object, words: &[&str]) -> Result<Object, Failure>
     ensures { Gives (λ o. o) result (of_name part object.now (map (λ w. w.now) words.now)) }
 {
@@ -91,7 +91,7 @@ fn of_part(
     }
 }
 
-/// What another line makes of an object.
+/// Does another line to an object.
 fn of_entry(alloc: Global, object: &Object, words: &[&str]) -> Result<Object, Failure>
     ensures { Gives (λ o. o) result (of_entry object.now (map (λ w. w.now) words.now)) }
 {
@@ -101,7 +101,7 @@ fn of_entry(alloc: Global, object: &Object, words: &[&str]) -> Result<Object, Fa
     }
 }
 
-/// What a line's words make of the object of the lines before.
+/// Does a line's words to the object that the lines before made.
 fn of_words(alloc: Global, object: Option<&Object>, words: &[&str]) -> Result<Object, Failure>
     ensures { Gives (λ o. o) result (of_words (option_copied object.entry) (map (λ w. w.now) words.now)) }
 {
@@ -111,7 +111,7 @@ fn of_words(alloc: Global, object: Option<&Object>, words: &[&str]) -> Result<Ob
     }
 }
 
-/// What the line of a number makes of the object of the lines before.
+/// Does the line of that number to the object that the lines before made.
 fn of_line(
     alloc: Global,
     number: usize,
@@ -150,7 +150,7 @@ pub(crate) fn spelled_object(alloc: Global, text: &str) -> Result<Option<Object>
     Ok(object)
 }
 
-/// Whether two are both absent, or hold the same.
+/// True if two are both absent, or hold the same.
 fn are_same(a: Option<&Object>, b: Option<&Object>) -> bool
     ensures { IsTrue result ↔ (option_copied a.entry ≡ option_copied b.entry) }
 {
@@ -161,7 +161,7 @@ fn are_same(a: Option<&Object>, b: Option<&Object>) -> bool
     }
 }
 
-/// Whether a text spells that object.
+/// True if a text spells that object.
 fn spells(alloc: Global, text: &str, object: Option<&Object>) -> Result<bool, Failure>
     ensures some { IfOk result (λ same. IsTrue same ↔ (spelled_object text.now ≡ Ok (option_copied object.entry))) }
     ensures none { IfErr result (λ e. e ≡ Failure.NoMemory) }

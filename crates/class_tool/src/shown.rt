@@ -1,4 +1,4 @@
-//! What is printed of all that an object holds.
+//! Prints all that an object holds.
 ghost use Rattle.std.specs.Prelude.{◌≡◌, ◌++◌, ◌==◌, ◌&&◌, IfOk, OnOk, not, slice_index, string_bytes, codes};
 ghost use Rattle.std.specs.List.{flat_map, list_any};
 ghost use Rattle.std.specs.FinMap as fin;
@@ -28,7 +28,7 @@ fn is_printable(b: u8) -> bool
     33 <= b && b <= 126 && b != b'='
 }
 
-/// Whether a byte among them isn't printable.
+/// True if a byte among them isn't printable.
 fn has_other(name: &[u8]) -> bool
     ensures { result ≡ list_any (λ b. not (is_printable b)) name.now }
 {
@@ -40,7 +40,7 @@ fn has_other(name: &[u8]) -> bool
     false
 }
 
-/// Whether a name begins as one in hexadecimal does.
+/// True if a name begins as one in hexadecimal does.
 fn begins_as_hex(name: &[u8]) -> bool
     ensures { result ≡ (slice_index name.now 0 == 48 && slice_index name.now 1 == 120) }
 {
@@ -50,7 +50,7 @@ fn begins_as_hex(name: &[u8]) -> bool
     }
 }
 
-/// Whether a name is printed as text.
+/// True if a name is printed as text.
 fn is_text(name: &[u8]) -> bool
     ensures { result ≡ is_text name.now }
 {
@@ -153,7 +153,7 @@ fn content_text(alloc: Global, object: &Object) -> Result<String, AllocError>
     Ok(text)
 }
 
-/// What is shown of an object, where that is asked for.
+/// The lines that show an object, if they are asked for.
 pub(crate) fn shown_text(
     alloc: Global,
     is_shown: bool,

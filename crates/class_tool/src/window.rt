@@ -3,7 +3,7 @@ ghost use Rattle.std.specs.Prelude.{◌≡◌, ◌++◌, ◌≤◌, [], take};
 
 use std::fmt;
 
-/// How many bytes a window shows at most.
+/// The most bytes that a window shows.
 pub(crate) const ROOM: usize = 1_024;
 
 /// Shows a part of the text that is written to it: what comes after the first bytes, so many, as far
@@ -31,7 +31,7 @@ impl Window {
         }
     }
 
-    /// What it shows.
+    /// The bytes that it shows.
     pub(crate) fn shown(&self) -> &[u8]
         ensures { result.now ≡ shown self.now }
     {

@@ -1,4 +1,4 @@
--- How all calls ended, by what each client's thread did.
+-- The ends of all calls, by what each client's thread did.
 use Rattle.std.proofs.Common.{◌≡◌, ◌++◌, ◌∷◌, [], ℕ, zero, suc, ◌+◌, ◌<◌, ◌≤◌, ◌⊎◌, inl, inr, false, List, Result, Some, length, length-append, map, slice_index_or, refl, sym, ap, subst, ◌∙◌, arith}
 use Rattle.std.specs.List.{All, slice_get}
 use Rattle.std.proofs.Math.Seq.{get_or-append_seam}

@@ -1,4 +1,4 @@
--- What a file comes to, by what was printed.
+-- The end of a file, by what was printed.
 use Rattle.std.proofs.Common.{◌≡◌, ◌⊎◌, inl, inr, ℕ, List, Option, Some, Bool, Result, Ok, Err, IfOk, string_bytes, sym, subst}
 use Rattle.std.specs.Io.KnownBytes.{Appends}
 use Rattle.pg_log.specs.Log.{Classes}

@@ -1,4 +1,4 @@
--- What is true of how the calls of a cluster file ended.
+-- Facts on the ends of the calls of a cluster file.
 use Rattle.std.specs.Prelude.{◌≡◌, ℕ, suc, List, [], ◌∷◌, Some, None, Result, Ok, Err, slice_get}
 use Rattle.pg_log.specs.Log.{Classes}
 use Rattle.cluster_file.specs.Planned.{PlannedCall}

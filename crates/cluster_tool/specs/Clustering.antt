@@ -1,4 +1,4 @@
--- What is printed of a cluster file, and why nothing was done.
+-- The text that is printed of a cluster file, and why nothing was done.
 use Rattle.std.specs.Prelude.{◌≡◌, ◌⊎◌, ℕ, List, Option, Some, None, Ok, Err, Result, Bool, true, map, if◌then◌else◌}
 use Rattle.std.specs.Io.KnownBytes.{Appends}
 use Rattle.class_tool.specs.Assembly.{TextFails}

@@ -1,4 +1,4 @@
--- What a cluster is made of, by the numbers of a file's first line.
+-- The shape of a cluster, by the numbers of a file's first line.
 use Rattle.std.specs.Prelude.{◌^◌, ◌-◌, nat_le, if◌then◌else◌, Option, Some, None}
 use Rattle.osd.specs.Limits.{is_within_limits}
 use Rattle.osd.specs.declared.config.Config.{Config}

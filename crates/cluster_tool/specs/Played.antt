@@ -1,4 +1,4 @@
--- How a plan may end.
+-- The ends that a plan may have.
 use Rattle.std.specs.Prelude.{◌≡◌, ◌++◌, ⊤, ℕ, List, [], ◌∷◌, Result, length, map}
 use Rattle.pg_log.specs.Log.{Classes}
 use Rattle.cluster_file.specs.Plan.{clients_in}

@@ -3,14 +3,15 @@ ghost use Rattle.tenant_classes.specs.declared.tenant_class.TheConstants.{TENANT
 
 use tenant_classes::{TENANT_LIMIT, TenantClass};
 
-/// What is asked for: a file of calls and maps, played with the built-in classes and the tenants'.
+/// The run that is asked for: of a file of calls and maps, with the built-in classes and the
+/// tenants'.
 #[derive(Drop)]
 pub struct Clustering<'a> {
     /// The file.
     pub file: &'a str,
     /// The tenants' classes, by their ids from 2.
     pub tenants: Vec<TenantClass<'a>>,
-    /// Whether the line of each call shows what it asked: the group of its object, and its request.
+    /// True if the line of each call shows what it asked: the group of its object, and its request.
     pub is_shown: bool,
     ghost room: { length tenants.items ≤ TENANT_LIMIT },
 }

@@ -47,7 +47,7 @@ impl<'a, N: ClusterName, R: Wait> Caller<'a, N, R> {
         }
     }
 
-    /// How often it nudged.
+    /// The number of its nudges.
     pub fn nudges(&self) -> u64 {
         self.session.nudges()
     }
@@ -90,6 +90,7 @@ impl<'a, N: ClusterName, R: Wait + Clock> Caller<'a, N, R> {
             call.method(),
             call.input(),
         );
+        // Its thread can refuse nothing: `into_ends` does, once all threads have ended.
         if self.ends.push(end).is_err() {
             self.lost = true;
         }
@@ -97,7 +98,7 @@ impl<'a, N: ClusterName, R: Wait + Clock> Caller<'a, N, R> {
 }
 
 impl<N: ClusterName, R> Caller<'_, N, R> {
-    /// How its calls ended. It fails where memory was refused to keep one of these ends.
+    /// The ends of its calls. It fails if memory was refused to keep one of them.
     pub fn into_ends(self) -> Result<Vec<Result<Reply, ExecError>>, AllocError>
         ensures { IfOk result (λ v. (v.items ≡ self.entry.ends) × (self.entry.lost ≡ false)) }
     {

@@ -4,7 +4,7 @@ ghost use Rattle.cluster_tool.specs.Config.{config_of};
 use cluster_file::Numbers;
 use osd::Config;
 
-/// What a first line's numbers make, where each is within its limits.
+/// The cluster that a first line's numbers make, if each is within its limits.
 pub(crate) fn config_of(numbers: Numbers) -> Option<Config>
     ensures { result ≡ config_of numbers }
 {

@@ -1,4 +1,4 @@
-//! What may go to another thread, for the proofs of `playing`. The functions do nothing.
+//! Facts on what may go to another thread, for the proofs of `playing`. The functions do nothing.
 ghost use denote.Param.Send.{IsSend, IsSync};
 ghost use denote.Ref.{NamedLft};
 ghost use Rattle.cluster_tool.specs.contracts.caller.Caller as caller;

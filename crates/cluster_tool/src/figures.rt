@@ -1,4 +1,4 @@
-//! What a run took. Nothing is proved of these numbers.
+//! Counts what a run takes. Nothing is proved of these numbers.
 
 use osd::{DeliveryMode, Fate, Gate};
 use std::sync::atomic::{AtomicBool, AtomicU64, Ordering};
@@ -11,18 +11,18 @@ const SECOND: u64 = 1_000_000_000;
 /// Nanoseconds of a microsecond.
 const MICROSECOND: u64 = 1_000;
 
-/// How many turns in a row workers have nothing to do before the first call is made. They begin with
-/// the first maps, so what they take first is no quiet.
+/// The number of turns in a row in which workers have nothing to do, before the first call is made.
+/// They begin with the first maps, so what they take first is no quiet.
 const QUIET_TURNS: u64 = 1_000;
 
-/// How many turns the first call waits for that at most.
+/// The most turns that the first call waits for that.
 const TURN_LIMIT: u64 = 100_000;
 
-/// What a run took, from its first call on. All threads that play it add to it; it is shown as seven
-/// lines. Counts are modulo 2^64.
+/// The counts of a run, from its first call on. All threads that play it add to them; they are
+/// shown as seven lines. Counts are modulo 2^64.
 #[derive(Drop)]
 pub struct Figures {
-    /// Whether the first call has begun, and when that was, in nanoseconds of the clock.
+    /// True if the first call has begun, and when that was, in nanoseconds of the clock.
     has_begun: AtomicBool,
     start: AtomicU64,
     calls: AtomicU64,
@@ -31,7 +31,7 @@ pub struct Figures {
     worst: AtomicU64,
     /// The nanoseconds of the run.
     whole: AtomicU64,
-    /// How many operations workers took, how many of them are requests, and what nodes sent.
+    /// The operations that workers took, the requests among them, and the messages that nodes sent.
     operations: AtomicU64,
     requests: AtomicU64,
     messages: AtomicU64,
@@ -67,7 +67,7 @@ pub(crate) fn shown_by<C: Clock>(clock: &C) -> u64 {
     }
 }
 
-/// How many of that many in those nanoseconds fit into a second; 0 if these are none.
+/// The rate a second of that many in those nanoseconds; 0 if these are none.
 fn rate(count: u64, nanoseconds: u64) -> u128 {
     if nanoseconds == 0 {
         return 0;
@@ -131,7 +131,7 @@ impl Figures {
         self.worst.fetch_max(nanoseconds, Ordering::SeqCst);
     }
 
-    /// How many calls have ended.
+    /// The number of calls that have ended.
     pub(crate) fn calls(&self) -> u64 {
         self.calls.load(Ordering::SeqCst)
     }

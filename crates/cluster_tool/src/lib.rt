@@ -1,8 +1,8 @@
-//! What the command `radoscls cluster` does once its words are read: `cluster` loads the built-in
+//! Does the command `radoscls cluster` once its words are read: `cluster` loads the built-in
 //! classes and the tenants', reads a file of calls and maps whole, makes the cluster that its first
 //! line names, and plays the rest: each client and each worker in a thread of its own, each map
-//! once all calls above it have ended. Each line that is printed of a call is how `exec` ended it:
-//! a reply is true of a legal list of requests to these classes (`specs/Answers.antt`). Nothing is
+//! once all calls above it have ended. Each call's line tells how `exec` ended it: a reply is true
+//! of a legal list of requests to these classes (`specs/Answers.antt`). Nothing is
 //! said of how long that takes (`Figures` measures it), that it ends, or of the order of calls of
 //! several clients.
 #![tactic(auto)]

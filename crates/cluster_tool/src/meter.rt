@@ -1,4 +1,4 @@
-//! How far a run is, told while it goes on. Nothing is proved of what is told.
+//! Tells while a run goes on how far it is. Nothing is proved of what it tells.
 
 use crate::figures::{Figures, shown_by};
 use std::io;
@@ -10,7 +10,7 @@ const SECOND: u64 = 1_000_000_000;
 /// Nanoseconds that the calls between two looks at the clock are to take at least.
 const LOOK: u64 = 125_000_000;
 
-/// How many steps are taken before the first look at the clock.
+/// The number of steps before the first look at the clock.
 const FIRST_PART: usize = 64;
 
 /// Where a run is measured, and to where a line a second goes, if it is wanted. Lines come between
@@ -44,7 +44,7 @@ impl<'a, E> Meter<'a, E> {
         self.figures
     }
 
-    /// Whether the clock is looked at after that many steps.
+    /// True if it is time to look at the clock, after that many steps.
     pub fn is_due(&self, steps: usize) -> bool {
         self.err.is_some() && steps >= self.part
     }

@@ -1,7 +1,7 @@
 use map_book::MapError;
 use rados_client::{ExecError, Reply};
 
-/// How a plan ended.
+/// The end of a plan.
 #[derive(Drop)]
 pub enum Played {
     /// Each call was made: how each client's calls ended, the first client's first.

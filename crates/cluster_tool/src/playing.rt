@@ -19,7 +19,7 @@ use std::sync::Wait;
 use std::thread::{Threads, for_each_mut, scope, scope_env};
 use std::time::Clock;
 
-/// How many workers a cluster has at most.
+/// The most workers of a cluster, as its limits have it.
 const WORKER_LIMIT: usize = 16;
 
 /// Plays a plan on a cluster of these parts, with these classes: each client and each worker in a
@@ -27,10 +27,9 @@ const WORKER_LIMIT: usize = 16;
 /// names, which are those of the parts and classes.
 pub(crate) fn play<
     N: ClusterName + Send + Sync,
-    R: Threads + Wait + Clock + Sync + Drop,
+    R: AllocGlobal + Threads + Wait + Clock + Sync + Drop,
     E: io::Write,
 >(
-    alloc: Global,
     rt: R,
     parts: Parts,
     table: ClassTable,
@@ -43,6 +42,7 @@ pub(crate) fn play<
     requires table { table ≡ N.classes }
     ensures { IfOk result (Plays table parts.config plan.now.steps) }
 {
+    let alloc = rt.alloc();
     let running = Running::<N, R>::named(alloc, rt, parts, table)?;
     Ok(play_while_served(alloc, &running, plan, meter))
 }
@@ -81,6 +81,7 @@ fn serve_all<N: ClusterName + Send + Sync, R: Threads + Wait + Sync>(
 ) {
     running_crosses::<N, R>();
     figures_cross();
+    // A number for each worker: a thread is started for each element.
     let mut numbers = [0, 1, 2, 3, 4, 5, 6, 7, 8, 9, 10, 11, 12, 13, 14, 15];
     let workers = running.config().workers.min(WORKER_LIMIT);
     let numbers = &mut numbers[..workers];
@@ -146,6 +147,8 @@ fn callers<'a, N: ClusterName, R: Wait>(
         let Ok(session) = Session::open(running) else {
             return Err(AllocError);
         };
+        // The lines name clients by these numbers; `open` gives them in this order, which no clause
+        // of it says.
         if session.client().get() != client + 1 {
             return Err(AllocError);
         }
@@ -154,7 +157,7 @@ fn callers<'a, N: ClusterName, R: Wait>(
     Ok(callers)
 }
 
-/// How many of these steps are calls.
+/// The number of these steps that are calls.
 fn count_calls(steps: &[Step]) -> u64 {
     let mut calls: u64 = 0;
     for step in steps {
@@ -238,7 +241,7 @@ fn note_nudges<N: ClusterName, R: Wait>(callers: &[Caller<'_, N, R>], figures: &
     }
 }
 
-/// How each client's calls ended. It fails where memory was refused to keep one of these ends.
+/// The ends of each client's calls. It fails if memory was refused to keep one of them.
 fn all_ends<N: ClusterName, R>(
     alloc: Global,
     callers: Vec<Caller<'_, N, R>>,

@@ -13,7 +13,7 @@ use osd::Config;
 use rados_client::{ExecError, Reply};
 use std::alloc::{AllocError, Global};
 
-/// How many groups a cluster has, where the lines of calls are to show what was asked.
+/// The number of a cluster's groups, if the lines of calls are to show what was asked.
 pub(crate) fn groups_if(is_shown: bool, config: &Config) -> Option<u64>
     requires { IsTrue (is_within_limits config.now) }
     ensures value { result ≡ groups_if is_shown config.now }
@@ -22,7 +22,7 @@ pub(crate) fn groups_if(is_shown: bool, config: &Config) -> Option<u64>
     if is_shown { Some(config.groups) } else { None }
 }
 
-/// How a call ended, at the end of its line.
+/// Appends the end of a call, which ends its line.
 fn push_end(
     alloc: Global,
     text: &mut String,
@@ -63,8 +63,7 @@ struct Client<'a> {
     ends: &'a [Result<Reply, ExecError>],
 }
 
-/// How lines are made: the memory for them, and how many groups there are, where they show what was
-/// asked.
+/// The form of lines: the memory for them, and the number of groups if they show what was asked.
 #[derive(Clone, Copy)]
 struct Form {
     alloc: Global,
@@ -73,7 +72,7 @@ struct Form {
 }
 
 impl Form {
-    /// What a call asked, where that is shown.
+    /// Appends what a call asked, if that is shown.
     fn push_asked(&self, text: &mut String, call: &Call) -> Result<(), AllocError>
         ensures { OnOk result (string_bytes text.new ≡ string_bytes text.old ++ asked_if self.now.groups call.now) }
     {

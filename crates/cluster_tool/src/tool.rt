@@ -23,7 +23,7 @@ use std::thread::Threads;
 use std::time::Clock;
 use tenant_classes::{class_names, classes};
 
-/// How a file ended.
+/// The end of a file.
 #[derive(Clone, Copy, Drop)]
 pub enum Ending {
     /// Each call was made, refused ones too, and all lines were printed.
@@ -38,15 +38,15 @@ pub enum Ending {
     Unprinted,
 }
 
-/// What else is asked for of a file: by which meter it is measured, and whether the line of each call
-/// shows what was asked.
+/// The manner in which a file is played: the meter that measures it, and whether the line of each
+/// call shows what was asked.
 #[derive(Drop)]
 struct Extras<'a, 'b, E> {
     meter: &'a mut Meter<'b, E>,
     is_shown: bool,
 }
 
-/// What is printed of a file, and how it ended.
+/// The text that is printed of a file, and its end.
 #[derive(Drop)]
 struct Printout {
     text: String,
@@ -62,8 +62,12 @@ struct Printout {
 /// first one in their order; the file can't be read or is no text. Nothing was printed then. It
 /// starts threads and waits for them: nothing is said of when it ends. What the run took is added
 /// to the meter's figures.
-pub fn cluster<F: Reads, O: Output, R: Threads + Wait + Clock + Sync + Drop, E: io::Write>(
-    alloc: Global,
+pub fn cluster<
+    F: Reads,
+    O: Output,
+    R: AllocGlobal + Threads + Wait + Clock + Sync + Drop,
+    E: io::Write,
+>(
     rt: R,
     files: &F,
     asked: &Clustering<'_>,
@@ -74,6 +78,7 @@ pub fn cluster<F: Reads, O: Output, R: Threads + Wait + Clock + Sync + Drop, E: 
     ensures fails { IfErr result (ClusteringFails (F.disk files.now) asked.now) }
     ensures silent { OnErr result (out.new ≡ out.old) }
 {
+    let alloc = rt.alloc();
     let table = classes(alloc, files, &asked.tenants)?;
     let names = class_names(alloc, &asked.tenants)?;
     let text = read_text(alloc, files, asked.file)?;
@@ -81,7 +86,7 @@ pub fn cluster<F: Reads, O: Output, R: Threads + Wait + Clock + Sync + Drop, E: 
         meter,
         is_shown: asked.is_shown,
     };
-    match settle(alloc, rt, table, &names, &text, extras) {
+    match settle(rt, table, &names, &text, extras) {
         Ok(printout) => Ok(print(printout, out)),
         Err(_) => Ok(Ending::NoMemory),
     }
@@ -98,9 +103,8 @@ fn print<O: Output>(printout: Printout, out: &mut O) -> Ending
     }
 }
 
-/// What comes of a text.
-fn settle<R: Threads + Wait + Clock + Sync + Drop, E: io::Write>(
-    alloc: Global,
+/// Plays a text.
+fn settle<R: AllocGlobal + Threads + Wait + Clock + Sync + Drop, E: io::Write>(
     rt: R,
     table: ClassTable,
     names: &[&str],
@@ -109,8 +113,9 @@ fn settle<R: Threads + Wait + Clock + Sync + Drop, E: io::Write>(
 ) -> Result<Printout, AllocError>
     ensures { IfOk result (λ o. IsPrintoutOf extras.entry.is_shown table (plan_of (map (λ n. n.now) names.now) text.now) (string_bytes o.text) o.ending) }
 {
+    let alloc = rt.alloc();
     match read_plan(alloc, names, text)? {
-        Reading::Plan(plan) => settle_plan(alloc, rt, table, &plan, extras),
+        Reading::Plan(plan) => settle_plan(rt, table, &plan, extras),
         Reading::Bad(line) => Ok(Printout {
             text: bad_line(alloc, line)?,
             ending: Ending::Bad,
@@ -129,9 +134,8 @@ fn refused<E: Display + Drop>(alloc: Global, line: usize, why: E) -> Result<Prin
     })
 }
 
-/// What comes of a plan.
-fn settle_plan<R: Threads + Wait + Clock + Sync + Drop, E: io::Write>(
-    alloc: Global,
+/// Plays a plan.
+fn settle_plan<R: AllocGlobal + Threads + Wait + Clock + Sync + Drop, E: io::Write>(
     rt: R,
     table: ClassTable,
     plan: &Plan,
@@ -139,6 +143,7 @@ fn settle_plan<R: Threads + Wait + Clock + Sync + Drop, E: io::Write>(
 ) -> Result<Printout, AllocError>
     ensures { IfOk result (λ o. IsPrintoutOf extras.entry.is_shown table (Ok plan.now) (string_bytes o.text) o.ending) }
 {
+    let alloc = rt.alloc();
     let Some(config) = config_of(plan.numbers()) else {
         return refused(alloc, 1, ConfigError::Limit);
     };
@@ -147,7 +152,7 @@ fn settle_plan<R: Threads + Wait + Clock + Sync + Drop, E: io::Write>(
         return refused(alloc, 1, ConfigError::NoMemory);
     };
     // The call picks the cluster's names: parts and classes are there already.
-    match play::<Brand, R, E>(alloc, rt, parts, table, plan, extras.meter) {
+    match play::<Brand, R, E>(rt, parts, table, plan, extras.meter) {
         Ok(Played::Done(ends)) => Ok(Printout {
             text: lines_of(alloc, groups, plan.steps(), &ends)?,
             ending: Ending::Done,

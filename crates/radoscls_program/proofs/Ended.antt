@@ -1,4 +1,4 @@
--- How a task's ending is the program's.
+-- A task's end is the program's.
 use Rattle.std.proofs.Common.{◌≡◌, ◌≢◌, ◌∙◌, [], inl, inr, refl, sym, ap, arith, Bool, true, false, List, ℕ, Option, Result, Ok, Err, IfOk, IfErr}
 use Rattle.command_line.specs.Parsed.{IsMemory, Text}
 use Rattle.command_line.specs.declared.unparsed.Unparsed.{Unparsed}

@@ -1,4 +1,4 @@
--- What words ask for, by what is read of them.
+-- The task that words ask for, by what is read of them.
 use Rattle.std.proofs.Common.{◌≡◌, ◌∙◌, ap₂, sym, subst, List, Result, Ok, Err, IfErr, IfOk}
 use Rattle.std.proofs.lemmas.Option.{some_pair_parts}
 use Rattle.command_line.specs.Parsed.{IsMemory, IsNoParse, IsParse, Parsed, Text}

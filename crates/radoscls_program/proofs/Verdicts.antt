@@ -1,4 +1,4 @@
--- How `verify --all` ends.
+-- The end of `verify --all`.
 use Rattle.std.proofs.Common.{◌≡◌, ◌++◌, inl, inr, refl, sym, subst, Bool, true, false, List, ℕ, Option}
 use Rattle.class_tool.specs.Each.{AreVerdicts}
 use Rattle.class_tool.specs.Explained.{IsFileNote}

@@ -1,4 +1,4 @@
--- What the arguments of a subcommand ask for.
+-- The arguments of each subcommand.
 use Rattle.std.specs.Prelude.{◌≡◌, ◌==◌, ◌&&◌, ◌||◌, Bool, true, false, Option, Some, None, is_none, if◌then◌else◌, length, option_and_then, option_map, codes}
 use Rattle.std.specs.Str.{bytes_eq}
 use Rattle.bpf_decode.specs.declared.rule_set.RuleSet.{RuleSet}
@@ -23,13 +23,13 @@ use Rattle.radoscls_program.specs.declared.task.Task.TheVariants as task
 abbrev pub rules_named : Text → Option RuleSet
 rules_named text = if bytes_eq text (codes "1") then Some One else if bytes_eq text (codes "2") then Some Two else None
 
--- What `pack` asks for: the file OUT of the image, the rule set --rules, and a method of each METHOD.
+-- `pack` takes the file OUT of the image, the rule set --rules, and a method of each METHOD.
 pub record TakesPacking (p : Parsed) (asked : Packing) : Type 0 where
   pub image : one_in p (codes "OUT") ≡ Some asked.image.now
   pub rules : option_and_then rules_named (one_in p (codes "rules")) ≡ Some asked.rules
   pub methods : AreRaw (all_in p (codes "METHOD")) asked.methods.items
 
--- What `run` asks for without the object: the file IN of the image, METHOD, what --input spells,
+-- `run` takes, but for the object: the file IN of the image, METHOD, the bytes that --input spells,
 -- and the client of the number --caller.
 pub record TakesPlain (p : Parsed) (call : Plain) : Type 0 where
   pub image : one_in p (codes "IN") ≡ Some call.image.now
@@ -46,8 +46,8 @@ loads_alone p =
     is_none (one_in p (codes "load"))
     || (is_none (one_in p (codes "object")) && ((length (all_in p (codes "xattr")) == 0) && (length (all_in p (codes "key")) == 0)))
 
--- What `run` asks for: that, the object's data --object, an xattr of each --xattr and a key of each
--- --key, the files --load and --save, and whether --show is there. Values may be files'.
+-- `run` takes that, the object's data --object, an xattr of each --xattr and a key of each --key,
+-- the files --load and --save, and whether --show is there. Values may be files'.
 pub record TakesCall (p : Parsed) (call : Call) : Type 0 where
   pub plain : TakesPlain p (plain_of call)
   pub data_text : one_in p (codes "object") ≡ option_map (λ t. t.now) call.data
@@ -58,9 +58,9 @@ pub record TakesCall (p : Parsed) (call : Call) : Type 0 where
   pub alone : loads_alone p ≡ true
   pub shown : call.is_shown ≡ is_set_in p (codes "show")
 
--- What each action but a call is asked by: whether the class in the file IN is safe, without --all;
--- the image of the text in the file IN, into the file OUT; the image of raw code; the text of the
--- class in the file IN, with slots if --slots is there.
+-- Each action but a call takes: to tell whether a class is safe, the file IN, without --all; to
+-- assemble a text, the file IN and the file OUT of the image; to pack raw code, as `pack`; to give
+-- the text of a class, the file IN, with slots if --slots is there.
 abbrev pub TakesAction : Parsed → Action → Type 0
 TakesAction p (Verify image) = (one_in p (codes "IN") ≡ Some image.now) × (is_set_in p (codes "all") ≡ false)
 TakesAction p (Run call) = ⊥
@@ -68,21 +68,21 @@ TakesAction p (Assemble text image) = (one_in p (codes "IN") ≡ Some text.now) 
 TakesAction p (Pack asked) = TakesPacking p asked
 TakesAction p (Disassemble image has_slots) = (one_in p (codes "IN") ≡ Some image.now) × (has_slots ≡ is_set_in p (codes "slots"))
 
--- What `sim` asks for: the file of events FILE, a tenant's class of each --class, and whether
--- --trace is there.
+-- `sim` takes the file of events FILE, a tenant's class of each --class, and whether --trace is
+-- there.
 pub record TakesSim (p : Parsed) (s : Simulation) : Type 0 where
   pub file : one_in p (codes "FILE") ≡ Some s.file.now
   pub tenants : SpellsTenants (all_in p (codes "class")) s.tenants.items
   pub drawn : s.is_drawn ≡ is_set_in p (codes "trace")
 
--- What `cluster` asks for: the file of calls and maps FILE, a tenant's class of each --class, and
--- whether --show is there.
+-- `cluster` takes the file of calls and maps FILE, a tenant's class of each --class, and whether
+-- --show is there.
 pub record TakesCluster (p : Parsed) (c : Clustering) : Type 0 where
   pub file : one_in p (codes "FILE") ≡ Some c.file.now
   pub tenants : SpellsTenants (all_in p (codes "class")) c.tenants.items
   pub shown : c.is_shown ≡ is_set_in p (codes "show")
 
--- What `verify --all` asks for: the verdicts of the class in the file IN.
+-- `verify --all` takes the file IN of the class.
 abbrev pub TakesEach : Parsed → Text → Type 0
 TakesEach p image = (one_in p (codes "IN") ≡ Some image) × (is_set_in p (codes "all") ≡ true)
 

@@ -1,4 +1,4 @@
--- What words ask for.
+-- The task that words ask for.
 use Rattle.std.specs.Prelude.{List}
 use Rattle.command_line.specs.Parsed.{IsParse, Parsed, Text}
 use Rattle.radoscls_program.specs.Arguments.{Asks}

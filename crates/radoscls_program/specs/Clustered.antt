@@ -1,4 +1,4 @@
--- How a file of calls and maps was played on a cluster, and what it printed.
+-- The run of a file of calls and maps on a cluster, and the text that it printed.
 use Rattle.std.specs.Prelude.{◌⊎◌, Option}
 use Rattle.class_tool.specs.Files.{Disk}
 use Rattle.class_tool.specs.declared.failure.Failure.{Failure}
@@ -23,9 +23,9 @@ IsCut disk old new c = (middle : Stream) × Ran disk old middle c ending.NoMemor
 abbrev pub IsBarred : Option Disk → Stream → Stream → Clustering → Type 0
 IsBarred disk old new c = (failure : Failure) × ClusteringFails disk c failure × IsPrinted old new (failure_line failure)
 
--- How playing a file ends: each call was made, and its line printed by the answer that its session
--- gave; or a line is bad, the cluster or a map is refused, a write or a flush failed, memory was
--- refused, or nothing was done.
+-- The ends of a run of a file: each call was made, and its line printed by the answer that its
+-- session gave; or a line is bad, the cluster or a map is refused, a write or a flush failed,
+-- memory was refused, or nothing was done.
 abbrev pub ClusterEnds : Option Disk → Stream → Stream → Clustering → ExitStatus → Type 0
 ClusterEnds disk old new c Done = Ran disk old new c ending.Done
 ClusterEnds disk old new c Refused =

@@ -1,4 +1,4 @@
--- How `verify --all` ends, and what it printed.
+-- The end of `verify --all`, and the text that it printed.
 use Rattle.std.specs.Prelude.{◌≡◌, ◌⊎◌, ◌++◌, ℕ, Bool, true, false, List, [], Option, string_bytes}
 use Rattle.class_tool.specs.Each.{AreVerdicts}
 use Rattle.class_tool.specs.Explained.{IsFileNote}

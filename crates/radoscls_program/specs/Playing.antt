@@ -1,4 +1,4 @@
--- How a file of events was played, and what it printed.
+-- The run of a file of events, and the text that it printed.
 use Rattle.std.specs.Prelude.{◌⊎◌, Option}
 use Rattle.class_tool.specs.Files.{Disk}
 use Rattle.class_tool.specs.declared.failure.Failure.{Failure}
@@ -23,7 +23,7 @@ IsCut disk old new s = (middle : Stream) × Plays disk old middle s ending.NoMem
 abbrev pub IsBarred : Option Disk → Stream → Stream → Simulation → Type 0
 IsBarred disk old new s = (failure : Failure) × SimulationFails disk s failure × IsPrinted old new (failure_line failure)
 
--- How playing a file ends: each line was done and printed; or one is bad, a write or a flush
+-- The ends of a run of a file: each line was done and printed; or one is bad, a write or a flush
 -- failed, memory was refused at a line, or no line was done.
 abbrev pub SimEnds : Option Disk → Stream → Stream → Simulation → ExitStatus → Type 0
 SimEnds disk old new s Done = Plays disk old new s ending.Done

@@ -1,4 +1,4 @@
--- How the program ends, and what it printed and wrote.
+-- The ends of the program, and the text and files that it wrote.
 use Rattle.std.specs.Prelude.{◌≡◌, ◌⊎◌, ◌++◌, ℕ, Bool, List, [], Option, Result, Ok, Err, true, false}
 use Rattle.std.specs.Borrow.{Bor}
 use Rattle.command_line.specs.Parsed.{Text}

@@ -1,4 +1,4 @@
--- What the process ends with.
+-- The number that the process ends with.
 use Rattle.std.specs.Prelude.{ℕ}
 use Rattle.radoscls_program.specs.declared.status.ExitStatus.{ExitStatus}
 use Rattle.radoscls_program.specs.declared.status.ExitStatus.TheVariants.{Done, Refused, Usage}

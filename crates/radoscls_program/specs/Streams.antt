@@ -1,11 +1,11 @@
--- What is known of standard output.
+-- Standard output.
 use Rattle.std.specs.Prelude.{◌≡◌, ◌⊎◌, ◌++◌, ℕ, List, Option, Bool, true, codes}
 use Rattle.std.specs.Io.KnownBytes.{Appends}
 use Rattle.class_tool.specs.Failure.{failure_text}
 use Rattle.class_tool.specs.Output.{Begins}
 use Rattle.class_tool.specs.declared.failure.Failure.{Failure}
 
--- What was printed on it, and whether a write or a flush of it failed.
+-- The text that was printed on it, and whether a write or a flush of it failed.
 pub record Stream : Type 0 where
   pub printed : Option (List ℕ)
   pub failed : Bool

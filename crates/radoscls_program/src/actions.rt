@@ -1,4 +1,4 @@
-//! What the arguments of each subcommand ask for.
+//! Reads the arguments of each subcommand.
 ghost use Rattle.std.specs.Prelude.{◌≡◌, ◌≢◌, ◌≤◌, List, IfErr, IfOk, None, Some, codes, false, length, option_and_then, true};
 ghost use Rattle.command_line.specs.Parsed.{all_in, one_in, parsed_of};
 ghost use Rattle.file_words.specs.Words.{id_in};
@@ -27,7 +27,7 @@ use sim::Simulation;
 use std::alloc::{AllocError, Global};
 use tenant_classes::TenantClass;
 
-/// What `run` asks for without the object.
+/// The arguments of `run`, but for the object.
 #[derive(Clone, Copy)]
 pub(crate) struct Plain<'a> {
     image: &'a str,
@@ -59,7 +59,7 @@ fn caller_of<'a>(words: &ParsedWords<'a>) -> Result<ClientId, Mistake<'a>>
     }
 }
 
-/// What `run` asks for without the object.
+/// Reads the arguments of `run`, but for the object.
 fn plain_call<'a>(words: &ParsedWords<'a>) -> Result<Plain<'a>, Mistake<'a>>
     ensures some { IfOk result (TakesPlain (parsed_of words.now)) }
     ensures none { IfErr result (λ _. (plain : APlain) → TakesPlain (parsed_of words.now) plain → ⊥) }
@@ -86,7 +86,7 @@ fn entries_of<'a>(
     entries(alloc, wanted, &texts)
 }
 
-/// Whether the object is that of a file, or that of words.
+/// True if the object is that of a file and of no words.
 fn loads_alone(alloc: Global, words: &ParsedWords<'_>) -> Result<bool, AllocError>
     ensures { IfOk result (λ alone. alone ≡ loads_alone (parsed_of words.now)) }
 {
@@ -110,7 +110,7 @@ fn check_object<'a>(alloc: Global, words: &ParsedWords<'a>) -> Result<(), Mistak
     }
 }
 
-/// What `run` asks for.
+/// The call that `run` asks for.
 pub(crate) fn call_of<'a>(alloc: Global, words: &ParsedWords<'a>) -> Result<Call<'a>, Mistake<'a>>
     ensures some { IfOk result (TakesCall (parsed_of words.now)) }
     ensures none { IfErr result (λ m. m ≢ Mistake.NoMemory → (call : ACall) → TakesCall (parsed_of words.now) call → ⊥) }
@@ -161,7 +161,7 @@ fn rules_of<'a>(words: &ParsedWords<'a>) -> Result<RuleSet, Mistake<'a>>
     }
 }
 
-/// What `pack` asks for.
+/// The image that `pack` asks for.
 pub(crate) fn packing_of<'a>(
     alloc: Global,
     words: &ParsedWords<'a>,
@@ -193,7 +193,7 @@ fn tenants_of<'a>(
     tenants_in(alloc, &texts)
 }
 
-/// What `sim` asks for.
+/// The run that `sim` asks for.
 pub(crate) fn simulation_of<'a>(
     alloc: Global,
     words: &ParsedWords<'a>,
@@ -210,7 +210,7 @@ pub(crate) fn simulation_of<'a>(
     })
 }
 
-/// What `cluster` asks for.
+/// The run that `cluster` asks for.
 pub(crate) fn clustering_of<'a>(
     alloc: Global,
     words: &ParsedWords<'a>,

@@ -1,4 +1,4 @@
-//! What words ask for.
+//! Finds the task that words ask for.
 ghost use Rattle.std.specs.Prelude.{◌≡◌, ◌≢◌, IfErr, IfOk, codes, map};
 ghost use Rattle.command_line.specs.Parsed.{IsMemory, parsed_of};
 ghost use Rattle.radoscls_program.specs.Arguments.{Asks, Names};
@@ -110,7 +110,7 @@ fn task_of<'a>(alloc: Global, words: &ParsedWords<'a>) -> Result<Task<'a>, Mista
     }
 }
 
-/// What read words ask for.
+/// The task that read words ask for.
 fn asked_by<'a>(alloc: Global, words: &ParsedWords<'a>) -> Result<Task<'a>, Mistake<'a>>
     ensures asks { IfOk result (Asks (parsed_of words.now)) }
     ensures asks_not { IfErr result (λ m. m ≢ Mistake.NoMemory → (task : ATask) → Asks (parsed_of words.now) task → ⊥) }
@@ -119,7 +119,7 @@ fn asked_by<'a>(alloc: Global, words: &ParsedWords<'a>) -> Result<Task<'a>, Mist
     task_of(alloc, words)
 }
 
-/// What is said of a mistake, with the usage of the subcommand.
+/// The message on a mistake, with the usage of the subcommand.
 fn told(alloc: Global, words: &ParsedWords<'_>, mistake: Mistake<'_>) -> Unparsed
     ensures { mistake.entry ≡ Mistake.NoMemory → IsMemory result }
 {
@@ -132,7 +132,7 @@ fn told(alloc: Global, words: &ParsedWords<'_>, mistake: Mistake<'_>) -> Unparse
     }
 }
 
-/// What read words ask for, or what is said of them.
+/// The task that read words ask for, or the message on them.
 fn asked_or_told<'a>(alloc: Global, words: &ParsedWords<'a>) -> Result<Task<'a>, Unparsed>
     ensures asks { IfOk result (Asks (parsed_of words.now)) }
     ensures asks_not { IfErr result (λ e. (IsMemory e → ⊥) → (task : ATask) → Asks (parsed_of words.now) task → ⊥) }
@@ -143,8 +143,8 @@ fn asked_or_told<'a>(alloc: Global, words: &ParsedWords<'a>) -> Result<Task<'a>,
     }
 }
 
-/// What words ask for; the first is the program's own name. Else their text for the user: usage,
-/// help, or what is wrong with them.
+/// The task that words ask for; the first is the program's own name. Else a text for the user:
+/// usage, help, or what is wrong with the words.
 pub(crate) fn asked<'a, S: AsStr>(alloc: Global, words: &'a [S]) -> Result<Task<'a>, Unparsed>
     ensures asked { IfOk result (AreFor (map S.text words.entry.now)) }
     ensures unasked { IfErr result (λ e. (IsMemory e → ⊥) → AreForNone (map S.text words.entry.now)) }

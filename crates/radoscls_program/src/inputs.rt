@@ -11,14 +11,14 @@ use crate::values::file_of;
 use command_line::ParsedWords;
 use std::alloc::{AllocError, Global};
 
-/// Whether that names standard input.
+/// True if that names standard input.
 fn is_input(name: &str) -> bool
     ensures { result ≡ is_input name.now }
 {
     name == "-"
 }
 
-/// What stands after the first `=`.
+/// The text after the first `=`.
 fn after_equals<'a>(text: &'a str) -> &'a str
     ensures { result.now ≡ image_in text.now }
 {
@@ -28,7 +28,7 @@ fn after_equals<'a>(text: &'a str) -> &'a str
     }
 }
 
-/// What stands after the first `:`.
+/// The text after the first `:`.
 fn after_colon<'a>(text: &'a str) -> &'a str
     ensures { result.now ≡ after_field text.now }
 {
@@ -122,7 +122,7 @@ fn push_value_files<'a>(names: &mut Vec<&'a str>, values: &[&'a str]) -> Result<
     Ok(())
 }
 
-/// How many of them name standard input.
+/// The number of them that name standard input.
 fn inputs_among(names: &[&str]) -> usize
     ensures { result ≡ count_by is_input (map (λ n. n.now) names.now) }
 {
@@ -135,7 +135,7 @@ fn inputs_among(names: &[&str]) -> usize
     count
 }
 
-/// Whether an argument is standard input.
+/// True if an argument is standard input.
 fn names_input(words: &ParsedWords<'_>, id: &str) -> bool
     ensures { result ≡ list_any is_input (named (one_in (parsed_of words.now) id.now)) }
 {

@@ -15,7 +15,7 @@ pub(crate) enum Mistake<'a> {
     ObjectTwice,
 }
 
-/// What an argument wants of its text.
+/// The form that an argument wants of its text.
 #[derive(Clone, Copy)]
 pub(crate) enum Wanted {
     Caller,
@@ -52,7 +52,7 @@ impl Wanted {
 }
 
 impl Mistake<'_> {
-    /// What is said of it: the value, the argument and the form that it wants.
+    /// The message on it: the value, the argument and the form that it wants.
     pub(crate) fn message(self, alloc: Global) -> Result<String, AllocError> {
         match self {
             Mistake::NoMemory => String::from_str(alloc, "no memory"),

@@ -50,7 +50,7 @@ fn respond<O: Output>(found: Result<Answer, Failure>, note: &str, out: &mut O) -
     }
 }
 
-/// What was found, and the note where that is asked for.
+/// Finds an answer, and writes the note if that is asked for.
 fn find_with_note<F: Files>(
     alloc: Global,
     files: &mut F,
@@ -145,34 +145,34 @@ fn play<F: Reads, O: Output>(
     }
 }
 
-/// Plays a file of calls and maps on a cluster. What that took is written to `err`, where it is
+/// Plays a file of calls and maps on a cluster. Its figures are written to `stats`, if they are
 /// asked for.
-fn measure<R: Threads + Wait + Clock + Sync, F: Reads, O: Output, E: io::Write>(
-    alloc: Global,
+fn measure<R: AllocGlobal + Threads + Wait + Clock + Sync, F: Reads, O: Output, E: io::Write>(
     rt: &R,
     files: &F,
     asked: &Clustering<'_>,
-    is_measured: bool,
     out: &mut O,
-    err: &mut E,
+    stats: Option<&mut E>,
 ) -> ExitStatus
     ensures { ClusterEnds (F.disk files.now) (stream O.printed O.failed out.old) (stream O.printed O.failed out.new) asked.now result }
 {
     let figures = Figures::new();
-    let lines = if is_measured { Some(&mut *err) } else { None };
-    let mut meter = Meter::new(&figures, lines);
-    let status = play_cluster(alloc, rt, files, asked, &mut meter, out);
+    let Some(stats) = stats else {
+        return play_cluster(rt, files, asked, &mut Meter::<E>::new(&figures, None), out);
+    };
+    let mut meter = Meter::new(&figures, Some(&mut *stats));
+    let status = play_cluster(rt, files, asked, &mut meter, out);
+    // The meter wrote to `stats` too.
     drop(meter);
-    if is_measured && status == ExitStatus::Done {
-        let _ = write!(err, "{figures}");
+    if status == ExitStatus::Done {
+        let _ = write!(stats, "{figures}");
     }
     status
 }
 
 /// Does what the words ask for, and prints it.
 #[rattlefmt::skip]
-fn do_task<R: Threads + Wait + Clock + Sync, F: Files, O: Output, E: io::Write>(
-    alloc: Global,
+fn do_task<R: AllocGlobal + Threads + Wait + Clock + Sync, F: Files, O: Output, E: io::Write>(
     rt: &R,
     files: &mut F,
     task: &Task<'_>,
@@ -181,12 +181,14 @@ fn do_task<R: Threads + Wait + Clock + Sync, F: Files, O: Output, E: io::Write>(
 ) -> ExitStatus
     ensures { TaskEnds (storage F.disk F.failed files.old) (storage F.disk F.failed files.new) (stream O.printed O.failed out.old) (stream O.printed O.failed out.new) task.now result }
 {
+    let alloc = rt.alloc();
     match task {
         Task::Class(action, is_explained) => act(alloc, files, action, *is_explained, out),
         Task::Each(image, is_explained) => judge(alloc, files, image, *is_explained, out),
         Task::Run(call, is_explained) => act_call(alloc, files, call, *is_explained, out),
         Task::Sim(simulation) => play(alloc, files, simulation, out),
-        Task::Cluster(asked, is_measured) => measure(alloc, rt, files, asked, *is_measured, out, err),
+        Task::Cluster(asked, true) => measure(rt, files, asked, out, Some(err)),
+        Task::Cluster(asked, false) => measure::<R, F, O, E>(rt, files, asked, out, None),
     }
 }
 
@@ -206,16 +208,16 @@ fn explain<O: Output, E: io::Write>(error: &Unparsed, out: &mut O, err: &mut E) 
 /// Does what the words ask for, and says why where they name no task.
 pub(crate) fn perform<
     S: AsStr,
-    R: Threads + Wait + Clock + Sync,
+    R: AllocGlobal + Threads + Wait + Clock + Sync,
     F: Files,
     O: Output,
     E: io::Write,
->(alloc: Global, rt: &R, words: &[S], files: &mut F, out: &mut O, err: &mut E) -> ExitStatus
+>(rt: &R, words: &[S], files: &mut F, out: &mut O, err: &mut E) -> ExitStatus
     ensures { Ends (storage F.disk F.failed files.old) (storage F.disk F.failed files.new) (stream O.printed O.failed out.old) (stream O.printed O.failed out.new) (map S.text words.now) result }
 {
-    match asked(alloc, words) {
+    match asked(rt.alloc(), words) {
         Ok(task) => {
-            let status = do_task(alloc, rt, files, &task, out, err);
+            let status = do_task(rt, files, &task, out, err);
             drop(task);
             status
         }
@@ -240,14 +242,13 @@ pub(crate) fn perform<
 ///
 /// `cluster` starts threads by `rt` and waits for them: nothing is said of when it ends. With
 /// `--stats` what the run took is written to `err`.
-pub fn program<S: AsStr, R: Threads + Wait + Clock + Sync, F: Files, O: Output, E: io::Write>(
-    alloc: Global,
-    rt: &R,
-    words: &[S],
-    files: &mut F,
-    out: &mut O,
-    err: &mut E,
-) -> u8
+pub fn program<
+    S: AsStr,
+    R: AllocGlobal + Threads + Wait + Clock + Sync,
+    F: Files,
+    O: Output,
+    E: io::Write,
+>(rt: &R, words: &[S], files: &mut F, out: &mut O, err: &mut E) -> u8
     ensures status { (status : AStatus) × (result ≡ code_of status) }
     ensures done { result ≡ 0 → IsDone (storage F.disk F.failed files.old) (storage F.disk F.failed files.new) (stream O.printed O.failed out.old) (stream O.printed O.failed out.new) (map S.text words.now) }
     ensures refused { result ≡ 1 → IsRefused (storage F.disk F.failed files.old) (storage F.disk F.failed files.new) (stream O.printed O.failed out.old) (stream O.printed O.failed out.new) (map S.text words.now) }
@@ -255,5 +256,5 @@ pub fn program<S: AsStr, R: Threads + Wait + Clock + Sync, F: Files, O: Output, 
     // Where a write or a flush of `out` fails, the ending is 1.
     ensures failed { O.failed out.old ≡ false → O.failed out.new ≡ true → result ≡ 1 }
 {
-    perform(alloc, rt, words, files, out, err).code()
+    perform(rt, words, files, out, err).code()
 }

@@ -10,7 +10,6 @@ ghost use Rattle.radoscls_program.specs.declared.status.ExitStatus.{ExitStatus a
 use crate::perform::{perform, refuse};
 use crate::status::ExitStatus;
 use class_tool::{Failure, Output, SystemFiles};
-use std::alloc::Global;
 use std::io::{ErrorKind, Input};
 use std::process::ExitCode;
 use std::rt::{Env, Files};
@@ -19,7 +18,7 @@ use std::thread::Threads;
 use std::time::Clock;
 use std::{env, io};
 
-/// What is said of words that are no text.
+/// The message on words that are no text.
 const NO_TEXT: &[u8] = b"error: invalid UTF-8 was detected in one or more arguments\n";
 
 /// The words of the command line, of which the first is the program's own name.
@@ -44,20 +43,18 @@ fn unstarted<O: Output, E: io::Write>(error: &io::Error, out: &mut O, err: &mut 
 
 /// Runs the program on those words, or says why there are none: `program`, on words that may be
 /// missing.
-pub fn end_of<R: Threads + Wait + Clock + Sync, F: class_tool::Files, O: Output, E: io::Write>(
-    alloc: Global,
-    rt: &R,
-    words: &io::Result<Vec<String>>,
-    files: &mut F,
-    out: &mut O,
-    err: &mut E,
-) -> ExitStatus
+pub fn end_of<
+    R: AllocGlobal + Threads + Wait + Clock + Sync,
+    F: class_tool::Files,
+    O: Output,
+    E: io::Write,
+>(rt: &R, words: &io::Result<Vec<String>>, files: &mut F, out: &mut O, err: &mut E) -> ExitStatus
     ensures asked { IfOk words.now (λ all. Ends (storage F.disk F.failed files.old) (storage F.disk F.failed files.new) (stream O.printed O.failed out.old) (stream O.printed O.failed out.new) (map string_bytes all.items) result) }
     ensures unread { IfErr words.now (λ _. IsUnstarted (storage F.disk F.failed files.old) (storage F.disk F.failed files.new) (stream O.printed O.failed out.old) (stream O.printed O.failed out.new) result) }
     ensures memory { IfErr words.now (λ e. (result ≡ ExitStatus.Refused) ↔ (error_kind e ≡ ErrorKind.OutOfMemory)) }
 {
     match words {
-        Ok(words) => perform(alloc, rt, words, files, out, err),
+        Ok(words) => perform(rt, words, files, out, err),
         Err(error) => unstarted(error, out, err),
     }
 }
@@ -74,7 +71,7 @@ pub fn start<
 {
     let mut files = SystemFiles::new(rt);
     let words = words(rt);
-    let status = end_of(rt.alloc(), rt, &words, &mut files, out, err);
+    let status = end_of(rt, &words, &mut files, out, err);
     drop(words);
     ExitCode::from(status.code())
 }

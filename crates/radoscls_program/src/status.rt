@@ -1,10 +1,10 @@
 ghost use Rattle.std.specs.Prelude.{◌≡◌};
 ghost use Rattle.radoscls_program.specs.Status.{code_of};
 
-/// How a run of the program ended.
+/// The end of a run of the program.
 #[derive(Clone, Copy, PartialEq, Eq)]
 pub enum ExitStatus {
-    /// What was asked for was done and printed.
+    /// The task was done, and its answer printed.
     Done,
     /// It was refused, or the answer could not be printed.
     Refused,
@@ -13,7 +13,7 @@ pub enum ExitStatus {
 }
 
 impl ExitStatus {
-    /// What the process ends with: 0, 1 or 2.
+    /// The number that the process ends with: 0, 1 or 2.
     pub fn code(self) -> u8
         ensures { result ≡ code_of self }
     {

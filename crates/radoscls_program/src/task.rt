@@ -2,7 +2,7 @@ use class_tool::{Action, Call};
 use cluster_tool::Clustering;
 use sim::Simulation;
 
-/// What the words ask for.
+/// A task that words ask for.
 #[derive(Drop)]
 pub(crate) enum Task<'a> {
     /// Something of the class in a file, and whether a failure is explained.

@@ -10,7 +10,7 @@ use crate::mistake::{Mistake, Wanted};
 use std::alloc::Global;
 use tenant_classes::{TENANT_LIMIT, TenantClass};
 
-/// Whether a word of a file of events may be that: it is not empty, and no blank stands in it.
+/// True if a word of a file of events may be that: it isn't empty, and has no blank.
 fn is_word(name: &str) -> bool
     ensures { result ≡ is_word name.now }
 {
@@ -18,7 +18,7 @@ fn is_word(name: &str) -> bool
     !bytes.is_empty() && !bytes.contains(&b' ') && !bytes.contains(&b'\t')
 }
 
-/// Whether a class of those has that name.
+/// True if a class of those has that name.
 fn is_used(name: &str, tenants: &[TenantClass<'_>]) -> bool
     ensures { result ≡ list_any (λ u. bytes_eq name.now u) (map (λ o. o.name.now) tenants.now) }
 {
@@ -30,7 +30,7 @@ fn is_used(name: &str, tenants: &[TenantClass<'_>]) -> bool
     false
 }
 
-/// Whether the built-in classes or those have that name.
+/// True if a built-in class or one of those has that name.
 fn is_taken(name: &str, tenants: &[TenantClass<'_>]) -> bool
     ensures { result ≡ list_any (λ u. bytes_eq name.now u) (names_of tenants.now) }
 {

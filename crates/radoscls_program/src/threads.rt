@@ -6,7 +6,6 @@ use crate::perform::refuse;
 use crate::status::ExitStatus;
 use class_tool::{Failure, Output, Reads};
 use cluster_tool::{Clustering, Ending, Meter, cluster};
-use std::alloc::Global;
 use std::io;
 use std::sync::Wait;
 use std::thread::Threads;
@@ -14,17 +13,15 @@ use std::time::Clock;
 
 /// Plays a file of calls and maps, and prints why where that comes to nothing or ends for want of
 /// memory.
-pub(crate) fn play_cluster<R: Threads + Wait + Clock + Sync, F: Reads, O: Output, E: io::Write>(
-    alloc: Global,
-    rt: &R,
-    files: &F,
-    asked: &Clustering<'_>,
-    meter: &mut Meter<'_, E>,
-    out: &mut O,
-) -> ExitStatus
+pub(crate) fn play_cluster<
+    R: AllocGlobal + Threads + Wait + Clock + Sync,
+    F: Reads,
+    O: Output,
+    E: io::Write,
+>(rt: &R, files: &F, asked: &Clustering<'_>, meter: &mut Meter<'_, E>, out: &mut O) -> ExitStatus
     ensures { ClusterEnds (F.disk files.now) (stream O.printed O.failed out.old) (stream O.printed O.failed out.new) asked.now result }
 {
-    match cluster(alloc, rt, files, asked, meter, out) {
+    match cluster(rt, files, asked, meter, out) {
         Ok(Ending::Done) => ExitStatus::Done,
         Ok(Ending::Bad) => ExitStatus::Refused,
         Ok(Ending::Refused) => ExitStatus::Refused,

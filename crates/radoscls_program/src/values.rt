@@ -8,10 +8,11 @@ ghost use Rattle.radoscls_program.specs.Inputs.{after_at, file_of};
 use class_tool::{Call, Entry, Failure, Reads};
 use std::alloc::{AllocError, Global};
 
-/// How many bytes are read of a value's file at most: one more than an object may have.
+/// The most bytes that are read of a value's file: one more than an object may have, so that a
+/// longer file is seen to be too long.
 const VALUE_READ: usize = 65_537;
 
-/// What stands after the first `@`.
+/// The text after the first `@`.
 fn after_at<'a>(text: &'a str) -> &'a str
     ensures { result.now ≡ after_at text.now }
 {

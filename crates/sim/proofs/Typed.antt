@@ -14,7 +14,7 @@ use Rattle.object_store.specs.Object.{AreBytes}
 use Rattle.pg_log.specs.Requests.{ClientRequest}
 use Rattle.pg_log.specs.Within.{IsRequest}
 use Rattle.file_words.specs.Words.{words, number_in, numbers_in, id_in, object_in, bytes_in, class_of}
-use Rattle.sim_text.specs.Lines.{ask_at, asks, ids_in, line_of, of_one, one_in, or_bad, request_with_client, request_with_method, request_with_object, says, two_in}
+use Rattle.sim_text.specs.Lines.{ask_at, asks, ids_in, line_of, of_one, one_in, or_bad, request_of, says, two_in}
 use Rattle.sim_text.specs.declared.line.Line.{Line}
 use Rattle.sim_text.specs.declared.line.Line.TheVariants.{Empty, Map, See, Deliver, Show, Stop, Go, Resend, Bad}
 use Rattle.sim.specs.Run.{asked, asked_in}
@@ -60,32 +60,28 @@ bytes_of word =
     (decoded_bytes (decode_of word) (λ bytes e. are_bytes bytes (decode_of-ok word bytes e).3))
 
 -- A REQUEST
-with_method : (client number : ℕ) → client < 2 ^ 32 → (object : List ℕ) (class : ℕ) (args : List (List ℕ)) → IfSome (request_with_method client number object class args) IsRequest
-with_method client number low object class [] = tt
-with_method client number low object class (method ∷ []) = tt
-with_method client number low object class (method ∷ input ∷ []) =
-    map_if AreBytes IsRequest (λ bytes. record { client = client; number = number; object = object; class = class; method = method; input = bytes }) (bytes_in input) (bytes_of input)
-    (λ bytes h. record { client = low; bytes = h })
-with_method client number low object class (method ∷ input ∷ x ∷ xs) = tt
-
-with_object : (names : List (List ℕ)) (client number : ℕ) → client < 2 ^ 32 → (args : List (List ℕ)) → IfSome (request_with_object names client number args) IsRequest
-with_object names client number low [] = tt
-with_object names client number low (object ∷ []) = tt
-with_object names client number low (object ∷ class ∷ args) =
-    then_if (λ name. Unit {0}) IsRequest (λ name. request_with_method client number name (class_of 0 names class) args) (object_in object) (if_any (object_in object))
-    (λ name u. with_method client number low name (class_of 0 names class) args)
-
 both_ids : (client number : List ℕ) → IfSome (ids_in client number) (λ ids. ids.0 < 2 ^ 32)
 both_ids client number =
     then_if (λ c. c < 2 ^ 32) (λ (ids : ℕ × ℕ). ids.0 < 2 ^ 32) (λ c. option_map (λ n. (c, n)) (id_in number)) (id_in client) (id_below client)
     (λ c low. map_if (λ n. Unit {0}) (λ (ids : ℕ × ℕ). ids.0 < 2 ^ 32) (λ n. (c, n)) (id_in number) (if_any (id_in number)) (λ n u. low))
 
-with_client : (names args : List (List ℕ)) → IfSome (request_with_client names args) IsRequest
-with_client names [] = tt
-with_client names (client ∷ []) = tt
-with_client names (client ∷ number ∷ args) =
-    then_if (λ (ids : ℕ × ℕ). ids.0 < 2 ^ 32) IsRequest (λ ids. request_with_object names ids.0 ids.1 args) (ids_in client number) (both_ids client number)
-    (λ ids low. with_object names ids.0 ids.1 low args)
+of_words : (names args : List (List ℕ)) → IfSome (request_of names args) IsRequest
+of_words names [] = tt
+of_words names (client ∷ []) = tt
+of_words names (client ∷ number ∷ []) = tt
+of_words names (client ∷ number ∷ object ∷ []) = tt
+of_words names (client ∷ number ∷ object ∷ class ∷ []) = tt
+of_words names (client ∷ number ∷ object ∷ class ∷ method ∷ []) = tt
+of_words names (client ∷ number ∷ object ∷ class ∷ method ∷ input ∷ []) =
+    then_if (λ (ids : ℕ × ℕ). ids.0 < 2 ^ 32) IsRequest
+    (λ ids. option_and_then (λ name. option_map (λ bytes. record { client = ids.0; number = ids.1; object = name; class = class_of 0 names class; method = method; input = bytes }) (bytes_in input)) (object_in object))
+    (ids_in client number) (both_ids client number)
+    (λ ids low. then_if (λ name. Unit {0}) IsRequest
+    (λ name. option_map (λ bytes. record { client = ids.0; number = ids.1; object = name; class = class_of 0 names class; method = method; input = bytes }) (bytes_in input))
+    (object_in object) (if_any (object_in object))
+    (λ name u. map_if AreBytes IsRequest (λ bytes. record { client = ids.0; number = ids.1; object = name; class = class_of 0 names class; method = method; input = bytes }) (bytes_in input) (bytes_of input)
+    (λ bytes h. record { client = low; bytes = h })))
+of_words names (client ∷ number ∷ object ∷ class ∷ method ∷ input ∷ x ∷ xs) = tt
 
 -- A LINE
 abbrev Asks : Line → Type 0
@@ -104,7 +100,7 @@ asks_at (Some n) (Some q) h = λ r at. elim (Contains-push_cases [] q r at) as (
 
 asks_words : (names args : List (List ℕ)) → Asks (asks names args)
 asks_words names [] = none_in
-asks_words names (node ∷ args) = asks_at (number_in node) (request_with_client names args) (with_client names args)
+asks_words names (node ∷ args) = asks_at (number_in node) (request_of names args) (of_words names args)
 
 asks_if : (b : Bool) (x y : Line) → Asks x → Asks y → Asks (if b then x else y)
 asks_if true x y h k = h

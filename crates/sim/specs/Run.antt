@@ -31,7 +31,7 @@ bad_line number = codes "line " ++ decimal number ++ codes ": bad\n"
 abbrev pub line_text : ℕ → List Packet → Taken → List ℕ
 line_text number sent taken = if is_bad taken then bad_line number else taken_text sent taken
 
--- What is printed of lines, whether one is bad, and the played world after them.
+-- The text that is printed of lines, whether one is bad, and the played world after them.
 pub record Printed : Type 0 where
   pub text : List ℕ
   pub bad : Bool
@@ -100,7 +100,7 @@ pub record BreaksOff (printed : Printed) (old new : Option (List ℕ)) (fails : 
   pub begun : Begins old new printed.text
   pub failed : fails ≡ true
 
--- How a run ended.
+-- The end of a run.
 abbrev pub EndsBy : Classes → List (List ℕ) → List (List ℕ) → Option (List ℕ) → Option (List ℕ) → Bool → Bool → Ending → Type 0
 EndsBy classes names lines old new failed fails Done = Prints (run_lines classes names lines) false old new failed fails
 EndsBy classes names lines old new failed fails Bad = Prints (run_lines classes names lines) true old new failed fails

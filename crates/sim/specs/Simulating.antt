@@ -1,4 +1,4 @@
--- What a simulation prints, and why it was not begun.
+-- The text that a simulation prints, and why it was not begun.
 use Rattle.std.specs.Prelude.{◌≡◌, ◌⊎◌, ℕ, List, Option, Bool, true, false}
 use Rattle.std.specs.List.{AllByRecursion}
 use Rattle.class_tool.specs.Assembly.{TextFails}

@@ -3,14 +3,14 @@ ghost use Rattle.tenant_classes.specs.declared.tenant_class.TheConstants.{TENANT
 
 use tenant_classes::TenantClass;
 
-/// What is asked for: a file of events, played with the built-in classes and the tenants'.
+/// The run that is asked for: of a file of events, with the built-in classes and the tenants'.
 #[derive(Drop)]
 pub struct Simulation<'a> {
     /// The file of events.
     pub file: &'a str,
     /// The tenants' classes, by their ids from 2.
     pub tenants: Vec<TenantClass<'a>>,
-    /// Whether the run is drawn, in place of what its lines print.
+    /// True if the run is drawn, in place of what its lines print.
     pub is_drawn: bool,
     ghost room: { length tenants.items ≤ TENANT_LIMIT },
 }

@@ -9,14 +9,15 @@ ghost use Rattle.sim_world.specs.Step.{beginning};
 
 use crate::bad_line::bad_line;
 use crate::note::{column, meant, note};
-use pg_log::{ClassTable, Classes};
+use crate::setup::Setup;
+use pg_log::Classes;
 use sim_text::{carried_text, lines, read_line, sender_of};
 use sim_trace::{Message, Step, draw};
 use sim_world::{KeptMessage, World};
 use std::alloc::{AllocError, Global};
 use std::marker::Brand;
 
-/// What was drawn of a file.
+/// A drawing of a file.
 #[derive(Drop)]
 pub(crate) struct Traced {
     /// The drawing; where a line is bad, of the lines above it, and then the line that says so.
@@ -49,43 +50,39 @@ fn messages(alloc: Global, sent: &[KeptMessage]) -> Result<Vec<Message>, AllocEr
 
 /// Does a line and notes what happened, and says whether it is bad.
 fn take_line<C: Classes>(
-    alloc: Global,
-    table: &ClassTable,
-    names: &[&str],
+    setup: &Setup<'_>,
     world: &mut World<C>,
     text: &str,
     steps: &mut Vec<Step>,
 ) -> Result<bool, AllocError>
-    requires { table.now ≡ C.classes }
-    ensures { IfOk result (λ bad. Notes C.classes (map (λ n. n.now) names.now) text.now world.old world.new (map noted_as steps.old.items) (map noted_as steps.new.items) bad) }
+    requires { setup.now.table.now ≡ C.classes }
+    ensures { IfOk result (λ bad. Notes C.classes (map (λ n. n.now) setup.now.names.now) text.now world.old world.new (map noted_as steps.old.items) (map noted_as steps.new.items) bad) }
 {
-    let line = read_line(alloc, names, text)?;
+    let line = read_line(setup.alloc, setup.names, text)?;
     let meant = meant(&line);
-    let taken = world.take(table, line)?;
+    let taken = world.take(setup.table, line)?;
     if taken.is_bad() {
         return Ok(true);
     }
-    note(alloc, meant, text, &taken, steps)?;
+    note(setup.alloc, meant, text, &taken, steps)?;
     Ok(false)
 }
 
 /// Does lines up to the first that is bad, notes what happened, and gives the number of the bad
 /// one.
 fn take_lines<C: Classes>(
-    alloc: Global,
-    table: &ClassTable,
-    names: &[&str],
+    setup: &Setup<'_>,
     lines: &[&str],
     world: &mut World<C>,
     steps: &mut Vec<Step>,
 ) -> Result<Option<usize>, AllocError>
-    requires { table.now ≡ C.classes }
-    ensures { IfOk result (λ bad. Courses C.classes (map (λ n. n.now) names.now) (map (λ l. l.now) lines.now) world.old world.new (map noted_as steps.old.items) (map noted_as steps.new.items) bad) }
+    requires { setup.now.table.now ≡ C.classes }
+    ensures { IfOk result (λ bad. Courses C.classes (map (λ n. n.now) setup.now.names.now) (map (λ l. l.now) lines.now) world.old world.new (map noted_as steps.old.items) (map noted_as steps.new.items) bad) }
 {
     let mut number = 0;
     for line in lines {
         number += 1;
-        if take_line(alloc, table, names, world, line, steps)? {
+        if take_line(setup, world, line, steps)? {
             return Ok(Some(number));
         }
     }
@@ -121,47 +118,35 @@ fn push_bad(alloc: Global, text: &mut String, number: usize) -> Result<(), Alloc
 
 /// Does lines, and draws what happened.
 fn trace_from<C: Classes>(
-    alloc: Global,
-    table: &ClassTable,
-    names: &[&str],
+    setup: &Setup<'_>,
     lines: &[&str],
     world: &mut World<C>,
 ) -> Result<Traced, AllocError>
-    requires classes { table.now ≡ C.classes }
+    requires classes { setup.now.table.now ≡ C.classes }
     requires first { Holds C.classes world.old (beginning C.classes) }
-    ensures { IfOk result (λ t. Draws (course C.classes (map (λ n. n.now) names.now) (map (λ l. l.now) lines.now)) (string_bytes t.text) t.bad) }
+    ensures { IfOk result (λ t. Draws (course C.classes (map (λ n. n.now) setup.now.names.now) (map (λ l. l.now) lines.now)) (string_bytes t.text) t.bad) }
 {
-    let mut steps = Vec::new(alloc);
-    let bad = take_lines(alloc, table, names, lines, world, &mut steps)?;
-    let messages = messages(alloc, world.sent())?;
-    drawn(alloc, &messages, &steps, bad)
+    let mut steps = Vec::new(setup.alloc);
+    let bad = take_lines(setup, lines, world, &mut steps)?;
+    let messages = messages(setup.alloc, world.sent())?;
+    drawn(setup.alloc, &messages, &steps, bad)
 }
 
 /// Does lines from the first world on, and draws what happened.
-fn trace_lines<C: Classes>(
-    alloc: Global,
-    table: &ClassTable,
-    names: &[&str],
-    lines: &[&str],
-) -> Result<Traced, AllocError>
-    requires { table.now ≡ C.classes }
-    ensures { IfOk result (λ t. Draws (course table.now (map (λ n. n.now) names.now) (map (λ l. l.now) lines.now)) (string_bytes t.text) t.bad) }
+fn trace_lines<C: Classes>(setup: &Setup<'_>, lines: &[&str]) -> Result<Traced, AllocError>
+    requires { setup.now.table.now ≡ C.classes }
+    ensures { IfOk result (λ t. Draws (course setup.now.table.now (map (λ n. n.now) setup.now.names.now) (map (λ l. l.now) lines.now)) (string_bytes t.text) t.bad) }
 {
-    let mut world = World::<C>::new(alloc)?;
-    trace_from(alloc, table, names, lines, &mut world)
+    let mut world = World::<C>::new(setup.alloc)?;
+    trace_from(setup, lines, &mut world)
 }
 
 /// Does the lines of a text as `run` does, and draws what happened, once all are done or one is
 /// bad. It fails for want of memory alone.
-pub(crate) fn trace(
-    alloc: Global,
-    table: &ClassTable,
-    names: &[&str],
-    text: &str,
-) -> Result<Traced, AllocError>
-    ensures { IfOk result (λ t. Draws (course table.now (map (λ n. n.now) names.now) (lines_of text.now)) (string_bytes t.text) t.bad) }
+pub(crate) fn trace(setup: &Setup<'_>, text: &str) -> Result<Traced, AllocError>
+    ensures { IfOk result (λ t. Draws (course setup.now.table.now (map (λ n. n.now) setup.now.names.now) (lines_of text.now)) (string_bytes t.text) t.bad) }
 {
-    let lines = lines(alloc, text)?;
+    let lines = lines(setup.alloc, text)?;
     // The call picks the classes: they are the table's.
-    trace_lines::<Brand>(alloc, table, names, &lines)
+    trace_lines::<Brand>(setup, &lines)
 }

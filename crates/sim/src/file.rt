@@ -5,14 +5,15 @@ ghost use Rattle.sim_world.specs.Holds.{Holds};
 ghost use Rattle.sim_world.specs.Step.{beginning};
 
 use crate::bad_line::bad_line;
+use crate::setup::Setup;
 use class_tool::Output;
-use pg_log::{ClassTable, Classes};
+use pg_log::Classes;
 use sim_text::{Taken, lines, read_line};
 use sim_world::World;
 use std::alloc::{AllocError, Global};
 use std::marker::Brand;
 
-/// How a run of a file ended.
+/// The end of a run of a file.
 #[derive(Clone, Copy, PartialEq, Eq)]
 pub enum Ending {
     /// Each line was done, and what it came to was printed.
@@ -25,7 +26,7 @@ pub enum Ending {
     Unprinted,
 }
 
-/// What is printed of a line.
+/// A line of the printed run.
 #[derive(Drop)]
 struct Line {
     /// The text.
@@ -34,7 +35,7 @@ struct Line {
     is_bad: bool,
 }
 
-/// What is printed of what came of a line.
+/// The text that is printed of a line, by what came of it.
 fn line_text<C: Classes>(
     alloc: Global,
     world: &World<C>,
@@ -51,40 +52,36 @@ fn line_text<C: Classes>(
 
 /// Does a line, and gives what is printed of it, and whether it is bad.
 fn take_line<C: Classes>(
-    alloc: Global,
-    table: &ClassTable,
-    names: &[&str],
+    setup: &Setup<'_>,
     world: &mut World<C>,
     number: usize,
     line: &str,
 ) -> Result<Line, AllocError>
-    requires { table.now ≡ C.classes }
-    ensures { IfOk result (λ p. Takes C.classes (map (λ n. n.now) names.now) line.now number world.old world.new (string_bytes p.text) p.is_bad) }
+    requires { setup.now.table.now ≡ C.classes }
+    ensures { IfOk result (λ p. Takes C.classes (map (λ n. n.now) setup.now.names.now) line.now number world.old world.new (string_bytes p.text) p.is_bad) }
 {
-    let line = read_line(alloc, names, line)?;
-    let taken = world.take(table, line)?;
+    let line = read_line(setup.alloc, setup.names, line)?;
+    let taken = world.take(setup.table, line)?;
     let is_bad = taken.is_bad();
-    let text = line_text(alloc, world, number, &taken)?;
+    let text = line_text(setup.alloc, world, number, &taken)?;
     Ok(Line { text, is_bad })
 }
 
 /// Does lines, one after the other, from the first world on.
 fn run_from<C: Classes, O: Output>(
-    alloc: Global,
-    table: &ClassTable,
-    names: &[&str],
+    setup: &Setup<'_>,
     lines: &[&str],
     world: &mut World<C>,
     out: &mut O,
 ) -> Ending
-    requires classes { table.now ≡ C.classes }
+    requires classes { setup.now.table.now ≡ C.classes }
     requires first { Holds C.classes world.old (beginning C.classes) }
-    ensures { EndsBy table.now (map (λ n. n.now) names.now) (map (λ l. l.now) lines.now) (O.printed out.old) (O.printed out.new) (O.failed out.old) (O.failed out.new) result }
+    ensures { EndsBy setup.now.table.now (map (λ n. n.now) setup.now.names.now) (map (λ l. l.now) lines.now) (O.printed out.old) (O.printed out.new) (O.failed out.old) (O.failed out.new) result }
 {
     let mut number = 0;
     for line in lines {
         number += 1;
-        match take_line(alloc, table, names, world, number, line) {
+        match take_line(setup, world, number, line) {
             Ok(taken) => {
                 if out.print(taken.text.as_str()).is_err() {
                     return Ending::Unprinted;
@@ -101,40 +98,27 @@ fn run_from<C: Classes, O: Output>(
 }
 
 /// Does lines, one after the other.
-fn run_lines<C: Classes, O: Output>(
-    alloc: Global,
-    table: &ClassTable,
-    names: &[&str],
-    lines: &[&str],
-    out: &mut O,
-) -> Ending
-    requires { table.now ≡ C.classes }
-    ensures { EndsBy table.now (map (λ n. n.now) names.now) (map (λ l. l.now) lines.now) (O.printed out.old) (O.printed out.new) (O.failed out.old) (O.failed out.new) result }
+fn run_lines<C: Classes, O: Output>(setup: &Setup<'_>, lines: &[&str], out: &mut O) -> Ending
+    requires { setup.now.table.now ≡ C.classes }
+    ensures { EndsBy setup.now.table.now (map (λ n. n.now) setup.now.names.now) (map (λ l. l.now) lines.now) (O.printed out.old) (O.printed out.new) (O.failed out.old) (O.failed out.new) result }
 {
-    match World::<C>::new(alloc) {
-        Ok(mut world) => run_from(alloc, table, names, lines, &mut world, out),
+    match World::<C>::new(setup.alloc) {
+        Ok(mut world) => run_from(setup, lines, &mut world, out),
         Err(_) => Ending::NoMemory,
     }
 }
 
 /// Does the lines of a text, and prints of each what it comes to before the next is done. Requests
-/// go to the table's classes by these names, the one of id 0 first; another word is a class that
-/// isn't loaded.
+/// go to the classes by their names; another word is a class that isn't loaded.
 ///
 /// It ends with `Bad` at the first bad line, whose number is printed; with `NoMemory` where memory
 /// is refused, and then prints nothing of that line; and where a write or a flush fails.
-pub(crate) fn run<O: Output>(
-    alloc: Global,
-    table: &ClassTable,
-    names: &[&str],
-    text: &str,
-    out: &mut O,
-) -> Ending
-    ensures { EndsBy table.now (map (λ n. n.now) names.now) (lines_of text.now) (O.printed out.old) (O.printed out.new) (O.failed out.old) (O.failed out.new) result }
+pub(crate) fn run<O: Output>(setup: &Setup<'_>, text: &str, out: &mut O) -> Ending
+    ensures { EndsBy setup.now.table.now (map (λ n. n.now) setup.now.names.now) (lines_of text.now) (O.printed out.old) (O.printed out.new) (O.failed out.old) (O.failed out.new) result }
 {
-    match lines(alloc, text) {
+    match lines(setup.alloc, text) {
         // The call picks the classes: they are the table's.
-        Ok(lines) => run_lines::<Brand, O>(alloc, table, names, &lines, out),
+        Ok(lines) => run_lines::<Brand, O>(setup, &lines, out),
         Err(_) => Ending::NoMemory,
     }
 }

@@ -1,9 +1,9 @@
-//! What the command `radoscls sim` does once its words are read: `simulate` loads the built-in
-//! classes and the tenants', reads a file of events, and plays it: it prints what each line comes
-//! to, or draws the whole. What is printed of a file is `specs/Run.antt`, its drawing
-//! `specs/Drawing.antt`, both of the group's worlds after its lines; each of them is an agreed one
-//! by the events that happened up to it, and no line cuts a committed list (`worlds_are_known`). A
-//! failure says why nothing was done, the first reason in a stated order.
+//! Does the command `radoscls sim` once its words are read: `simulate` loads the built-in classes
+//! and the tenants', reads a file of events, and plays it: it prints what each line comes to, or
+//! draws the whole. `specs/Run.antt` says what is printed of a file, `specs/Drawing.antt` its
+//! drawing, both by the group's worlds after its lines; each of them is an agreed one by the events
+//! that happened up to it, and no line cuts a committed list (`worlds_are_known`). A failure says
+//! why nothing was done, the first reason in a stated order.
 #![tactic(auto)]
 
 mod asked;
@@ -13,6 +13,7 @@ mod file;
 mod laws;
 mod note;
 mod play;
+mod setup;
 mod tool;
 mod verified;
 

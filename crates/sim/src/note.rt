@@ -1,4 +1,4 @@
-//! What is noted of a line for a drawing.
+//! Notes the step of a line for a drawing.
 ghost use Rattle.std.specs.Prelude.{◌≡◌, ◌++◌, IfOk, OnOk, codes, map, string_bytes};
 ghost use Rattle.sim.specs.Drawing.{after_colon, again_after, column_of, column_of_node, delivery_of, done_if, done_of, line_of_step, meant_by, noted_as, noted_if, said, said_after, sent_by};
 ghost use Rattle.sim_text.specs.Texts.{said_text};
@@ -27,7 +27,7 @@ pub(crate) fn column(party: Party) -> Column
     }
 }
 
-/// What a line is to make happen, if anything; of a delivery, that the message arrives.
+/// The step that a line is to make, if any; of a delivery, that the message arrives.
 #[rattlefmt::skip]
 pub(crate) fn meant(line: &Line) -> Option<What>
     ensures { result ≡ meant_by line.now }
@@ -56,7 +56,7 @@ fn delivery(number: usize, taken: &Taken) -> What
     What::Arrived(number)
 }
 
-/// What happened where that was to happen, by what came of the line.
+/// The step that happened if that one was to happen, by what came of the line.
 fn done(meant: What, taken: &Taken) -> What
     ensures { result ≡ done_of meant taken.now }
 {
@@ -70,7 +70,7 @@ fn done(meant: What, taken: &Taken) -> What
     }
 }
 
-/// How many messages a line sent.
+/// The number of messages that a line sent.
 fn sent_by(taken: &Taken) -> usize
     ensures { result ≡ sent_by taken.now }
 {
@@ -95,7 +95,7 @@ fn again_after(alloc: Global, numbers: &[usize]) -> Result<String, AllocError>
     Ok(text)
 }
 
-/// What is said in a line, after a colon.
+/// The text that is said in a line, after a colon.
 fn after_colon(alloc: Global, taken: &Taken) -> Result<String, AllocError>
     ensures { IfOk result (λ t. string_bytes t ≡ after_colon (said_text taken.now)) }
 {
@@ -103,7 +103,7 @@ fn after_colon(alloc: Global, taken: &Taken) -> Result<String, AllocError>
     format!(in alloc; ": {said}")
 }
 
-/// What came of a line, where that is neither messages nor that there are none.
+/// The text of what came of a line; empty if it sent messages or says nothing.
 fn said_after(alloc: Global, taken: &Taken) -> Result<String, AllocError>
     ensures { IfOk result (λ t. string_bytes t ≡ said_after taken.now) }
 {
@@ -134,7 +134,7 @@ fn line_of_step(what: What, line: &str) -> &str
     }
 }
 
-/// What is said of a step.
+/// The text of a step.
 fn said(alloc: Global, line: &str, what: What, taken: &Taken) -> Result<String, AllocError>
     ensures { IfOk result (λ t. string_bytes t ≡ said line.now what taken.now) }
 {

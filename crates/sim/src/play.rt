@@ -5,21 +5,14 @@ ghost use Rattle.sim.specs.Simulating.{IsDrawn, Plays};
 
 use crate::drawing::trace;
 use crate::file::{Ending, run};
+use crate::setup::Setup;
 use class_tool::Output;
-use pg_log::ClassTable;
-use std::alloc::Global;
 
 /// Draws the run of a text, and prints the drawing once all lines are done or one is bad.
-fn draw<O: Output>(
-    alloc: Global,
-    table: &ClassTable,
-    names: &[&str],
-    text: &str,
-    out: &mut O,
-) -> Ending
-    ensures { IsDrawn (course table.now (map (λ n. n.now) names.now) (lines_of text.now)) (O.printed out.old) (O.printed out.new) (O.failed out.old) (O.failed out.new) result }
+fn draw<O: Output>(setup: &Setup<'_>, text: &str, out: &mut O) -> Ending
+    ensures { IsDrawn (course setup.now.table.now (map (λ n. n.now) setup.now.names.now) (lines_of text.now)) (O.printed out.old) (O.printed out.new) (O.failed out.old) (O.failed out.new) result }
 {
-    let Ok(traced) = trace(alloc, table, names, text) else {
+    let Ok(traced) = trace(setup, text) else {
         return Ending::NoMemory;
     };
     let bad = traced.bad;
@@ -31,19 +24,12 @@ fn draw<O: Output>(
 }
 
 /// Does the lines of a text, and prints of each what it comes to, or the drawing of them all.
-pub(crate) fn play<O: Output>(
-    alloc: Global,
-    table: &ClassTable,
-    names: &[&str],
-    text: &str,
-    is_drawn: bool,
-    out: &mut O,
-) -> Ending
-    ensures { Plays is_drawn table.now (map (λ n. n.now) names.now) text.now (O.printed out.old) (O.printed out.new) (O.failed out.old) (O.failed out.new) result }
+pub(crate) fn play<O: Output>(setup: &Setup<'_>, text: &str, is_drawn: bool, out: &mut O) -> Ending
+    ensures { Plays is_drawn setup.now.table.now (map (λ n. n.now) setup.now.names.now) text.now (O.printed out.old) (O.printed out.new) (O.failed out.old) (O.failed out.new) result }
 {
     if is_drawn {
-        draw(alloc, table, names, text, out)
+        draw(setup, text, out)
     } else {
-        run(alloc, table, names, text, out)
+        run(setup, text, out)
     }
 }

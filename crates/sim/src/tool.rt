@@ -5,6 +5,7 @@ use crate::asked::Simulation;
 use crate::file::Ending;
 use crate::laws::worlds_are_known;
 use crate::play::play;
+use crate::setup::Setup;
 use crate::verified::are_verified;
 use class_tool::{Failure, Output, Reads, read_text};
 use std::alloc::Global;
@@ -32,5 +33,10 @@ pub fn simulate<F: Reads, O: Output>(
     are_verified(&table);
     let names = class_names(alloc, &simulation.tenants)?;
     let text = read_text(alloc, files, simulation.file)?;
-    Ok(play(alloc, &table, &names, &text, simulation.is_drawn, out))
+    let setup = Setup {
+        alloc,
+        table: &table,
+        names: &names,
+    };
+    Ok(play(&setup, &text, simulation.is_drawn, out))
 }

@@ -1,5 +1,4 @@
--- What a line says: the event or question that its words name. Words, numbers, names and bytes are
--- file_words'.
+-- The event or question of a line, by its words. Words, numbers, names and bytes are file_words'.
 use Rattle.std.specs.Prelude.{ℕ, ◌-◌, ◌==◌, List, [], ◌∷◌, slice_index, slice_get, Option, Some, None, if◌then◌else◌, codes}
 use Rattle.std.specs.Option.{option_map, option_and_then, unwrap_or}
 use Rattle.std.specs.Str.{bytes_eq}
@@ -25,20 +24,15 @@ two_in _ = None
 abbrev pub ids_in : List ℕ → List ℕ → Option (ℕ × ℕ)
 ids_in client number = option_and_then (λ c. option_map (λ n. (c, n)) (id_in number)) (id_in client)
 
--- and its words in their order: client and number, object and class, method and input; too few or
--- too many are none
-abbrev pub request_with_method : ℕ → ℕ → List ℕ → ℕ → List (List ℕ) → Option ClientRequest
-request_with_method client number object class (method ∷ input ∷ []) =
-    option_map (λ bytes. record { client = client; number = number; object = object; class = class; method = method; input = bytes }) (bytes_in input)
-request_with_method client number object class _ = None
+-- a request by its words: client, number, object, class, method and input; none if they are more or
+-- less
+abbrev pub request_by : List (List ℕ) → List ℕ → List ℕ → List ℕ → List ℕ → List ℕ → List ℕ → Option ClientRequest
+request_by names client number object class method input =
+    option_and_then (λ ids. option_and_then (λ name. option_map (λ bytes. record { client = ids.0; number = ids.1; object = name; class = class_of 0 names class; method = method; input = bytes }) (bytes_in input)) (object_in object)) (ids_in client number)
 
-abbrev pub request_with_object : List (List ℕ) → ℕ → ℕ → List (List ℕ) → Option ClientRequest
-request_with_object names client number (object ∷ class ∷ args) = option_and_then (λ name. request_with_method client number name (class_of 0 names class) args) (object_in object)
-request_with_object names client number _ = None
-
-abbrev pub request_with_client : List (List ℕ) → List (List ℕ) → Option ClientRequest
-request_with_client names (client ∷ number ∷ args) = option_and_then (λ ids. request_with_object names ids.0 ids.1 args) (ids_in client number)
-request_with_client names _ = None
+abbrev pub request_of : List (List ℕ) → List (List ℕ) → Option ClientRequest
+request_of names (client ∷ number ∷ object ∷ class ∷ method ∷ input ∷ []) = request_by names client number object class method input
+request_of names _ = None
 
 abbrev pub ask_at : Option ℕ → Option ClientRequest → Line
 ask_at None r = Bad
@@ -47,7 +41,7 @@ ask_at (Some n) (Some r) = Ask n r
 
 abbrev pub asks : List (List ℕ) → List (List ℕ) → Line
 asks names [] = Bad
-asks names (node ∷ args) = ask_at (number_in node) (request_with_client names args)
+asks names (node ∷ args) = ask_at (number_in node) (request_of names args)
 
 -- the words with one number
 abbrev pub of_one : List ℕ → ℕ → Line
@@ -66,7 +60,7 @@ says names (word ∷ args) =
     if bytes_eq word (codes "see") then or_bad (option_map (λ p. See p.0 p.1) (two_in args)) else
     if bytes_eq word (codes "req") then asks names args else or_bad (option_map (of_one word) (one_in args))
 
--- What a line says: nothing where it has no word or begins with `#`.
+-- The event or question of a line: none if it has no word or begins with `#`.
 abbrev pub line_of : List (List ℕ) → List ℕ → Line
 line_of names line = if slice_index line 0 == 35 then Empty else says names (words line)
 

@@ -1,4 +1,4 @@
--- What is printed: of messages, and of what comes of a line.
+-- The texts of messages, and of what comes of a line.
 use Rattle.std.specs.Prelude.{ℕ, suc, ◌-◌, ◌==◌, Bool, true, false, List, [], ◌∷◌, ◌++◌, length, drop, if◌then◌else◌, codes}
 use Rattle.std.specs.Fmt.{decimal, signed_decimal}
 use Rattle.std.specs.Int.{w64, cast_signed}
@@ -136,7 +136,7 @@ said_text (Again numbers) = []
 abbrev pub last_text : List Packet → ℕ → List ℕ
 last_text sent count = sent_text (suc (length sent - count)) (drop (length sent - count) sent)
 
--- What is printed of a line where it isn't bad, by the messages that were sent up to it.
+-- The text that is printed of a line which isn't bad, by the messages that were sent up to it.
 abbrev pub taken_text : List Packet → Taken → List ℕ
 taken_text sent Bad = []
 taken_text sent Skipped = []

@@ -1,6 +1,6 @@
-//! What a file of events says, and what is printed of what comes of it. `read_line` gives the event
-//! or question of a line (`specs/Lines.antt`). `Taken` is what comes of a line, and the texts of
-//! that and of messages are `specs/Texts.antt`. What a line does is `sim_world`'s.
+//! The lines of a file of events, and the texts that are printed of them. `read_line` gives the
+//! event or question of a line (`specs/Lines.antt`). `Taken` is what comes of a line, and the texts
+//! of that and of messages are `specs/Texts.antt`. `sim_world` says what a line does.
 #![tactic(auto)]
 
 mod counted;

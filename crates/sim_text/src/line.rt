@@ -9,7 +9,7 @@ use pg_log::Request;
 use placement::NodeId;
 use std::alloc::{AllocError, Global};
 
-/// What a line says. Maps and messages go by their numbers from 1.
+/// A line's event or question. Maps and messages go by their numbers from 1.
 #[derive(Drop)]
 pub enum Line {
     /// Nothing, or a comment.
@@ -22,7 +22,7 @@ pub enum Line {
     Ask(NodeId, Request),
     /// A message is delivered.
     Deliver(u64),
-    /// How does the node stand?
+    /// Show the node's state.
     Show(NodeId),
     /// The node stops.
     Stop(NodeId),
@@ -78,7 +78,7 @@ fn of_one(word: &str, number: u64) -> Line
     }
 }
 
-/// What `map` says with these words.
+/// The line of `map` with these words.
 fn map_of(alloc: Global, args: &[&str]) -> Result<Line, AllocError>
     ensures { IfOk result (λ l. l ≡ or_bad (option_map Line.Map (numbers_in (map (λ w. w.now) args.now)))) }
 {
@@ -88,7 +88,7 @@ fn map_of(alloc: Global, args: &[&str]) -> Result<Line, AllocError>
     }
 }
 
-/// What `see` says with these words.
+/// The line of `see` with these words.
 fn see_of(args: &[&str]) -> Line
     ensures { result ≡ or_bad (option_map (λ p. Line.See p.0 p.1) (two_in (map (λ w. w.now) args.now))) }
 {
@@ -98,7 +98,7 @@ fn see_of(args: &[&str]) -> Line
     }
 }
 
-/// What another word says with these words.
+/// The line of another word with these words.
 fn other_of(word: &str, args: &[&str]) -> Line
     ensures { result ≡ or_bad (option_map (of_one word.now) (one_in (map (λ w. w.now) args.now))) }
 {
@@ -108,7 +108,7 @@ fn other_of(word: &str, args: &[&str]) -> Line
     }
 }
 
-/// What a first word says with those after it.
+/// The line of a first word with those after it.
 fn with_args(alloc: Global, names: &[&str], word: &str, args: &[&str]) -> Result<Line, AllocError>
     ensures { IfOk result (λ l. l ≡ says (map (λ n. n.now) names.now) (word.now ∷ map (λ w. w.now) args.now)) }
 {
@@ -123,7 +123,7 @@ fn with_args(alloc: Global, names: &[&str], word: &str, args: &[&str]) -> Result
     }
 }
 
-/// What words say.
+/// The line that words spell.
 fn says(alloc: Global, names: &[&str], words: &[&str]) -> Result<Line, AllocError>
     ensures { IfOk result (λ l. l ≡ says (map (λ n. n.now) names.now) (map (λ w. w.now) words.now)) }
 {
@@ -133,8 +133,8 @@ fn says(alloc: Global, names: &[&str], words: &[&str]) -> Result<Line, AllocErro
     }
 }
 
-/// What a line says: the classes go by these names, the one of id 0 first. A line that says nothing
-/// else is `Bad`, no error: it fails for want of memory alone.
+/// Reads a line. The classes go by these names, the one of id 0 first. A malformed line is `Bad`,
+/// no error: it fails for want of memory alone.
 pub fn read_line(alloc: Global, names: &[&str], line: &str) -> Result<Line, AllocError>
     ensures { IfOk result (λ l. l ≡ line_of (map (λ n. n.now) names.now) line.now) }
 {
@@ -145,7 +145,7 @@ pub fn read_line(alloc: Global, names: &[&str], line: &str) -> Result<Line, Allo
     says(alloc, names, &words)
 }
 
-/// Whether it begins with `#`.
+/// True if it begins with `#`.
 fn is_comment(line: &[u8]) -> bool
     ensures { result ≡ (slice_index line.now 0 == 35) }
 {

@@ -1,4 +1,4 @@
-//! What is printed of messages, as texts.
+//! The texts of messages.
 ghost use Rattle.std.specs.Prelude.{◌≡◌, ◌+◌, IfOk, length, string_bytes};
 ghost use Rattle.sim_text.specs.Kept.{carried_text, event_text, kept_line, sender_in, sender_of};
 ghost use Rattle.sim_text.specs.Texts.{digits_or_dash, kind_text, party_text, reply_text, word_and_number, word_and_two_numbers};
@@ -51,7 +51,7 @@ fn reply_text(
     format!(in alloc; "Reply {number} {place} {code} {output}")
 }
 
-/// What a message says.
+/// The text of a message's kind.
 #[rattlefmt::skip]
 fn kind_text(alloc: Global, kind: &MessageKind) -> Result<String, AllocError>
     ensures { IfOk result (λ t. string_bytes t ≡ kind_text kind.now) }
@@ -69,7 +69,7 @@ fn kind_text(alloc: Global, kind: &MessageKind) -> Result<String, AllocError>
     }
 }
 
-/// What a message says; of a request or a map, which aren't messages, nothing.
+/// The text of a message; empty for a request or a map, which aren't messages.
 fn event_text(alloc: Global, event: &Event) -> Result<String, AllocError>
     ensures { IfOk result (λ t. string_bytes t ≡ event_text event.now) }
 {
@@ -80,14 +80,14 @@ fn event_text(alloc: Global, event: &Event) -> Result<String, AllocError>
     }
 }
 
-/// How long a packed list is. There is no memory for one that is longer than numbers go.
+/// The length of a packed list. There is no memory for one that is longer than numbers go.
 fn length_of(log: &PackedLog) -> Result<usize, AllocError>
     ensures { IfOk result (λ n. n ≡ log.now.common + length log.now.rest) }
 {
     log.common().checked_add(log.rest().len()).ok_or(AllocError)
 }
 
-/// What a message says, by what is kept of it. It fails for want of memory alone.
+/// The text of a message, as it is kept. It fails for want of memory alone.
 pub fn carried_text(alloc: Global, carried: &Carried) -> Result<String, AllocError>
     ensures { IfOk result (λ t. string_bytes t ≡ carried_text carried.now) }
 {

@@ -1,10 +1,9 @@
 //! Requests as a line's words spell them.
 ghost use Rattle.std.specs.Prelude.{◌≡◌, IfOk, map};
-ghost use Rattle.sim_text.specs.Lines.{ask_at, asks, ids_in, request_with_method, request_with_object, request_with_client};
+ghost use Rattle.sim_text.specs.Lines.{ask_at, asks, ids_in, request_by, request_of};
 
 use crate::line::Line;
 use file_words::{bytes_in, class_of, id_in, number_in, object_in};
-use object_store::ObjectName;
 use pg_log::{ClientId, Request, RequestNumber, RequestParts};
 use placement::NodeId;
 use std::alloc::{AllocError, Global};
@@ -18,77 +17,64 @@ fn ids_in(client: &str, number: &str) -> Option<(ClientId, RequestNumber)>
     Some((client, number))
 }
 
-/// A request, by its client, number, object and class, and the words that are left: its method and
-/// input.
-fn request_with_method(
+/// The words of a request, in their order.
+#[derive(Clone, Copy)]
+struct RequestWords<'a> {
+    client: &'a str,
+    number: &'a str,
+    object: &'a str,
+    class: &'a str,
+    method: &'a str,
+    input: &'a str,
+}
+
+/// The request that those words spell. None if one is malformed.
+fn request_by(
     alloc: Global,
-    client: ClientId,
-    number: RequestNumber,
-    object: ObjectName,
-    class: usize,
-    args: &[&str],
+    names: &[&str],
+    words: &RequestWords<'_>,
 ) -> Result<Option<Request>, AllocError>
-    ensures { IfOk result (λ r. r ≡ request_with_method client number object class (map (λ w. w.now) args.now)) }
+    ensures { IfOk result (λ r. r ≡ request_by (map (λ n. n.now) names.now) words.now.client.now words.now.number.now words.now.object.now words.now.class.now words.now.method.now words.now.input.now) }
 {
-    match args {
-        [method, input] => match bytes_in(alloc, *input)? {
-            Some(input) => {
-                let method = String::from_str(alloc, *method)?;
-                let parts = RequestParts {
-                    client,
-                    number,
-                    object,
-                    class,
-                    method,
-                    input: input.into_items(),
-                };
-                match Request::new(alloc, parts) {
-                    Ok(request) => Ok(Some(request)),
-                    Err(_) => Err(AllocError),
-                }
-            }
-            None => Ok(None),
-        },
-        _ => Ok(None),
+    let Some((client, number)) = ids_in(words.client, words.number) else {
+        return Ok(None);
+    };
+    let Some(object) = object_in(alloc, words.object)? else {
+        return Ok(None);
+    };
+    let Some(input) = bytes_in(alloc, words.input)? else {
+        return Ok(None);
+    };
+    let parts = RequestParts {
+        client,
+        number,
+        object,
+        class: class_of(names, words.class),
+        method: String::from_str(alloc, words.method)?,
+        input: input.into_items(),
+    };
+    match Request::new(alloc, parts) {
+        Ok(request) => Ok(Some(request)),
+        Err(_) => Err(AllocError),
     }
 }
 
-/// A request, by its client and number, and the words that are left: its object and class, and so
-/// on.
-fn request_with_object(
-    alloc: Global,
-    names: &[&str],
-    client: ClientId,
-    number: RequestNumber,
-    args: &[&str],
-) -> Result<Option<Request>, AllocError>
-    ensures { IfOk result (λ r. r ≡ request_with_object (map (λ n. n.now) names.now) client number (map (λ w. w.now) args.now)) }
+/// The request of the words after a node. None if they are more or less than six.
+fn request_of(alloc: Global, names: &[&str], args: &[&str]) -> Result<Option<Request>, AllocError>
+    ensures { IfOk result (λ r. r ≡ request_of (map (λ n. n.now) names.now) (map (λ w. w.now) args.now)) }
 {
     match args {
-        [object, class, rest @ ..] => match object_in(alloc, *object)? {
-            Some(object) => {
-                let class = class_of(names, *class);
-                request_with_method(alloc, client, number, object, class, rest)
-            }
-            None => Ok(None),
-        },
-        _ => Ok(None),
-    }
-}
-
-/// A request, by its words.
-fn request_with_client(
-    alloc: Global,
-    names: &[&str],
-    args: &[&str],
-) -> Result<Option<Request>, AllocError>
-    ensures { IfOk result (λ r. r ≡ request_with_client (map (λ n. n.now) names.now) (map (λ w. w.now) args.now)) }
-{
-    match args {
-        [client, number, rest @ ..] => match ids_in(*client, *number) {
-            Some((client, number)) => request_with_object(alloc, names, client, number, rest),
-            None => Ok(None),
-        },
+        [client, number, object, class, method, input] => {
+            let words = RequestWords {
+                client,
+                number,
+                object,
+                class,
+                method,
+                input,
+            };
+            request_by(alloc, names, &words)
+        }
         _ => Ok(None),
     }
 }
@@ -106,13 +92,13 @@ fn ask_at(node: Option<u64>, request: Option<Request>) -> Line
     }
 }
 
-/// What `req` says with these words.
+/// The line of `req` with these words.
 pub(crate) fn asks(alloc: Global, names: &[&str], args: &[&str]) -> Result<Line, AllocError>
     ensures { IfOk result (λ l. l ≡ asks (map (λ n. n.now) names.now) (map (λ w. w.now) args.now)) }
 {
     match args {
         [node, rest @ ..] => {
-            let request = request_with_client(alloc, names, rest)?;
+            let request = request_of(alloc, names, rest)?;
             Ok(ask_at(number_in(*node), request))
         }
         [] => Ok(Line::Bad),

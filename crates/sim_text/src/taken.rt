@@ -11,26 +11,26 @@ pub struct MapMade {
     pub epoch: Epoch,
     /// The epoch since which its acting list is the same.
     pub interval: Epoch,
-    /// The interval that was activated last before that one, 0 where none was.
+    /// The interval that was activated last before that one, 0 if none was.
     pub prev: Epoch,
 }
 
-/// A node as it stands.
+/// A node's state.
 #[derive(Clone, Copy, Drop)]
 pub struct NodeShown {
     /// Its number.
     pub node: NodeId,
     /// The interval that it is in, 0 before the first.
     pub interval: Epoch,
-    /// What it does in that interval.
+    /// Its status in that interval.
     pub status: Status,
-    /// How many entries its log has.
+    /// The number of entries of its log.
     pub length: usize,
-    /// How many of them are committed.
+    /// The number of them that are committed.
     pub committed: usize,
 }
 
-/// What comes of a line.
+/// The result of a line.
 #[derive(Drop)]
 pub enum Taken {
     /// The line is bad, and nothing happened.
@@ -56,7 +56,7 @@ pub enum Taken {
 impl Taken {
     ghost use Rattle.sim_text.specs.Texts.{is_bad};
 
-    /// Whether the line is bad.
+    /// True if the line is bad.
     pub fn is_bad(&self) -> bool
         ensures { result ≡ is_bad self.now }
     {

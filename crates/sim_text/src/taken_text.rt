@@ -1,4 +1,4 @@
-//! What is said of what comes of a line.
+//! The text of what comes of a line.
 ghost use Rattle.std.specs.Prelude.{◌≡◌, IfOk, IfSome, string_bytes};
 ghost use Rattle.sim_text.specs.Texts.{again_lines, again_text, map_text, node_text, refused_text, said_text, status_text};
 
@@ -51,8 +51,8 @@ fn node_text(alloc: Global, shown: &NodeShown) -> Result<String, AllocError>
     )
 }
 
-/// What is said of it in a line, without a line feed; of messages, and of a line that is bad or
-/// says nothing, no text. It fails for want of memory alone.
+/// The text of it in one line, without a line feed; empty for messages, and for a line that is bad
+/// or says nothing. It fails for want of memory alone.
 pub fn said_text(alloc: Global, taken: &Taken) -> Result<String, AllocError>
     ensures { IfOk result (λ t. string_bytes t ≡ said_text taken.now) }
 {

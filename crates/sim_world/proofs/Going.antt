@@ -1,5 +1,5 @@
--- What a line makes of an agreed world goes on from there: its events, what they bring, and that no
--- committed list is cut.
+-- An agreed world goes on by a line: its events, what they bring, and that no committed list is
+-- cut.
 use Rattle.std.proofs.Common.{◌≡◌, ◌-◌, ℕ, Bool, true, false, if◌then◌else◌, List, [], ◌∷◌, ◌++◌, length, map, set, Option, Some, None, refl, sym, ap, ◌∙◌, subst, arith, append-nil}
 use Rattle.pg_log.specs.Requests.{ClientRequest}
 use Rattle.pg_log.specs.Log.{Classes}
@@ -31,7 +31,7 @@ use Rattle.sim_world.specs.Step.{Played, Happened, beginning, stays, happened, u
 use Rattle.sim_world.specs.Agreed.{EventsLead, EventsGrew, GoesOn, WorldsAgree, taken_by}
 use Rattle.sim_world.proofs.Reaching.{leads_more, agreed_played}
 
--- What came of it goes on from a played world; by what is taken, those requests were brought.
+-- The end of a line goes on from a played world; by what is taken, those requests were brought.
 record Follows (classes : Classes) (p : Played) (h : Happened) (asked : Taken → List ClientRequest) : Type 0 where
   leads : EventsLead classes h.played
   events : EventsGrew p.events h.played.events

@@ -1,4 +1,4 @@
--- What grew by one more of a list.
+-- Lists that grew by one more.
 use Rattle.std.proofs.Common.{◌≡◌, ◌<◌, ℕ, suc, List, [], ◌∷◌, ◌++◌, length, drop, get_or, map, sym, ap, ◌∙◌, append_assoc, drop-cons}
 use Rattle.group_world.specs.declared.message.Packet.{Packet}
 use Rattle.sim_text.specs.Kept.{kept_line}

@@ -1,4 +1,4 @@
--- What the code makes of the parts of a played world is what a line makes of the group's world.
+-- The code makes of the parts of a played world what a line makes of the group's world.
 use Rattle.std.proofs.Common.{◌≡◌, ◌≢◌, ◌≤◌, ◌<◌, ◌-◌, ◌+◌, ◌==◌, ◌&&◌, ℕ, zero, suc, min, Bool, true, false, if◌then◌else◌, List, [], ◌∷◌, ◌++◌, length, map, Option, Some, None, refl, sym, ap, ◌∙◌, subst, arith, slice_get, get_or, set, get_or-set_other}
 use Rattle.std.proofs.lemmas.Bool.{eq-eqb, eqb-true, ltb-false, ltb-true, le-ltb, false≢true}
 use Rattle.std.proofs.lemmas.Grind.{get_or-set_at}

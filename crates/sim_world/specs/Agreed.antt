@@ -1,5 +1,5 @@
--- What holds of the played worlds that lines lead to: each is an agreed one, by the events that
--- happened, and a line takes nothing back.
+-- Each played world that lines lead to is an agreed one, by the events that happened, and a line
+-- takes nothing back.
 use Rattle.std.specs.Prelude.{◌≡◌, ◌≤◌, List, [], ◌∷◌, ◌++◌, length}
 use Rattle.pg_log.specs.Requests.{ClientRequest}
 use Rattle.pg_log.specs.Log.{Classes}

@@ -1,4 +1,4 @@
--- How a played world is held: the nodes 0 to 15 alone, and of each list that was sent no more than
+-- A played world is held by the nodes 0 to 15 alone, and of each list that was sent by no more than
 -- its receiver lacks.
 use Rattle.std.specs.Prelude.{◌≡◌, ℕ, ◌≤◌, ◌<◌, List, [], ◌∷◌, length, map, Option, Some, None, if◌then◌else◌}
 use Rattle.pg_log.specs.Log.{Classes}

@@ -1,5 +1,5 @@
--- What a line does in the world of a group, and what comes of it. What happens there is
--- group_world's: its events, its nodes' steps, its monitor.
+-- A line's effect on the world of a group, and its result. The events there, the nodes' steps and
+-- the monitor are group_world's.
 use Rattle.std.specs.Prelude.{ℕ, ◌-◌, nat_lt, Bool, true, false, List, [], ◌∷◌, ◌++◌, length, map, Option, Some, None, if◌then◌else◌, slice_set, slice_index_or, replicate}
 use Rattle.pg_log.specs.Log.{Classes}
 use Rattle.group_world.specs.Maps.{GroupMap}
@@ -37,7 +37,7 @@ pub record Played : Type 0 where
 abbrev pub beginning : Classes → Played
 beginning classes = record { world = opening classes; stopped = replicate 16 false; events = [] }
 
--- What a line comes to: the played world after it, and what comes of it.
+-- The end of a line: the played world after it, and what comes of it.
 pub record Happened : Type 0 where
   pub played : Played
   pub taken : Taken

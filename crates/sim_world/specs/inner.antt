@@ -1,3 +1,3 @@
--- What only the code's own private contracts name.
+-- Definitions that only the code's own private contracts name.
 pub mod Buckets
 pub mod Parts

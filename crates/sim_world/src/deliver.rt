@@ -17,7 +17,7 @@ use placement::NodeId;
 use sim_text::{Taken, numbered, sender_of};
 use std::alloc::{AllocError, Global};
 
-/// What a delivery is.
+/// A delivery.
 #[derive(Drop)]
 pub(crate) enum Delivery {
     /// To that node, that event; none where a list was lost.
@@ -102,7 +102,7 @@ fn coming_to<C: Classes>(
     }
 }
 
-/// What the delivery of a message is.
+/// The delivery of a message.
 fn delivery_of<C: Classes>(
     alloc: Global,
     nodes: &[GroupNode<C>],

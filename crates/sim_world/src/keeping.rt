@@ -10,7 +10,7 @@ use peering::GroupNode;
 use pg_log::Classes;
 use std::alloc::AllocError;
 
-/// How many requests a party has committed; one that is no node here has none.
+/// The number of requests that a party has committed; one that is no node here has none.
 fn committed_of<C: Classes>(nodes: &[GroupNode<C>], party: Party) -> usize
     ensures { result ≡ committed_of nodes.now party }
 {
@@ -24,14 +24,14 @@ fn committed_of<C: Classes>(nodes: &[GroupNode<C>], party: Party) -> usize
     }
 }
 
-/// How many requests the sender of a message has committed.
+/// The number of requests that the sender of a message has committed.
 fn sender_has<C: Classes>(nodes: &[GroupNode<C>], packet: &Packet) -> usize
     ensures { result ≡ committed_of nodes.now packet.now.message.sender }
 {
     committed_of(nodes, packet.message.sender)
 }
 
-/// How many its receiver has.
+/// The number that its receiver has.
 fn receiver_has<C: Classes>(nodes: &[GroupNode<C>], packet: &Packet) -> usize
     ensures { result ≡ committed_of nodes.now packet.now.receiver }
 {

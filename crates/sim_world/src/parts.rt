@@ -18,7 +18,7 @@ use sim_text::{Line, MapMade, NodeShown, Taken, numbered};
 use std::alloc::{AllocError, Global};
 use std::marker::Model;
 
-/// How many nodes there are, by numbers from 0.
+/// The number of nodes; theirs are from 0 on.
 const NODE_COUNT: usize = 16;
 
 /// The parts of a played world: every map, the monitor, the nodes, which of them are stopped, and
@@ -90,21 +90,21 @@ impl<C: Classes> Parts<C> {
         self.nodes.get(number.get() as usize)
     }
 
-    /// What is printed of what came of a line.
+    /// The text that is printed of a line, by what came of it.
     pub(crate) fn text(&self, taken: &Taken) -> Result<String, AllocError>
         ensures { IfOk result (λ t. string_bytes t ≡ kept_taken self.now.sent taken.now) }
     {
         taken_text(self.alloc, self.sent.items(), taken)
     }
 
-    /// Whether there is such a node.
+    /// True if there is such a node.
     fn is_node(&self, node: NodeId) -> bool
         ensures { result ≡ has_node self.now node }
     {
         (node.get() as usize) < self.nodes.len()
     }
 
-    /// Whether it is stopped.
+    /// True if it is stopped.
     fn is_stopped(&self, node: NodeId) -> bool
         ensures { result ≡ has_stopped self.now node }
     {
@@ -114,14 +114,14 @@ impl<C: Classes> Parts<C> {
         }
     }
 
-    /// Whether it is there and isn't stopped.
+    /// True if it is there and isn't stopped.
     fn runs(&self, node: NodeId) -> bool
         ensures { result ≡ (has_node self.now node && not (has_stopped self.now node)) }
     {
         self.is_node(node) && !self.is_stopped(node)
     }
 
-    /// What comes to a node that is stopped or isn't there: nothing happens, whatever it is.
+    /// The result at a node that is stopped or isn't there: nothing happens, whatever comes to it.
     fn stands(&self, node: NodeId) -> Taken
         requires { IsFalse (has_node self.now node && not (has_stopped self.now node)) }
         ensures { (t : Turn) → record { parts = self.now; taken = result } ≡ unless_held self.now node t }
@@ -242,7 +242,7 @@ impl<C: Classes> Parts<C> {
         }
     }
 
-    /// How a node stands.
+    /// Shows a node's state.
     fn show(&self, node: NodeId) -> Taken
         ensures { record { parts = self.now; taken = result } ≡ shown self.now node }
     {
@@ -265,7 +265,7 @@ impl<C: Classes> Parts<C> {
         Taken::Sent(0)
     }
 
-    /// What a node that is there would send again.
+    /// The messages that a node that is there would send again.
     fn again(&self, node: NodeId) -> Result<Taken, AllocError>
         requires { IsTrue (has_node self.now node) }
         ensures { IfOk result (λ t. record { parts = self.now; taken = t } ≡ sent_again self.now node) }

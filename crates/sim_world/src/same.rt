@@ -1,4 +1,4 @@
-//! Whether two messages are equal: of the kinds that are sent again.
+//! Compares messages, of the kinds that are sent again.
 ghost use Rattle.std.specs.Prelude.{◌≡◌, map, IfOk};
 ghost use Rattle.sim_world.specs.Same.{is_same_map, are_same_requests, is_same_kind, is_same_party};
 ghost use Rattle.sim_world.specs.inner.Buckets.{is_kept_as, is_same_carried, is_same_event, kept_number};
@@ -8,8 +8,7 @@ use crate::sent::Sent;
 use carried::Carried;
 use group_world::{Epoch, Event, GroupMap, MessageKind, Packet, Party, Place, Requests};
 use peering_messages::{are_same, is_same_request};
-use pg_log::{ClientId, Request, are_same_requests};
-use placement::NodeId;
+use pg_log::{Request, are_same_requests};
 use sim_text::{Numbers, sender_of};
 use std::alloc::{AllocError, Global};
 
@@ -23,14 +22,14 @@ fn is_same_map(map: &GroupMap, other: &GroupMap) -> bool
         && are_same(map.prev_acting(), other.prev_acting())
 }
 
-/// Whether the lists are equal.
+/// True if the lists are equal.
 fn are_equal(list: &[Request], other: &[Request]) -> bool
     ensures { result ≡ are_same_requests list.now other.now }
 {
     are_same_requests(list, other)
 }
 
-/// Whether it is a Query of that map.
+/// True if it is a Query of that map.
 fn is_query(kind: &MessageKind, map: &GroupMap) -> bool
     ensures { result ≡ is_same_kind (MessageKind.Query map.now) kind.now }
 {
@@ -40,7 +39,7 @@ fn is_query(kind: &MessageKind, map: &GroupMap) -> bool
     false
 }
 
-/// Whether it is that map's Query.
+/// True if it is that map's Query.
 fn is_asked(kind: &MessageKind, map: &GroupMap) -> bool
     ensures { result ≡ is_same_kind kind.now (MessageKind.Query map.now) }
 {
@@ -50,7 +49,7 @@ fn is_asked(kind: &MessageKind, map: &GroupMap) -> bool
     false
 }
 
-/// Whether it is an Install of that map and list.
+/// True if it is an Install of that map and list.
 fn is_install(kind: &MessageKind, map: &GroupMap, list: &Requests) -> bool
     ensures { result ≡ is_same_kind (MessageKind.Install map.now list.now) kind.now }
 {
@@ -60,7 +59,7 @@ fn is_install(kind: &MessageKind, map: &GroupMap, list: &Requests) -> bool
     false
 }
 
-/// Whether it asks for that interval.
+/// True if it asks for that interval.
 fn is_ask(kind: &MessageKind, interval: Epoch) -> bool
     ensures { result ≡ is_same_kind (MessageKind.AskActivate interval) kind.now }
 {
@@ -70,7 +69,7 @@ fn is_ask(kind: &MessageKind, interval: Epoch) -> bool
     false
 }
 
-/// Whether it is a Rep of that interval, place and request.
+/// True if it is a Rep of that interval, place and request.
 fn is_rep(kind: &MessageKind, interval: Epoch, place: Place, request: &Request) -> bool
     ensures { result ≡ is_same_kind (MessageKind.Rep interval place request.now) kind.now }
 {
@@ -96,50 +95,14 @@ fn is_same_kind(kind: &MessageKind, other: &MessageKind) -> bool
     }
 }
 
-/// Whether it is that node.
-fn is_node(party: Party, node: NodeId) -> bool
-    ensures { result ≡ is_same_party (Party.Node node) party }
-{
-    match party {
-        Party::Node(other) => node == other,
-        Party::Monitor => false,
-        Party::Client(_) => false,
-    }
-}
-
-/// Whether it is the monitor.
-fn is_monitor(party: Party) -> bool
-    ensures { result ≡ is_same_party Party.Monitor party }
-{
-    match party {
-        Party::Node(_) => false,
-        Party::Monitor => true,
-        Party::Client(_) => false,
-    }
-}
-
-/// Whether it is that client.
-fn is_client(party: Party, client: ClientId) -> bool
-    ensures { result ≡ is_same_party (Party.Client client) party }
-{
-    match party {
-        Party::Node(_) => false,
-        Party::Monitor => false,
-        Party::Client(other) => client == other,
-    }
-}
-
+/// True if the parties are equal.
 fn is_same_party(party: Party, other: Party) -> bool
     ensures { result ≡ is_same_party party other }
 {
-    match party {
-        Party::Node(node) => is_node(other, node),
-        Party::Monitor => is_monitor(other),
-        Party::Client(client) => is_client(other, client),
-    }
+    party == other
 }
 
-/// Whether a message that is kept says the same.
+/// True if a message that is kept says the same.
 fn is_same_event(kind: &MessageKind, event: &Event) -> bool
     ensures { result ≡ is_same_event kind.now event.now }
 {
@@ -150,7 +113,7 @@ fn is_same_event(kind: &MessageKind, event: &Event) -> bool
     }
 }
 
-/// Whether what is kept of a message says the same. A list is never sent again.
+/// True if a message, as it is kept, says the same. A list is never sent again.
 fn is_same_carried(kind: &MessageKind, carried: &Carried) -> bool
     ensures { result ≡ is_same_carried kind.now carried.now }
 {
@@ -161,7 +124,7 @@ fn is_same_carried(kind: &MessageKind, carried: &Carried) -> bool
     }
 }
 
-/// Whether a message is equal to one that is kept.
+/// True if a message is equal to one that is kept.
 pub(crate) fn is_kept_as(packet: &Packet, kept: &KeptMessage) -> bool
     ensures { result ≡ is_kept_as packet.now kept.now }
 {

@@ -11,10 +11,10 @@ use sim_text::{Numbers, numbered};
 use std::alloc::{AllocError, Global};
 use std::marker::Model;
 
-/// How many buckets are for messages that may be sent again. One more is for the others.
+/// The number of buckets for messages that may be sent again. One more is for the others.
 const SPREAD: usize = 1024;
 
-/// How many buckets there are.
+/// The number of all buckets.
 const BUCKETS: usize = 1025;
 
 /// The bucket of a message.
@@ -115,7 +115,7 @@ fn keep_numbered(
     }
 }
 
-/// Whether the message of a number is equal to that one.
+/// True if the message of a number is equal to that one.
 fn is_equal_to(packet: &Packet, kept: &[KeptMessage], number: usize) -> bool
     ensures { result ≡ is_equal_to packet.now (numbered kept.now number) }
 {
@@ -194,7 +194,7 @@ impl Sent {
         &self.kept
     }
 
-    /// How many there are.
+    /// The number of them.
     pub(crate) fn len(&self) -> usize
         ensures { result ≡ length self.now }
     {

@@ -1,4 +1,4 @@
-//! What is printed of what came of a line.
+//! Prints what came of a line.
 ghost use Rattle.std.specs.Prelude.{◌≡◌, IfOk, string_bytes};
 ghost use Rattle.sim_text.specs.Texts.{said_text};
 ghost use Rattle.sim_world.specs.inner.Parts.{ended, kept_lines, kept_taken, kept_text, last_kept};
@@ -41,7 +41,7 @@ fn last_kept(alloc: Global, sent: &[KeptMessage], count: usize) -> Result<String
     kept_text(alloc, number, &sent[before..])
 }
 
-/// What is said of it, ended by a line feed.
+/// The text of it, ended by a line feed.
 fn said_line(alloc: Global, taken: &Taken) -> Result<String, AllocError>
     ensures { IfOk result (λ t. string_bytes t ≡ ended (said_text taken.now)) }
 {
@@ -50,7 +50,7 @@ fn said_line(alloc: Global, taken: &Taken) -> Result<String, AllocError>
     Ok(text)
 }
 
-/// What is printed of what came of a line, by the messages that were sent up to it.
+/// The text that is printed of a line, by the messages that were sent up to it.
 pub(crate) fn taken_text(
     alloc: Global,
     sent: &[KeptMessage],

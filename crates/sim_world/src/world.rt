@@ -75,14 +75,15 @@ impl<C: Classes> World<C> {
         if self.is_lost {
             return Err(AllocError);
         }
+        // Where memory is refused amid the line, it stays so.
         self.is_lost = true;
         let taken = self.parts.take(table, line)?;
         self.is_lost = false;
         Ok(taken)
     }
 
-    /// What is printed of what came of the last line; of a bad one nothing. It fails for want of
-    /// memory alone.
+    /// The text that is printed of the last line, by what came of it; empty for a bad one. It fails
+    /// for want of memory alone.
     pub fn text(&self, taken: &Taken) -> Result<String, AllocError>
         ensures { IfOk result (λ t. Says C.classes self.now taken.now (string_bytes t)) }
     {

@@ -1,4 +1,4 @@
-/// How many classes of tenants there may be: those of a table but for the built-in ones.
+/// The most classes of tenants: those of a table, but for the built-in ones.
 pub const TENANT_LIMIT: usize = 62;
 
 /// A class of a tenant's.

@@ -1,4 +1,4 @@
--- What the files of the tests hold.
+-- The files of the tests.
 use Rattle.std.specs.Prelude.{ℕ, List, Some, None, if◌then◌else◌, codes}
 use Rattle.std.specs.Str.{bytes_eq}
 use Rattle.class_tool.specs.Files.{Disk}

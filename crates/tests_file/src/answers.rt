@@ -1,5 +1,4 @@
-//! What is found of classes in two files, what the files hold afterwards, and what is printed of
-//! it.
+//! Finds answers of classes in two files: checks them, the files afterwards, and the printed lines.
 
 use crate::known::TwoFiles;
 use bpf_decode::RuleSet;
@@ -25,14 +24,14 @@ fn files_of<R: Abort + AllocGlobal>(rt: &R, text: &[u8], image: &[u8], takes: bo
     }
 }
 
-/// Whether that is what the files hold, and whether a write failed.
+/// True if the files hold that, and a write failed as told.
 fn hold(files: &TwoFiles, text: &[u8], image: &[u8], has_failed: bool) -> bool {
     files.text.as_slice() == text
         && files.image.as_slice() == image
         && files.has_failed == has_failed
 }
 
-/// What is printed of an action.
+/// The lines that an action prints.
 fn printed<R: Abort + AllocGlobal>(rt: &R, files: &mut TwoFiles, asked: &Action<'_>) -> String {
     let text = match find(rt.alloc(), files, asked) {
         Ok(answer) => format!(in rt.alloc(); "{answer}"),

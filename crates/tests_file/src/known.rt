@@ -13,14 +13,14 @@ use std::io::{self, ErrorKind};
 pub struct TwoFiles {
     pub text: Vec<u8>,
     pub image: Vec<u8>,
-    /// Whether they can be written.
+    /// True if they can be written.
     pub takes: bool,
-    /// Whether a write failed.
+    /// True if a write failed.
     pub has_failed: bool,
 }
 
 impl TwoFiles {
-    /// What a file holds.
+    /// The bytes of a file.
     fn file(&self, name: &str) -> io::Result<&[u8]>
         ensures held { IfOk result (λ bytes. two_files self.now.text.items self.now.image.items name.now ≡ Some bytes.now) }
         ensures absent { IfErr result (λ _. two_files self.now.text.items self.now.image.items name.now ≡ None) }

@@ -88,7 +88,7 @@ static MISTAKES: [(&str, &str, &str); 13] = [
     ),
 ];
 
-/// What is printed of the class of a text, with what is explained.
+/// The lines of the class of a text, with the note that explains them.
 fn explained<R: Abort + AllocGlobal>(rt: &R, text: &str) -> String {
     let mut files = TwoFiles {
         text: Vec::from_slice(rt.alloc(), text.as_bytes()).expect(rt, "memory"),

@@ -10,10 +10,10 @@ use std::sync::Wait;
 use std::time::Clock;
 use tests_history::{Asks, End, Made, NAMES, end_of};
 
-/// How often a call is made again at most while the trouble goes on.
+/// The most repeats of a call while the trouble goes on.
 const REPEATS: u32 = 3;
 
-/// How many looks and submits a call after the trouble has at most, by all its repeats.
+/// The most looks and submits of a call after the trouble, by all its repeats.
 const LAST_TRIES: u32 = 20_000_000;
 
 /// A full log is seen that often by each caller.
@@ -222,12 +222,12 @@ impl<N: ClusterName, R: Wait> AtWork<'_, N, R> {
     }
 }
 
-/// Whether a call was refused by a full log.
+/// True if a call was refused by a full log.
 fn is_full(made: &Made) -> bool {
     matches!(made.end, End::Refused(ExecError::LogFull))
 }
 
-/// What a client asks.
+/// A client's random request.
 fn asks(random: &mut Random) -> Asks {
     let name = random.below(NAMES as u32) as usize;
     let byte = random.byte();
@@ -252,7 +252,7 @@ fn asks(random: &mut Random) -> Asks {
     }
 }
 
-/// What each node refuses.
+/// A request that each node refuses.
 fn wrong(random: &mut Random) -> Asks {
     match random.below(3) {
         0 => Asks::NoClass,
@@ -271,7 +271,7 @@ fn offset(random: &mut Random) -> u32 {
     }
 }
 
-/// How much is read: some bytes, or more than may be read.
+/// The length of a read: some bytes, or more than may be read.
 fn length(random: &mut Random) -> u32 {
     if random.is_one_in(16) {
         4_097

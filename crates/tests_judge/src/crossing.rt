@@ -1,4 +1,4 @@
-//! What may go to another thread, for the proofs of `run`. The functions do nothing.
+//! Facts on what may go to another thread, for the proofs of `run`. The functions do nothing.
 ghost use denote.Param.Send.{IsSend, IsSync};
 ghost use Rattle.tests_judge.specs.contracts.caller.Caller as caller;
 ghost use Rattle.tests_judge.specs.contracts.trouble.Trouble as trouble;

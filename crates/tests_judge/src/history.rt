@@ -1,4 +1,4 @@
-//! What a run leaves to be judged, as the nodes and the callers have it.
+//! Collects the history of a run, which is judged, from the nodes and the callers.
 
 use crate::caller::{Caller, names};
 use crate::trouble::Trouble;
@@ -9,10 +9,10 @@ use std::alloc::Global;
 use std::sync::Wait;
 use tests_history::{Client, History, Kept};
 
-/// How many entries a log has at most.
+/// The most entries of a log.
 const LIMIT: usize = 65_536;
 
-/// What a run leaves, in which all nodes are up by the newest map. None where memory is refused, or
+/// The history of a run in which all nodes are up by the newest map. None if memory is refused, or
 /// a node doesn't tell.
 pub fn history_of<N: ClusterName, R: Wait>(
     alloc: Global,
@@ -46,7 +46,7 @@ fn clients(alloc: Global, callers: Vec<Caller>) -> Option<Vec<Client>> {
     Some(clients)
 }
 
-/// What the nodes have that act for a group.
+/// The lists of the nodes that act for a group.
 pub fn kept_of<N: ClusterName, R: Wait>(
     alloc: Global,
     running: &Running<N, R>,

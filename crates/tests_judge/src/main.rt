@@ -22,6 +22,10 @@
 //! `tests_judge CLIENTS CALLS GROUPS` plays one, in which each client makes that many calls before,
 //! between and after three maps. `tests_judge thrash SECONDS SEED [FIRST]` thrashes, from run FIRST
 //! on, and prints what the runs came to.
+//!
+//! `tests_judge run ..` does what it does without words, and then runs `radoscls` on the system's
+//! files and streams, at last on those words. The gate runs it so: one program, since each is
+//! compiled and run twice.
 #![tactic(auto)]
 
 mod caller;
@@ -32,16 +36,18 @@ mod peak;
 mod random;
 mod run;
 mod shape;
+mod system;
 mod thrash;
 mod totals;
 mod trouble;
 mod unrest;
 
 use crate::memory::played;
+use crate::system::tell_of_system;
 use crate::thrash::{Asked, tell_thrash, tell_thrash_alone};
 use anyhow::{Context, Error, Result};
-use std::alloc::Global;
 use std::env;
+use std::process::ExitCode;
 use std::sync::Wait;
 use std::thread::Threads;
 use std::time::Clock;
@@ -66,7 +72,7 @@ const SIZES: [Size; 3] = [
     },
 ];
 
-/// What is changed in what the first cluster prints, one at a time: a line is lost, a place is
+/// Changes of the lines that the first cluster prints, one at a time: a line is lost, a place is
 /// taken, a place is none, codes are others, and a call is refused.
 const CHANGES: [(&str, &str); 5] = [
     ("call 0 place 0 code -2 output -\n", ""),
@@ -83,26 +89,36 @@ const TEN_SECONDS: Asked = Asked {
     first: 0,
 };
 
-/// What the words ask for.
+/// A task that the words can ask for.
+#[derive(Clone, Copy)]
 enum Task {
     All,
+    AllAndSystem,
     Cluster(Size),
     Thrash(Asked),
 }
 
-fn main(rt: HostRuntime) -> Result<()> {
+fn main(rt: HostRuntime) -> Result<ExitCode> {
     let words: Vec<String> = env::args(&rt)?.collect(rt.alloc())?;
-    match asked(&words)? {
-        Task::All => tell_all(&rt),
-        Task::Cluster(size) => tell(&rt, size),
-        Task::Thrash(asked) => tell_thrash(&rt, asked),
+    let task = asked(&words)?;
+    drop(words);
+    match task {
+        Task::All => tell_all(&rt)?,
+        Task::AllAndSystem => {
+            tell_all(&rt)?;
+            return tell_of_system(&rt, &mut rt.stdout(), &mut rt.stderr());
+        }
+        Task::Cluster(size) => tell(&rt, size)?,
+        Task::Thrash(asked) => tell_thrash(&rt, asked)?,
     }
+    Ok(ExitCode::SUCCESS)
 }
 
-/// What the words ask for.
+/// The task that the words ask for.
 fn asked(words: &[String]) -> Result<Task> {
     match words {
         [] | [_] => Ok(Task::All),
+        [_, word, ..] if word.as_str() == "run" => Ok(Task::AllAndSystem),
         [_, word, rest @ ..] if word.as_str() == "thrash" => thrash_of(rest),
         [_, clients, calls, groups] => Ok(Task::Cluster(Size {
             clients: number(clients)?,
@@ -114,7 +130,7 @@ fn asked(words: &[String]) -> Result<Task> {
 }
 
 fn usage() -> Error {
-    Error::msg("usage: tests_judge [CLIENTS CALLS GROUPS | thrash SECONDS SEED [FIRST]]")
+    Error::msg("usage: tests_judge [CLIENTS CALLS GROUPS | thrash SECONDS SEED [FIRST] | run ..]")
 }
 
 /// The thrashing that the words after `thrash` ask for.
@@ -149,7 +165,7 @@ fn tell_all<R: Threads + Wait + Clock + Sync + Print + AllocGlobal>(rt: &R) -> R
 /// Plays the first cluster, and prints how its lines are judged with each change.
 fn tell_of_changes<R: Threads + Wait + Clock + Sync + Print + AllocGlobal>(rt: &R) -> Result<()> {
     let plan = Plan::new(rt.alloc(), SIZES[0])?;
-    let printed = played(rt.alloc(), rt, plan.text(rt.alloc())?)?;
+    let printed = played(rt, plan.text(rt.alloc())?)?;
     tell_each_change(rt, &plan, &printed)
 }
 
@@ -165,7 +181,7 @@ fn tell_each_change<R: Print + AllocGlobal>(rt: &R, plan: &Plan, printed: &str) 
 
 /// Plays a cluster, and prints how it is judged.
 fn tell<R: Threads + Wait + Clock + Sync + Print + AllocGlobal>(rt: &R, size: Size) -> Result<()> {
-    let verdict = verdict_of(rt.alloc(), rt, size)?;
+    let verdict = verdict_of(rt, size)?;
     let Size {
         clients,
         calls,
@@ -174,14 +190,13 @@ fn tell<R: Threads + Wait + Clock + Sync + Print + AllocGlobal>(rt: &R, size: Si
     println!(rt; "clients {clients} calls {calls} groups {groups}: {verdict}").map_err(Error::from)
 }
 
-/// How a cluster is judged.
-fn verdict_of<R: Threads + Wait + Clock + Sync>(
-    alloc: Global,
+/// The verdict on a cluster.
+fn verdict_of<R: AllocGlobal + Threads + Wait + Clock + Sync>(
     rt: &R,
     size: Size,
 ) -> Result<Verdict> {
-    let plan = Plan::new(alloc, size)?;
-    let text = plan.text(alloc)?;
-    let printed = played(alloc, rt, text)?;
-    Ok(judge(alloc, &plan, &printed)?)
+    let plan = Plan::new(rt.alloc(), size)?;
+    let text = plan.text(rt.alloc())?;
+    let printed = played(rt, text)?;
+    Ok(judge(rt.alloc(), &plan, &printed)?)
 }

@@ -36,18 +36,17 @@ impl Files for Memory {
     }
 }
 
-/// What `cluster` prints of a file.
-pub fn played<R: Threads + Wait + Clock + Sync>(
-    alloc: Global,
+/// The text that `cluster` prints of a file.
+pub fn played<R: AllocGlobal + Threads + Wait + Clock + Sync>(
     rt: &R,
     text: String,
 ) -> Result<String> {
     let mut files = Memory { text };
-    let mut printed = Vec::new(alloc);
-    let mut err = Vec::new(alloc);
+    let mut printed = Vec::new(rt.alloc());
+    let mut err = Vec::new(rt.alloc());
     let mut out = Printer::new(&mut printed);
     let words = ["radoscls", "cluster", "calls"];
-    let status = program(alloc, rt, &words, &mut files, &mut out, &mut err);
+    let status = program(rt, &words, &mut files, &mut out, &mut err);
     drop(out);
     if status != 0 {
         return Err(Error::msg("the program ended with another status than 0"));

@@ -1,4 +1,4 @@
-//! How much memory the process has had, as Linux tells it.
+//! Asks Linux for the most memory that the process has had.
 
 use std::fs::read_to_string;
 use std::rt::Files;

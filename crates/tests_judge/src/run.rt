@@ -23,7 +23,7 @@ const WORKERS: usize = 4;
 
 const CALLERS: usize = 64;
 
-/// What a run leaves: its history, if memory sufficed, and what its threads say.
+/// The remains of a run: its history, if memory sufficed, and the fault that its threads saw.
 #[derive(Drop)]
 struct Played {
     history: Option<History>,
@@ -31,12 +31,12 @@ struct Played {
 }
 
 /// Plays a run of that shape, adds to the totals, and tells what is wrong, if anything is.
-pub fn run<R: Threads + Wait + Clock + Sync>(
-    alloc: Global,
+pub fn run<R: AllocGlobal + Threads + Wait + Clock + Sync>(
     rt: &R,
     shape: Shape,
     totals: &mut Totals,
 ) -> Result<Option<Fault>, AllocError> {
+    let alloc = rt.alloc();
     let Ok(mut cluster) = Cluster::new(alloc, shape.config) else {
         return Ok(Some(Fault::Said("no cluster")));
     };
@@ -44,14 +44,14 @@ pub fn run<R: Threads + Wait + Clock + Sync>(
         return Ok(Some(Fault::Said("no parts")));
     };
     let trouble = Trouble::new(shape);
-    let Some(played) = play(alloc, rt, parts, table, &trouble, totals) else {
+    let Some(played) = play(rt, parts, table, &trouble, totals) else {
         return Ok(Some(Fault::Said("memory for the nodes is refused")));
     };
     totals.note_messages(trouble.counts());
     judged(alloc, &played, totals)
 }
 
-/// What is wrong with a run that was played.
+/// The fault of a run that was played, if it has one.
 fn judged(
     alloc: Global,
     played: &Played,
@@ -67,20 +67,18 @@ fn judged(
     fault_of(alloc, history)
 }
 
-fn play<R: Threads + Wait + Clock + Sync + Drop>(
-    alloc: Global,
+fn play<R: AllocGlobal + Threads + Wait + Clock + Sync + Drop>(
     rt: R,
     parts: Parts,
     table: ClassTable,
     trouble: &Trouble,
     totals: &mut Totals,
 ) -> Option<Played> {
-    play_named::<Brand, R>(alloc, rt, parts, table, trouble, totals)
+    play_named::<Brand, R>(rt, parts, table, trouble, totals)
 }
 
 /// Names the cluster, and plays on it.
-fn play_named<N: ClusterName + Send + Sync, R: Threads + Wait + Clock + Sync + Drop>(
-    alloc: Global,
+fn play_named<N: ClusterName + Send + Sync, R: AllocGlobal + Threads + Wait + Clock + Sync + Drop>(
     rt: R,
     parts: Parts,
     table: ClassTable,
@@ -92,6 +90,7 @@ fn play_named<N: ClusterName + Send + Sync, R: Threads + Wait + Clock + Sync + D
     requires config { parts.config ≡ N.config }
     requires table { table ≡ N.classes }
 {
+    let alloc = rt.alloc();
     let running = Running::<N, R>::named(alloc, rt, parts, table).ok()?;
     play_served(alloc, &running, trouble, totals)
 }
@@ -122,7 +121,7 @@ fn callers(alloc: Global, trouble: &Trouble) -> Option<Vec<Caller>> {
     Some(callers)
 }
 
-/// What a thread says that it came to, if one does.
+/// The fault that a thread saw, if one did.
 fn said_by(callers: &[Caller], unrest: &Unrest) -> Option<Fault> {
     for caller in callers {
         if let Some(text) = caller.fault {

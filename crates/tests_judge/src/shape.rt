@@ -1,4 +1,4 @@
-//! What a run is made of.
+//! The shape of a run: its numbers, made from the seed.
 
 use crate::random::Random;
 use osd::Config;
@@ -29,7 +29,7 @@ pub struct Shares {
     pub kept: u32,
 }
 
-/// What a run is made of.
+/// The numbers of a run.
 #[derive(Clone, Copy, Debug)]
 pub struct Shape {
     pub seed: u64,
@@ -37,12 +37,12 @@ pub struct Shape {
     pub config: Config,
     pub callers: u32,
     pub objects: u32,
-    /// How many calls a caller makes at most.
+    /// The most calls of a caller.
     pub calls: u32,
     pub shares: Shares,
-    /// How many microseconds pass at most between two maps, stops or nudges.
+    /// The most microseconds between two maps, stops or nudges.
     pub pause: u32,
-    /// How many of these there are at most.
+    /// The most of these.
     pub unrests: u32,
 }
 
@@ -116,13 +116,13 @@ impl Shape {
         }
     }
 
-    /// Whether a client calls that object after the trouble: all where there are few clients, else
-    /// one of them.
+    /// True if a client calls that object after the trouble: if clients are few each calls all
+    /// objects, else each calls one of them.
     pub fn is_last(&self, client: u32, object: u32) -> bool {
         self.callers <= 8 || client % self.objects.max(1) == object
     }
 
-    /// Whether callers go on until a log is full.
+    /// True if callers go on until a log is full.
     pub fn is_full(&self) -> bool {
         self.number >= FULL
     }
@@ -145,7 +145,7 @@ impl Shape {
     }
 }
 
-/// How many callers there are.
+/// The number of callers.
 fn callers(random: &mut Random, is_many: bool) -> u32 {
     if is_many {
         random.between(9, 63)

@@ -74,7 +74,7 @@ pub fn thrash<R: Threads + Wait + Clock + Sync + AllocGlobal>(
         let number = numbers.number(seconds);
         let shape = Shape::new(asked.seed, number);
         totals.runs = totals.runs.wrapping_add(1);
-        if let Some(fault) = run(rt.alloc(), rt, shape, totals)? {
+        if let Some(fault) = run(rt, shape, totals)? {
             return Ok(Some(Wrong { number, fault }));
         }
     }

@@ -1,11 +1,11 @@
-//! What runs came to.
+//! Adds up runs.
 
 use crate::unrest::Unrest;
 use rados_client::ExecError;
 use std::fmt;
 use tests_history::{End, History, Made};
 
-/// What runs came to, modulo 2^64.
+/// The totals of runs, modulo 2^64.
 #[derive(Drop)]
 pub struct Totals {
     pub runs: u64,
@@ -17,9 +17,9 @@ pub struct Totals {
     dropped: u64,
     doubled: u64,
     late: u64,
-    /// How many runs had a log that was full.
+    /// The number of runs with a full log.
     full: u64,
-    /// How many entries all logs of a run had, at most.
+    /// The most entries that all logs of a run had.
     entries: u64,
 }
 

@@ -1,4 +1,4 @@
-//! What becomes of a run's messages, and what its threads share.
+//! The fate of a run's messages, and the numbers that its threads share.
 
 use crate::random::Random;
 use crate::shape::Shape;
@@ -7,21 +7,21 @@ use std::sync::atomic::{AtomicBool, AtomicU32, AtomicU64, Ordering};
 use std::thread::{sleep, yield_now};
 use std::time::{Clock, Duration};
 
-/// How many turns a request that is kept gives other threads.
+/// The number of turns that a request which is kept gives other threads.
 const TURNS: u32 = 200;
 
-/// How long a thread waits for the others, in looks of so many microseconds.
+/// The most looks of a thread that waits for the others, and the microseconds between two.
 const LOOKS: u32 = 6_000_000;
 
 const LOOK_MICROSECONDS: u64 = 50;
 
-/// What the threads of a run share: its shape, what becomes of messages, and how far all have come.
+/// The threads of a run share its shape, the fate of its messages, and how far all have come.
 #[derive(Drop)]
 pub struct Trouble {
     pub shape: Shape,
     /// Counts the beginnings and the ends of calls, in their order.
     ticks: AtomicU64,
-    /// How many callers make calls in the trouble, and how many have to be answered after it.
+    /// The number of callers that make calls in the trouble, and of those to be answered after it.
     calling: AtomicU32,
     ending: AtomicU32,
     /// No node is stopped any more, and the newest map has all nodes.
@@ -61,7 +61,7 @@ impl Trouble {
         self.calling.fetch_sub(1, Ordering::SeqCst);
     }
 
-    /// Whether a caller makes calls in the trouble.
+    /// True if a caller makes calls in the trouble.
     pub fn is_calling(&self) -> bool {
         self.calling.load(Ordering::SeqCst) != 0
     }
@@ -71,7 +71,7 @@ impl Trouble {
         self.ending.fetch_sub(1, Ordering::SeqCst);
     }
 
-    /// Whether a caller isn't done.
+    /// True if a caller isn't done.
     pub fn is_ending(&self) -> bool {
         self.ending.load(Ordering::SeqCst) != 0
     }
@@ -81,8 +81,8 @@ impl Trouble {
         self.is_calm.store(true, Ordering::SeqCst);
     }
 
-    /// Whether callers make no more calls in the trouble, since it is over. Where a log is to be
-    /// full they go on.
+    /// True if callers make no more calls in the trouble, since it is over. If a log is to be full
+    /// they go on.
     pub fn is_over(&self) -> bool {
         self.is_calm.load(Ordering::SeqCst) && !self.shape.is_full()
     }
@@ -98,12 +98,12 @@ impl Trouble {
         false
     }
 
-    /// How many messages were lost, doubled and late.
+    /// The numbers of messages that were lost, doubled and late.
     pub fn counts(&self) -> (u64, u64, u64) {
         (read(&self.dropped), read(&self.doubled), read(&self.late))
     }
 
-    /// What looks random about that number of who has this one: below 1,024.
+    /// A number below 1,024 that looks random, made of the run's seed, that party and that number.
     fn chance(&self, who: u64, n: u64) -> u32 {
         let seed = self.shape.seed.wrapping_add(self.shape.number);
         Random::new(

@@ -11,19 +11,18 @@ use std::sync::Wait;
 use std::thread::sleep;
 use std::time::{Clock, Duration};
 
-/// How long who nudges after the trouble waits between two nudges.
+/// The wait between two nudges after the trouble.
 const NUDGE_MICROSECONDS: u64 = 200;
 
-/// How many nudges there are at most after the trouble.
+/// The most nudges after the trouble.
 const NUDGES: u32 = 3_000_000;
 
-/// How often the nodes' lists are looked at after the last call, at most, and how long it waits
-/// between two looks.
+/// The most looks at the nodes' lists after the last call, and the wait between two looks.
 const LOOKS: u32 = 10_000;
 
 const LOOK_MICROSECONDS: u64 = 2_000;
 
-/// What comes of the unrest.
+/// The unrest, and the count of what it did.
 #[derive(Drop)]
 pub struct Unrest {
     alloc: Global,
@@ -32,7 +31,7 @@ pub struct Unrest {
     up: Vec<NodeId>,
     pub maps: u64,
     pub stops: u64,
-    /// What went wrong, if anything did.
+    /// The first thing that went wrong, if anything did.
     pub fault: Option<&'static str>,
 }
 
@@ -266,7 +265,7 @@ fn settle<N: ClusterName, R: Wait + Clock>(
     }
 }
 
-/// Whether the nodes that act for each group keep one list.
+/// True if the nodes that act for each group keep one list.
 fn is_settled<N: ClusterName, R: Wait>(
     alloc: Global,
     running: &Running<N, R>,

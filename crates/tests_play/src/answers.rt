@@ -1,4 +1,4 @@
-//! What each event is answered by the group's rules where it comes too early, or once more.
+//! Each event that comes too early, or once more, is answered by the group's rules.
 
 use crate::script::prints;
 

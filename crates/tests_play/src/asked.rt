@@ -1,10 +1,10 @@
-//! What `cluster --show` prints: each line has the group of the call's object and the request.
+//! `cluster --show`: each line has the group of the call's object and the request.
 
+use memory_folder::{only_prints, with_repeated};
 use std::process::Abort;
 use std::sync::Wait;
 use std::thread::Threads;
 use std::time::Clock;
-use tests_folder::{only_prints, with_repeated};
 
 /// The words of a run that shows what its calls ask.
 const SHOWN: [&str; 3] = ["cluster", "--show", "text"];
@@ -41,7 +41,7 @@ static ROWS: [(&str, &str, &str); 4] = [
     ),
 ];
 
-/// Whether a file of that many groups and these lines prints that, and ends with 0.
+/// True if a file of that many groups and these lines prints that, and ends with 0.
 fn shows<R: Abort + AllocGlobal + Threads + Wait + Clock + Sync>(
     rt: &R,
     groups: &str,

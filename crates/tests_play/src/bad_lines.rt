@@ -1,9 +1,9 @@
 use crate::script::prints;
+use memory_folder::{only_prints, with_repeated};
 use std::process::Abort;
 use std::sync::Wait;
 use std::thread::Threads;
 use std::time::Clock;
-use tests_folder::{only_prints, with_repeated};
 
 /// Files of events whose last line is bad: what is printed stands below each event.
 static BAD: [&str; 34] = [
@@ -61,7 +61,7 @@ fn a_bad_line_is_the_last(rt: HostRuntime) {
     }
 }
 
-/// How the request is answered whose object's name has that many bytes, and how the run ends.
+/// Checks the answer to the request whose object's name has that many bytes, and the run's end.
 fn asks_beside<R: Abort + AllocGlobal + Threads + Wait + Clock + Sync>(
     rt: &R,
     length: usize,

@@ -2,12 +2,12 @@
 //! malformed line, and each refusal.
 
 use crate::tenants::SPILLS;
+use memory_folder::{Row, only_prints, with_repeated};
 use std::fmt::Write;
 use std::process::Abort;
 use std::sync::Wait;
 use std::thread::Threads;
 use std::time::Clock;
-use tests_folder::{Row, only_prints, with_repeated};
 
 /// The words of a run.
 const CLUSTER: [&str; 2] = ["cluster", "text"];
@@ -90,7 +90,7 @@ static WORKED: [(&str, &str, u8); 15] = [
     ("map 2\nmap 1\nmap 0 2\n", "", 0),
 ];
 
-/// Whether a file of these lines below the first one prints that, and ends so.
+/// True if a file of these lines below the first one prints that, and ends so.
 fn plays<R: Abort + AllocGlobal + Threads + Wait + Clock + Sync>(
     rt: &R,
     lines: &str,
@@ -199,7 +199,7 @@ fn clients<R: Abort + AllocGlobal>(rt: &R, count: u32) -> String {
     text
 }
 
-/// How these calls are printed.
+/// The lines of these calls.
 fn refusals<R: Abort + AllocGlobal>(rt: &R, count: u32) -> String {
     let mut text = String::new(rt.alloc());
     for client in 1..=count {

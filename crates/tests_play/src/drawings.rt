@@ -1,6 +1,6 @@
 //! Files of events of examples/, and their drawings.
 
-use tests_folder::Row;
+use memory_folder::Row;
 
 /// An acknowledgement that is lost, of examples/lost_ack.sim.
 const LOST_ACK: &str = "# Nodes 1, 2 and 3 become a group.
@@ -83,7 +83,7 @@ deliver 21
 show 2
 ";
 
-/// What its lines come to.
+/// The output of its lines.
 const SURVIVED: &str = "\
 map 1 prev 0
 m1 1->2 Install 1 0

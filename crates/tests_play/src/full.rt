@@ -42,7 +42,7 @@ m65546 3->c1 Reply 65536 65535 0 -
 refused 3 LogFull
 ";
 
-/// How many requests there are, and how many a log has room for.
+/// The number of requests, and the number that a log has room for.
 const REQUESTS: u32 = 70_000;
 
 const ROOM: u32 = 65_536;
@@ -62,7 +62,7 @@ fn requests<R: Abort + AllocGlobal>(rt: &R) -> String {
     text
 }
 
-/// What node 1 sends again: all that it logged.
+/// The lines of `resend`: node 1 sends again all that it logged.
 fn again<R: Abort + AllocGlobal>(rt: &R) -> String {
     let shown = "> show 1\nnode 1 epoch 1 active length 65536 committed 0\n> resend 1\n";
     let mut text = String::from_str(rt.alloc(), shown).expect(rt, "memory");

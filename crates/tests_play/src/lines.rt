@@ -41,7 +41,7 @@ fn is_class(request: &Request, line: (u8, u64)) -> bool {
     line.0 == b'a' && line.1 == request.class() as u64
 }
 
-/// Whether a line says what that letter and number tell.
+/// True if a line says what that letter and number tell.
 fn is_said(said: &Line, line: (u8, u64)) -> bool {
     match said {
         Line::Empty => line.0 == b'-',
@@ -74,7 +74,7 @@ fn lines_stand_between_line_feeds(rt: HostRuntime) {
 /// Numbers, and which of 7 and 8 has each: 0 for none.
 static NUMBERED: [(u64, u8); 5] = [(0, 0), (3, 0), (1, 7), (2, 8), (u64::MAX, 0)];
 
-/// Whether of 7 and 8 that one has the number, and none where it is 0.
+/// True if of 7 and 8 that one has the number, or none if it is 0.
 fn has(number: u64, want: u8) -> bool {
     match numbered(&[7u8, 8], number) {
         None => want == 0,

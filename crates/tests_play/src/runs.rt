@@ -250,7 +250,7 @@ m13 1->2 Query 4
 m14 1->3 Query 4
 ";
 
-/// What an asking and an installing primary send again, and an activation that isn't the newest.
+/// An asking and an installing primary send again; an activation isn't the newest.
 const PEERING_AGAIN: &str = "> map 3 2
 map 2 prev 1
 > see 3 2

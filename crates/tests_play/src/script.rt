@@ -1,11 +1,11 @@
 //! Files of events with what they print, as one text: an event stands after `>`, and below it the
 //! lines that it comes to.
 
+use memory_folder::only_prints;
 use std::process::Abort;
 use std::sync::Wait;
 use std::thread::Threads;
 use std::time::Clock;
-use tests_folder::only_prints;
 
 fn push_line<R: Abort>(rt: &R, text: &mut String, line: &str) {
     text.push_str(line).expect(rt, "memory");

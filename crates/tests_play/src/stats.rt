@@ -1,6 +1,7 @@
-//! What `cluster --stats` writes to standard error.
+//! `cluster --stats` writes numbers to standard error.
 
 use cluster_tool::{Figures, Meter};
+use memory_folder::{Ended, Folder, only_prints, run_on, with_repeated};
 use osd::{DeliveryMode, Fate, Gate};
 use std::cell::Cell;
 use std::io::{self, ErrorKind};
@@ -8,7 +9,6 @@ use std::process::Abort;
 use std::sync::Wait;
 use std::thread::Threads;
 use std::time::{Clock, Duration, Instant};
-use tests_folder::{Ended, Folder, only_prints, run_on, with_repeated};
 
 /// The words of a run that is measured.
 const MEASURED: [&str; 3] = ["cluster", "--stats", "text"];
@@ -16,7 +16,7 @@ const MEASURED: [&str; 3] = ["cluster", "--stats", "text"];
 /// The first line of a file: three nodes, which all have each group.
 const FIRST: &str = "cluster nodes 3 replicas 3 groups 64 shards 4 workers 4 tries 100000000\n";
 
-/// What stands before the number of each line, in their order.
+/// The words before the number of each line, in their order.
 const NAMES: [&str; 7] = [
     "calls ",
     "calls a second ",
@@ -61,7 +61,7 @@ fn stats_of(text: &str) -> Option<Stats> {
     })
 }
 
-/// What was measured in a run of those lines, which prints that and ends with 0.
+/// The numbers of a run of those lines, which prints that and ends with 0.
 fn measured<R: Abort + AllocGlobal + Threads + Wait + Clock + Sync>(
     rt: &R,
     first: &str,
@@ -82,12 +82,12 @@ fn measured<R: Abort + AllocGlobal + Threads + Wait + Clock + Sync>(
     stats
 }
 
-/// Whether a run printed that, and ended with 0.
+/// True if a run printed that, and ended with 0.
 fn is_done(ended: &Ended, printed: &str) -> bool {
     ended.status == 0 && ended.printed.as_slice() == printed.as_bytes()
 }
 
-/// Whether the times fit one another, and a run that took that many nanoseconds at most.
+/// True if the times fit one another, and a run that took that many nanoseconds at most.
 fn fit(stats: Stats, elapsed: u64) -> bool {
     let calls = stats.calls;
     let worst = stats.worst;
@@ -222,8 +222,8 @@ impl Clock for Readings {
     }
 }
 
-/// What the clock reads of a run of two seconds with three calls, of 3,500, 9,999 and 0
-/// nanoseconds: their beginnings and ends stand between those of the run.
+/// The clock's readings in a run of two seconds with three calls, of 3,500, 9,999 and 0
+/// nanoseconds: their beginnings and ends are between those of the run.
 static RUN: [u64; 8] = [
     1_000,
     2_000,
@@ -297,7 +297,7 @@ fn figures_without_a_clock(rt: HostRuntime) {
     assert!(&rt; shown.as_str() == wanted);
 }
 
-/// What the clock reads as a run begins, and at four looks.
+/// The clock's readings as a run begins, and at four looks.
 static LOOKS: [u64; 5] = [
     1_000_000,
     101_000_000,

@@ -1,9 +1,9 @@
+use memory_folder::{Ended, Folder, Row, TWO, only_prints, run_on};
 use std::fmt::Write;
 use std::process::Abort;
 use std::sync::Wait;
 use std::thread::Threads;
 use std::time::Clock;
-use tests_folder::{Ended, Folder, Row, TWO, only_prints, run_on};
 
 /// A class whose method `hello` answers five bytes.
 const HELLO: &str =
@@ -183,7 +183,7 @@ fn with_classes<R: Abort + AllocGlobal + Threads + Wait + Clock + Sync>(
     run_on(rt, &words, &mut folder).expect(rt, "memory")
 }
 
-/// Whether the last event is answered with what `hello` writes.
+/// True if the last event is answered with what `hello` writes.
 fn is_answered(ended: &Ended) -> bool {
     let last = "m3 1->c1 Reply 1 0 0 68656c6c6f\n";
     ended.status == 0 && ended.printed.ends_with(last.as_bytes())

@@ -2,6 +2,7 @@
 //! first call waits until another has begun one, and until the process has as many threads as it
 //! should, and neither waits for ever.
 
+use memory_folder::only_prints;
 use std::alloc::Global;
 use std::rt::Files;
 use std::sync::Wait;
@@ -9,18 +10,17 @@ use std::sync::atomic::{AtomicU64, Ordering};
 use std::thread::{Threads, yield_now};
 use std::time::{Clock, Duration};
 use std::{fs, io};
-use tests_folder::only_prints;
 
-/// How often a client looks whether another has begun a call.
+/// The most looks of a client whether another has begun a call.
 const LOOKS: u32 = 10_000_000;
 
-/// How often it looks how many threads there are.
+/// The most counts of the threads.
 const COUNTS: u32 = 100_000;
 
 /// The reading of the clock at the first call's beginning: before it the run's beginning is read.
 const FIRST: u64 = 1;
 
-/// What is to be met when the first call begins.
+/// The event that is awaited when the first call begins.
 #[derive(Clone, Copy)]
 enum Awaited {
     /// Another call begins.
@@ -34,9 +34,9 @@ enum Awaited {
 struct Watched<'a, R> {
     rt: &'a R,
     awaited: Awaited,
-    /// How often the clock was read.
+    /// The number of the clock's readings.
     readings: AtomicU64,
-    /// Whether what was awaited came: 1, and else 0.
+    /// 1 if the awaited event came, and else 0.
     met: AtomicU64,
 }
 
@@ -51,7 +51,7 @@ impl<'a, R> Watched<'a, R> {
         }
     }
 
-    /// Whether what was awaited came.
+    /// True if the awaited event came.
     fn is_met(&self) -> bool {
         self.met.load(Ordering::SeqCst) == 1
     }
@@ -69,7 +69,7 @@ impl<R: Alloc<A = Global>> Alloc for Watched<'_, R> {
     }
 }
 
-/// How many threads the process has, by what the system says of it.
+/// The number of the process's threads, by what the system says of it.
 fn threads_of(status: &str) -> Option<u64> {
     let line = status.lines().find(|line| line.starts_with("Threads:"))?;
     line.split_whitespace().nth(1)?.parse::<u64>().ok()
@@ -84,7 +84,7 @@ fn count_threads<R: Files + Alloc<A = Global>>(rt: &R) -> u64 {
 }
 
 impl<R: Files + Alloc<A = Global>> Watched<'_, R> {
-    /// Whether another call begins, after some looks at most.
+    /// True if another call begins, after some looks at most.
     fn sees_a_call(&self) -> bool {
         for _ in 0..LOOKS {
             if self.readings.load(Ordering::SeqCst) > FIRST + 1 {
@@ -95,7 +95,7 @@ impl<R: Files + Alloc<A = Global>> Watched<'_, R> {
         false
     }
 
-    /// Whether there are that many threads, after some looks at most.
+    /// True if there are that many threads, after some looks at most.
     fn sees_threads(&self, count: u64) -> bool {
         for _ in 0..COUNTS {
             if count_threads(self.rt) >= count {

@@ -1,4 +1,5 @@
 use class_tool::Printer;
+use memory_folder::{Folder, TWO, run_on};
 use radoscls_program::{ExitStatus, end_of, program};
 use std::alloc::Global;
 use std::io::{self, ErrorKind, Write};
@@ -6,7 +7,6 @@ use std::process::Abort;
 use std::sync::Wait;
 use std::thread::Threads;
 use std::time::Clock;
-use tests_folder::{Folder, TWO, run_on};
 
 /// A writer with room for some bytes, which takes some of them a time, and keeps them.
 #[derive(Drop)]
@@ -45,8 +45,8 @@ fn text_of(alloc: Global, tens: usize, elevens: usize) -> io::Result<Vec<u8>> {
     Ok(text)
 }
 
-/// Whether of the class in that text just its first bytes are printed, as many as there is room
-/// for; and the program ends with 0 where that is the text, and else with 1.
+/// True if of the class in that text just its first bytes are printed, as many as there is room
+/// for; and the program ends with 0 if that is the whole text, and else with 1.
 fn prints_beginning<R: Abort + AllocGlobal + Threads + Wait + Clock + Sync>(
     rt: &R,
     text: &[u8],
@@ -64,7 +64,7 @@ fn prints_beginning<R: Abort + AllocGlobal + Threads + Wait + Clock + Sync>(
     let mut err = Vec::new(alloc);
     let mut printer = Printer::new(&mut out);
     let words = ["radoscls", "dis", "image"];
-    let status = program(alloc, rt, &words, &mut folder, &mut printer, &mut err);
+    let status = program(rt, &words, &mut folder, &mut printer, &mut err);
     let has_failed = printer.has_failed();
     let is_whole = text.len() <= room;
     made.status == 0
@@ -73,7 +73,7 @@ fn prints_beginning<R: Abort + AllocGlobal + Threads + Wait + Clock + Sync>(
         && has_failed != is_whole
 }
 
-/// How many lines there are of 10 bytes and of 11, and how many bytes that makes.
+/// The numbers of lines of 10 bytes and of 11, and the bytes of them all.
 static TEXTS: [(usize, usize, usize); 4] = [
     // less than a window, one, less than two, two
     (2, 0, 41),
@@ -87,7 +87,7 @@ static ROOMS: [usize; 12] = [
     0, 1, 16, 40, 41, 1_023, 1_024, 1_025, 2_020, 2_021, 2_047, 2_048,
 ];
 
-/// How many bytes a write takes at most.
+/// The most bytes that a write takes.
 static STEPS: [usize; 3] = [1, 1_000, 4_096];
 
 #[test]
@@ -123,7 +123,7 @@ static UNREAD: [(ErrorKind, ExitStatus, &str, &str); 2] = [
     ),
 ];
 
-/// Whether words that can't be read end so, and no file is written.
+/// True if words that can't be read end so, and no file is written.
 fn ends_unread<R: Abort + AllocGlobal + Threads + Wait + Clock + Sync>(
     rt: &R,
     kind: ErrorKind,
@@ -137,7 +137,6 @@ fn ends_unread<R: Abort + AllocGlobal + Threads + Wait + Clock + Sync>(
     let mut err = Vec::new(alloc);
     let words = Err(io::Error::from(kind));
     let status = end_of(
-        alloc,
         rt,
         &words,
         &mut folder,

@@ -1,5 +1,4 @@
-//! What `bench` measures and prints: the methods' counts, the tables by a clock of known readings,
-//! and figures.
+//! The tables of `bench`: the methods' counts, times by a clock of known readings, and figures.
 
 mod figures;
 mod tables;

@@ -1,6 +1,6 @@
-//! What `verify --all` prints: each method's verdict.
+//! `verify --all` prints each method's verdict.
 
-use tests_folder::{TWO, only_prints};
+use memory_folder::{TWO, only_prints};
 
 /// A method that is safe and two that aren't.
 const THREE: &str =

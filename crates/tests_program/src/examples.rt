@@ -1,5 +1,5 @@
-//! What the pages for people show: an example of each rule of the verifier (docs/VERIFIER.md), and
-//! the classes of examples/ and docs/ASSEMBLY.md.
+//! The examples of the pages: one of each rule of the verifier (docs/VERIFIER.md), and the classes
+//! of examples/ and docs/ASSEMBLY.md.
 
 use crate::pages::{HELLO, prints_of};
 

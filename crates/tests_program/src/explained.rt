@@ -1,7 +1,7 @@
-//! What `--explain` adds to a failure.
+//! `--explain` adds a note to a failure.
 
 use crate::pages::prints_of;
-use tests_folder::{TWO, only_prints, with_repeated};
+use memory_folder::{TWO, only_prints, with_repeated};
 
 /// Methods' texts, and what `verify --explain` prints of the class.
 static REFUSED: [(&str, &str); 8] = [
@@ -57,7 +57,7 @@ fn a_refusal_is_explained(rt: HostRuntime) {
     }
 }
 
-/// What is explained of the last of 4,096 slots.
+/// The note on the last of 4,096 slots.
 const LAST: &str =
     "refused method 0 slot 4095: 15 ReturnsPointer\n  method f, IN 4096, OUT 4096\n  exit\n  r0 = input + 0\n  wanted: a number in register 0\n  see docs/VERIFIER.md, 15 ReturnsPointer\n  `mov r0, 0` before it, or another number; output goes by `call 13`\n";
 

@@ -1,17 +1,17 @@
 //! A call beside a full object: 65,536 bytes of data, 32 xattrs and 1,024 keys, with names of 64
 //! bytes and values of 4,096.
 
+use memory_folder::{TWO, only_prints, with_repeated};
 use std::fmt::Write;
 use std::process::Abort;
 use std::sync::Wait;
 use std::thread::Threads;
 use std::time::Clock;
-use tests_folder::{TWO, only_prints, with_repeated};
 
-/// What stands after the first bytes of an xattr's and of a key's name.
+/// The rest of an xattr's and of a key's name after the first bytes.
 const REST: &str = "____________________________________________________________";
 
-/// How many xattrs and keys an object has.
+/// The numbers of an object's xattrs and keys.
 #[derive(Clone, Copy)]
 struct Counts {
     xattrs: u32,
@@ -74,7 +74,7 @@ fn line<R: Abort + AllocGlobal>(rt: &R, counts: Counts) -> String {
     line
 }
 
-/// What is printed of a full object that a call of two instructions leaves as it is.
+/// The lines of a full object that a call of two instructions leaves as it is.
 fn shown<R: Abort + AllocGlobal>(rt: &R) -> String {
     let value = value(rt);
     let start = "code 0\noutput -\nsteps 2\nobject 65536 32 1024\ndata ";
@@ -83,7 +83,7 @@ fn shown<R: Abort + AllocGlobal>(rt: &R) -> String {
     text
 }
 
-/// Whether a call beside an object of that many entries prints that, and ends so.
+/// True if a call on an object of that many entries prints that, and ends so.
 fn prints<R: Abort + AllocGlobal + Threads + Wait + Clock + Sync>(
     rt: &R,
     counts: Counts,

@@ -1,8 +1,8 @@
+use memory_folder::{Folder, Row, TWO, only_prints, prints_on, with_repeated};
 use std::process::Abort;
 use std::sync::Wait;
 use std::thread::Threads;
 use std::time::Clock;
-use tests_folder::{Folder, Row, TWO, only_prints, prints_on, with_repeated};
 
 /// Writes its three bytes of input to the object, and fails: `mov r2, r1`, `mov r1, 0`, `mov r3,
 /// 3`, `call 3`, `mov r0, -5`, `exit`.
@@ -378,7 +378,7 @@ fn disassembles_a_long_text(rt: HostRuntime) {
     );
 }
 
-/// How many bytes are asked for of an image that has bytes after its end.
+/// The number of bytes that are asked for of an image that has bytes after its end.
 fn most_read<R: Abort + AllocGlobal + Threads + Wait + Clock + Sync>(rt: &R, image: &str) -> usize {
     let mut folder = Folder::of(rt.alloc(), image, b"").expect(rt, "memory");
     let printed = "image refused after 1 methods: 11 Trailing\n";

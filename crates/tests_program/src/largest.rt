@@ -1,20 +1,20 @@
 //! The largest class, through the commands that read or write one: 32 methods of 4,096 slots, with
 //! names of 64 bytes, and inputs and outputs of 4,096 bytes.
 
+use memory_folder::{Folder, bytes_of, only_prints, prints_on};
 use std::fmt::Write;
 use std::process::Abort;
 use std::sync::Wait;
 use std::thread::Threads;
 use std::time::Clock;
-use tests_folder::{Folder, bytes_of, only_prints, prints_on};
 
-/// How many methods the class has.
+/// The number of the class's methods.
 const METHODS: u32 = 32;
 
-/// How often each method has `mov r0, 0` before its `exit`.
+/// The number of `mov r0, 0` in each method, before its `exit`.
 const MOVES: u32 = 4_095;
 
-/// What stands after the first three bytes of a method's name, and its digits.
+/// The rest of a method's name after the first three bytes, and its digits.
 const REST: &str = "_____________________________________________________________";
 
 const REST_DIGITS: &str = "5f5f5f5f5f5f5f5f5f5f5f5f5f5f5f5f5f5f5f5f5f5f5f5f5f5f5f5f5f5f5f\
@@ -51,7 +51,7 @@ fn text<R: Abort + AllocGlobal>(rt: &R) -> String {
     text
 }
 
-/// What `verify` prints of the class.
+/// The lines that `verify` prints of the class.
 fn verdicts<R: Abort + AllocGlobal>(rt: &R) -> String {
     let mut verdicts = String::new(rt.alloc());
     for method in 0..METHODS {
@@ -61,7 +61,7 @@ fn verdicts<R: Abort + AllocGlobal>(rt: &R) -> String {
     verdicts
 }
 
-/// Whether a command on the class prints that.
+/// True if a command on the class prints that.
 fn shows<R: Abort + AllocGlobal + Threads + Wait + Clock + Sync>(
     rt: &R,
     words: &[&str],
@@ -101,7 +101,7 @@ fn its_last_method_runs(rt: HostRuntime) {
     assert!(rt; shows(&rt, &words, printed));
 }
 
-/// Whether the file `out` has that image, in hexadecimal, once that text is assembled.
+/// True if the file `out` has that image, in hexadecimal, once that text is assembled.
 fn is_written<R: Abort + AllocGlobal + Threads + Wait + Clock + Sync>(
     rt: &R,
     text: &str,

@@ -2,7 +2,7 @@
 
 use crate::examples::COUNT;
 use crate::pages::prints_of;
-use tests_folder::{Folder, TWO, only_prints, run_on, with_repeated};
+use memory_folder::{Folder, TWO, only_prints, run_on, with_repeated};
 
 /// Words on a class that counts in the key `n`, and what they print.
 static COUNTED: [(&[&str], &str); 3] = [
@@ -225,7 +225,7 @@ fn an_object_is_within_its_limits(rt: HostRuntime) {
     assert!(rt; only_prints(&rt, &words, TWO, b"", "object refused: 4 TooBig\n", 1));
 }
 
-/// What is printed of a call on the data that a file of that length holds.
+/// The lines of a call on the data that a file of that length holds.
 static FILES: [(usize, &str, u8); 2] = [
     (65_536, "code 0\noutput -\nsteps 2\nobject 65536 0 0\n", 0),
     (65_537, "object refused: 4 TooBig\n", 1),

@@ -1,10 +1,10 @@
 //! Raw code that is packed: what clang 14 makes of the classes in examples/c, and what is refused.
 
+use memory_folder::{Folder, Row, prints_on};
 use std::process::Abort;
 use std::sync::Wait;
 use std::thread::Threads;
 use std::time::Clock;
-use tests_folder::{Folder, Row, prints_on};
 
 /// counter.c: its number is in the xattr `count`.
 const INC: &str =
@@ -150,7 +150,7 @@ static PACKED: [Packed; 11] = [
     },
 ];
 
-/// What isn't packed: the file of raw code is `image`, and `text` is empty.
+/// Words that `pack` refuses: the file of raw code is `image`, and `text` is empty.
 static REFUSED: [Row; 10] = [
     Row {
         words: &["pack", "out", "f:r:0:0:other"],
@@ -239,7 +239,7 @@ fn folder_with<R: Abort + AllocGlobal + Threads + Wait + Clock + Sync>(
     folder
 }
 
-/// What a row prints of the image.
+/// Checks that a row's words print of the packed image what the row says, and write no other file.
 fn prints_packed<R: Abort + AllocGlobal + Threads + Wait + Clock + Sync>(rt: &R, row: &Packed) {
     let mut folder = folder_with(rt, row);
     assert!(rt;

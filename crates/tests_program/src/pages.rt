@@ -1,11 +1,11 @@
-//! What the pages for users show: texts that are refused and how, verdicts, and the five patterns
-//! of examples/patterns.txt.
+//! The pages for users: texts that are refused and how, verdicts, and the five patterns of
+//! examples/patterns.txt.
 
+use memory_folder::{Folder, only_prints, prints_on};
 use std::process::Abort;
 use std::sync::Wait;
 use std::thread::Threads;
 use std::time::Clock;
-use tests_folder::{Folder, only_prints, prints_on};
 
 /// Texts as people write them, and the line that refuses each.
 static WRITTEN: [(&str, &str); 15] = [
@@ -162,7 +162,7 @@ pub fn assembled<R: Abort + AllocGlobal + Threads + Wait + Clock + Sync>(
     folder
 }
 
-/// What those words print of the class of a text.
+/// The lines that those words print of the class of a text.
 pub fn prints_of<R: Abort + AllocGlobal + Threads + Wait + Clock + Sync>(
     rt: &R,
     text: &str,

@@ -1,6 +1,6 @@
-//! What `verify` prints of ranges of numbers, and of pointers on the stack in both rule sets.
+//! `verify` on ranges of numbers, and on pointers on the stack in both rule sets.
 
-use tests_folder::Row;
+use memory_folder::Row;
 
 /// Classes of one method whose accesses are in bounds, or aren't, by what is known of a number.
 static RANGES: [Row; 13] = [

@@ -1,6 +1,6 @@
 //! Files that are no images, and classes that aren't safe: what `verify` prints of each refusal.
 
-use tests_folder::Row;
+use memory_folder::Row;
 
 /// Bytes that are no image, by the numbers of their refusals.
 static IMAGES: [Row; 9] = [

@@ -2,7 +2,7 @@
 
 use crate::examples::COUNT;
 use crate::pages::assembled;
-use tests_folder::{Folder, TWO, only_prints, prints_on};
+use memory_folder::{Folder, TWO, only_prints, prints_on};
 
 /// Texts of objects, and what a call that changes nothing shows of them.
 static LOADED: [(&str, &str); 7] = [

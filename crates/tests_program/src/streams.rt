@@ -1,11 +1,11 @@
 use class_tool::Printer;
+use memory_folder::{Folder, TWO, run_on};
 use radoscls_program::program;
 use std::io::{self, ErrorKind, Write};
 use std::process::Abort;
 use std::sync::Wait;
 use std::thread::Threads;
 use std::time::Clock;
-use tests_folder::{Folder, TWO, run_on};
 
 /// Words that ask for nothing that the program does, or for help.
 static USAGES: [&[&str]; 54] = [
@@ -90,7 +90,7 @@ static USAGES: [&[&str]; 54] = [
     ],
 ];
 
-/// Whether the program prints nothing of those words, explains its use, ends with 2, and writes no
+/// True if the program prints nothing of those words, explains its use, ends with 2, and writes no
 /// file.
 fn explains<R: Abort + AllocGlobal + Threads + Wait + Clock + Sync>(
     rt: &R,
@@ -261,7 +261,7 @@ static TOLD: [(&[&str], &str); 39] = [
     ),
 ];
 
-/// Whether that stands in a text.
+/// True if a text has that part.
 fn stands_in(text: &[u8], part: &str) -> bool {
     match str::from_utf8(text) {
         Ok(text) => text.contains(part),
@@ -269,7 +269,7 @@ fn stands_in(text: &[u8], part: &str) -> bool {
     }
 }
 
-/// Whether the program tells that of those words.
+/// True if the program tells that of those words.
 fn tells<R: Abort + AllocGlobal + Threads + Wait + Clock + Sync>(
     rt: &R,
     words: &[&str],
@@ -339,8 +339,8 @@ static EVENTS: [Row; 5] = [
     (SIM, 26, false, 1),
 ];
 
-/// Whether the program ends as a row tells on that text, where standard output is so limited, and
-/// standard output has failed where the status is 1.
+/// True if the program ends as a row tells on that text, with standard output so limited, and
+/// standard output has failed if the status is 1.
 fn ends_with<R: Abort + AllocGlobal + Threads + Wait + Clock + Sync>(
     rt: &R,
     text: &str,
@@ -350,7 +350,7 @@ fn ends_with<R: Abort + AllocGlobal + Threads + Wait + Clock + Sync>(
     let mut err = Limited { room: 0, flushes };
     let mut folder = Folder::of(rt.alloc(), TWO, text.as_bytes()).expect(rt, "memory");
     let mut out = Printer::new(Limited { room, flushes });
-    let status = program(rt.alloc(), rt, words, &mut folder, &mut out, &mut err);
+    let status = program(rt, words, &mut folder, &mut out, &mut err);
     status == want && out.has_failed() == (want == 1)
 }
 

@@ -1,8 +1,8 @@
+use memory_folder::{Folder, Row, TWO, bytes_of, only_prints, prints_on};
 use std::process::Abort;
 use std::sync::Wait;
 use std::thread::Threads;
 use std::time::Clock;
-use tests_folder::{Folder, Row, TWO, bytes_of, only_prints, prints_on};
 
 /// The text of the two instructions.
 const TWO_TEXT: &str = ".method f r 0 0\nmov r0, 0\nexit\n";
@@ -119,12 +119,12 @@ static FAILURES: [Row; 2] = [
     },
 ];
 
-/// Whether a folder was written to once, and a file of it holds an image, in hexadecimal.
+/// True if a folder was written to once, and a file of it holds an image, in hexadecimal.
 fn is_written<R: Abort + AllocGlobal>(rt: &R, folder: &Folder, file: &[u8], image: &str) -> bool {
     folder.writes == 1 && bytes_of(rt.alloc(), image).expect(rt, "digits").as_slice() == file
 }
 
-/// Whether the image of that text, in hexadecimal, is written to `out` once, and the text stays.
+/// True if the image of that text, in hexadecimal, is written to `out` once, and the text stays.
 fn assembles_to<R: Abort + AllocGlobal + Threads + Wait + Clock + Sync>(
     rt: &R,
     text: &str,

@@ -4,7 +4,7 @@ use std::alloc::Global;
 use std::process::Abort;
 use std::time::Instant;
 
-/// What a figure prints of three runs of 3, 1 and 3 milliseconds.
+/// A figure's text of three runs of 3, 1 and 3 milliseconds.
 static TEXTS: [(Mode, &str); 2] = [
     (Mode::Dry, "   1000"),
     (Mode::Timed, "   1000    1000.00 ns each"),

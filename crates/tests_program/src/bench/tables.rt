@@ -30,7 +30,7 @@ fn counts_of(name: &str) -> (usize, usize) {
     (0, 0)
 }
 
-/// Whether a method has as many instructions, and takes as many steps, also when it runs again.
+/// True if a method has as many instructions, and takes as many steps, also when it runs again.
 fn has_counts<R: Abort>(rt: &R, alloc: Global, workload: &Workload) -> bool {
     let (count, executed) = counts_of(workload.name);
     let ready = workload.ready(alloc).expect(rt, "a class");
@@ -124,7 +124,7 @@ ns/append behind   100     244.14
 ns/append behind 60000     244.14
 ";
 
-/// What is printed by that clock.
+/// The text that is printed by that clock.
 fn printed<R: Abort>(rt: &R, alloc: Global, mode: Mode, runs: usize) -> Vec<u8> {
     let mut out = Vec::new(alloc);
     report(alloc, &Ticks::new(), mode, runs, &WORKLOADS, &mut out).expect(rt, "a table");
@@ -137,7 +137,7 @@ fn the_timed_table(rt: HostRuntime) {
     assert!(rt; out.as_slice() == TIMED.as_bytes());
 }
 
-/// How the table without times begins.
+/// The beginning of the table without times.
 const DRY: &[u8] = b"method     slots  steps\ncall           4      4\nalu_100      100    100\n";
 
 #[test]

@@ -4,11 +4,11 @@ use Rattle.sim.proofs.drawing.take_line.Goals as goal
 
 pub returns-then-is_bad : goal.returns-then-is_bad
 returns-then-is_bad g c =
-    line_unnoted _ (map (λ (n : Bor (List ℕ)). n.now) c.args.names.now) c.args.text.now _ _ _ _ _ _
+    line_unnoted _ (map (λ (n : Bor (List ℕ)). n.now) c.args.setup.now.names.now) c.args.text.now _ _ _ _ _ _
     c.in_ok-line.ensures c.in_ok-taken.ensures (sym c.if-is_bad.true ∙ c.is_bad.ensures) refl
 
 pub returns : goal.returns
 returns g c =
-    line_noted _ (map (λ (n : Bor (List ℕ)). n.now) c.args.names.now) c.args.text.now _ _ _ _ _ _ _
+    line_noted _ (map (λ (n : Bor (List ℕ)). n.now) c.args.setup.now.names.now) c.args.text.now _ _ _ _ _ _ _
     c.in_ok-line.ensures c.in_ok-taken.ensures (sym c.if-is_bad.false ∙ c.is_bad.ensures) refl
-    (noted_by (map (λ (n : Bor (List ℕ)). n.now) c.args.names.now) c.args.text.now _ _ _ _ _ c.in_ok-line.ensures c.meant-meant.ensures c.in_ok-note.ensures)
+    (noted_by (map (λ (n : Bor (List ℕ)). n.now) c.args.setup.now.names.now) c.args.text.now _ _ _ _ _ c.in_ok-line.ensures c.meant-meant.ensures c.in_ok-note.ensures)

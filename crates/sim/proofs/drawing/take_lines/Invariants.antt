@@ -9,5 +9,5 @@ invariant-loop-line g l =
     let text : Bor (List ℕ) → List ℕ = λ t. t.now in
     record {
       number : l.number ≡ l.line-index;
-      going : Coursing g.C.Classes.classes (map text l.names) l.lines l.line-index l.number l.initial.world l.world (map noted_as l.initial.steps.items) (map noted_as l.steps.items);
+      going : Coursing g.C.Classes.classes (map text l.setup.names.now) l.lines l.line-index l.number l.initial.world l.world (map noted_as l.initial.steps.items) (map noted_as l.steps.items);
     }

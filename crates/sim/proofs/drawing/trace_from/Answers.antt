@@ -9,7 +9,7 @@ use Rattle.sim.proofs.drawing.trace_from.Goals as goal
 pub returns : goal.returns
 returns g c =
     let classes = g.C.Classes.classes in
-    let names = map (λ (n : Bor (List ℕ)). n.now) c.args.names.now in
+    let names = map (λ (n : Bor (List ℕ)). n.now) c.args.setup.now.names.now in
     let lines = map (λ (l : Bor (List ℕ)). l.now) c.args.lines.now in
     let first = c.args.world.now in
     let new = c.take_lines.new.world in

@@ -1,21 +1,21 @@
-//! Runs `radoscls` on the files, words and streams of the system, in a folder of its own: what no
-//! contract can say of them. Each line tells what was seen.
-#![tactic(auto)]
+//! Runs `radoscls` on the files, words and streams of the system, in a folder of its own: no
+//! contract can say what they do. Each line tells what was seen.
 
+use anyhow::Result;
 use class_tool::{Files, Printer, Reads, SystemFiles};
 use radoscls_program::{program, start};
 use std::alloc::Global;
 use std::io::{self, Input};
 use std::process::ExitCode;
-use std::rt::Files as Granted;
+use std::rt::{Env, Files as Granted};
 use std::sync::Wait;
 use std::thread::Threads;
 use std::time::Clock;
 
-/// How many bytes the long file has.
+/// The length of the long file, in bytes.
 const LONG: usize = 5_000;
 
-/// How many bytes of a file's beginning are asked for: of the long file all but one.
+/// The length of a file's beginning that is asked for, in bytes: all but one of the long file.
 const MOST: usize = 4_999;
 
 /// Words after the program's name.
@@ -130,7 +130,7 @@ fn call<R: Granted + AllocGlobal + Input + Threads + Wait + Clock + Sync, O: io:
     let mut files = SystemFiles::new(rt);
     let mut err = Vec::new(rt.alloc());
     let mut printer = Printer::new(out);
-    let status = program(rt.alloc(), rt, words, &mut files, &mut printer, &mut err);
+    let status = program(rt, words, &mut files, &mut printer, &mut err);
     (status, !err.is_empty())
 }
 
@@ -146,11 +146,14 @@ fn tell_of_calls<
     Ok(())
 }
 
-fn main(rt: HostRuntime) -> ExitCode {
-    let mut out = rt.stdout();
-    if tell_of_files(&rt).is_err() || tell_of_calls(&rt, &mut out).is_err() {
-        return ExitCode::from(3);
-    }
-    // The words that the process was started with: a refused call.
-    start(&rt, &mut Printer::new(out), &mut rt.stderr())
+/// Runs `radoscls` on files and words, and at last on the words of this process: the gate's are a
+/// refused call, so that its status shows that `start` passes a refusal on.
+pub fn tell_of_system<
+    R: Env + Granted + AllocGlobal + Input + Print + Threads + Wait + Clock + Sync,
+    O: io::Write,
+    E: io::Write,
+>(rt: &R, out: &mut O, err: &mut E) -> Result<ExitCode> {
+    tell_of_files(rt)?;
+    tell_of_calls(rt, out)?;
+    Ok(start(rt, &mut Printer::new(out), err))
 }

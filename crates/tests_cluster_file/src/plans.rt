@@ -1,4 +1,4 @@
-//! What a file says.
+//! The plan of a file.
 
 use cluster_file::{Call, Plan, Reading, Step, read_plan};
 use std::process::Abort;
@@ -79,7 +79,7 @@ fn malformed_first_lines(rt: HostRuntime) {
     }
 }
 
-/// Whether a call is that one.
+/// True if a call is that one.
 fn is_call(
     call: &Call,
     client: u32,
@@ -95,7 +95,7 @@ fn is_call(
         && call.input() == input
 }
 
-/// Whether these steps are a call of an unknown class, a map without a node, a map of two, and a
+/// True if these steps are a call of an unknown class, a map without a node, a map of two, and a
 /// call with input.
 fn are_right(steps: &[Step]) -> bool {
     match steps {
@@ -116,7 +116,7 @@ fn are_right(steps: &[Step]) -> bool {
     }
 }
 
-/// Whether the first line's numbers are there, the clients are counted, and the steps are right.
+/// True if the first line's numbers are there, the clients are counted, and the steps are right.
 fn is_right(plan: &Plan) -> bool {
     let numbers = plan.numbers();
     numbers.nodes == 3

@@ -1,4 +1,4 @@
-//! What is printed.
+//! The printed lines.
 
 use cluster_file::{
     Reading, Step, bad_line, push_asked, push_head, push_refused, push_replied, read_plan,
@@ -22,7 +22,7 @@ fn lines(rt: HostRuntime) -> Result<(), Fail> {
     Ok(())
 }
 
-/// What the calls of a file asked, in a cluster of 64 groups.
+/// The requests of a file's calls, in a cluster of 64 groups.
 fn asked<R: Abort + AllocGlobal>(rt: &R, file: &str) -> String {
     let mut text = String::new(rt.alloc());
     let reading = read_plan(rt.alloc(), &["lock"], file).expect(rt, "memory");

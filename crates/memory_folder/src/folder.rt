@@ -14,11 +14,11 @@ pub struct Folder {
     image: Vec<u8>,
     pub text: Vec<u8>,
     pub out: Vec<u8>,
-    /// How often a file was written.
+    /// The number of writes of files.
     pub writes: usize,
-    /// Whether a write failed.
+    /// True if a write failed.
     pub has_failed: bool,
-    /// How many bytes of an image were asked for last.
+    /// The number of bytes of an image that were asked for last.
     pub most_read: Cell<usize>,
 }
 

@@ -6,7 +6,7 @@ use std::sync::Wait;
 use std::thread::Threads;
 use std::time::Clock;
 
-/// How a run ended: its status, and what it wrote to standard output and to standard error.
+/// The end of a run: its status, and what it wrote to standard output and to standard error.
 #[derive(Drop)]
 pub struct Ended {
     pub status: u8,
@@ -15,14 +15,14 @@ pub struct Ended {
 }
 
 impl Ended {
-    /// Whether that was printed, nothing was explained, and the status is that.
+    /// True if that was printed, nothing was explained, and the status is that.
     fn shows(&self, printed: &str, status: u8) -> bool {
         self.status == status
             && self.printed.as_slice() == printed.as_bytes()
             && self.explained.is_empty()
     }
 
-    /// Whether nothing was printed, the use was explained, and the status is 2.
+    /// True if nothing was printed, the use was explained, and the status is 2.
     pub fn explains(&self) -> bool {
         self.status == 2 && self.printed.is_empty() && !self.explained.is_empty()
     }
@@ -45,14 +45,7 @@ pub fn run_on<R: AllocGlobal + Threads + Wait + Clock + Sync>(
     let mut printed = Vec::new(rt.alloc());
     let mut explained = Vec::new(rt.alloc());
     let mut out = Printer::new(&mut printed);
-    let status = program(
-        rt.alloc(),
-        rt,
-        line.as_slice(),
-        folder,
-        &mut out,
-        &mut explained,
-    );
+    let status = program(rt, line.as_slice(), folder, &mut out, &mut explained);
     Some(Ended {
         status,
         printed,
@@ -60,7 +53,7 @@ pub fn run_on<R: AllocGlobal + Threads + Wait + Clock + Sync>(
     })
 }
 
-/// Whether the program on those words and that folder prints that, explains nothing, and ends with
+/// True if the program on those words and that folder prints that, explains nothing, and ends with
 /// that status.
 pub fn prints_on<R: AllocGlobal + Threads + Wait + Clock + Sync>(
     rt: &R,
@@ -102,7 +95,7 @@ pub struct Row {
 }
 
 impl Row {
-    /// Whether it prints what it should, ends so, and writes no file.
+    /// True if it prints what it should, ends so, and writes no file.
     pub fn holds<R: AllocGlobal + Threads + Wait + Clock + Sync>(&self, rt: &R) -> bool {
         let text = self.text.as_bytes();
         only_prints(rt, self.words, self.image, text, self.printed, self.status)
