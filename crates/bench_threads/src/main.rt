@@ -15,7 +15,7 @@ mod queues;
 mod turns;
 
 use crate::failover::{ROWS, failover, row_of};
-use crate::part::{PARTS, measured};
+use crate::part::report;
 use anyhow::{Context, Error, Result};
 use bench_table::Mode;
 use std::alloc::Global;
@@ -34,10 +34,7 @@ fn main(rt: HostRuntime) -> Result<()> {
         return row(&rt, rt.alloc(), number);
     }
     let mode = Mode::of(&words).context(USAGE)?;
-    for (name, part) in PARTS {
-        let figure = measured(&rt, rt.alloc(), mode, part)?;
-        println!(&rt; "{name:<42}{figure}")?;
-    }
+    report(&rt, rt.alloc(), mode)?;
     match mode {
         Mode::Dry => parts(&rt, rt.alloc()),
         Mode::Timed => Ok(()),

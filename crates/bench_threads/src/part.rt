@@ -12,7 +12,7 @@ use std::time::Clock;
 
 /// A part of a message, measured by itself.
 #[derive(Clone, Copy)]
-pub enum Part {
+enum Part {
     /// A submit and a take of one thread.
     OneThread,
     /// The same of two threads that submit and two that take.
@@ -29,7 +29,7 @@ pub enum Part {
 
 /// Each part with its name.
 #[rattlefmt::skip]
-pub const PARTS: [(&str, Part); 10] = [
+const PARTS: [(&str, Part); 10] = [
     ("submit and take, one thread", Part::OneThread),
     ("submit and take, four threads", Part::FourThreads),
     ("commit", Part::Commit),
@@ -42,8 +42,21 @@ pub const PARTS: [(&str, Part); 10] = [
     ("turns of a call, 3 replicas", Part::Turns(3)),
 ];
 
+/// Prints a line for each part.
+pub fn report<R: Threads + Wait + Clock + Print + Sync>(
+    rt: &R,
+    alloc: Global,
+    mode: Mode,
+) -> Result<()> {
+    for (name, part) in PARTS {
+        let figure = measured(rt, alloc, mode, part)?;
+        println!(rt; "{name:<42}{figure}")?;
+    }
+    Ok(())
+}
+
 /// The figure of a part's runs.
-pub fn measured<R: Threads + Wait + Clock + Sync>(
+fn measured<R: Threads + Wait + Clock + Sync>(
     rt: &R,
     alloc: Global,
     mode: Mode,
