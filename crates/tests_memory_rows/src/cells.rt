@@ -1,8 +1,6 @@
 //! The row of a worker's turn, NoMemory: the event never came, or all that goes out is lost, or one
 //! message is; `resend` gives what was lost.
-ghost use Rattle.std.specs.Prelude.{◌≡◌, [], map};
-ghost use Rattle.std.specs.List.{range_with_len};
-ghost use Rattle.commit_board.specs.Tokens.{new_writer};
+ghost use Rattle.std.specs.Prelude.{◌≡◌, []};
 
 use builtin_classes::LOCK;
 use carried::Carried;
