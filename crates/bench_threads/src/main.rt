@@ -1,6 +1,7 @@
 //! `bench_threads` measures the parts of a message in a cluster in threads: a pair of `submit` and
 //! `take` of the queues, with one thread and with four, a `commit` and a `look` of the board, a
-//! lock, a wake, a client's steps to ask and to look for the answer, and the nodes' turns of a call.
+//! lock, a wake, a client's steps to ask and to look for the answer, and the nodes' turns of a
+//! call.
 //! With `failover` and a row's number, from 1, it measures that failover alone; with `--dry` it
 //! plays a part of the calls of each of these rows, a tenth at most, and leaves all times out.
 //! tools/cluster_bench.py measures calls on whole clusters.

@@ -29,8 +29,8 @@ impl Delivery {
         Delivery { place: 0, event }
     }
 
-    /// A packet on its way. One for the monitor asks it to activate the one interval, which it does;
-    /// one for a client isn't delivered.
+    /// A packet on its way. One for the monitor asks it to activate the one interval, which it
+    /// does; one for a client isn't delivered.
     pub fn of(packet: Packet) -> Option<Delivery> {
         let Packet { receiver, message } = packet;
         match receiver {

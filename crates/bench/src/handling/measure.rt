@@ -18,8 +18,8 @@ const REQUESTS: u32 = 1_000;
 /// The runs; the least times count.
 const RUNS: usize = 20;
 
-/// The nanoseconds of a run's parts: all its requests at the primary, all Reps at their replicas, and
-/// all Acks at the primary.
+/// The nanoseconds of a run's parts: all its requests at the primary, all Reps at their replicas,
+/// and all Acks at the primary.
 #[derive(Clone, Copy)]
 struct Nanos {
     request: u128,

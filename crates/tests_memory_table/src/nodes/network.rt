@@ -34,8 +34,8 @@ pub struct Network<C: Classes> {
     refused: Option<NodeCall>,
 }
 
-/// The messages of a call, which was made again if it was refused. None if it changed its node then,
-/// or is refused otherwise.
+/// The messages of a call, which was made again if it was refused. None if it changed its node
+/// then, or is refused otherwise.
 #[derive(Drop)]
 struct Made {
     sent: Option<Messages>,
