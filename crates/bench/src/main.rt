@@ -1,9 +1,9 @@
 //! `bench` measures, a table each: an instruction of `call`, a call on an object, a slot of
-//! `verify` and an `append` of a group, over methods of its own; the assembly of a text of many labels; a
-//! change of a small object, and the same change of a large one; calls that only read their object,
-//! with none and with one of full size; the adoption of another list by a log, and a replay of that
-//! list; and a request at the nodes of a group of three. With `--dry` it leaves the times out. With
-//! `memory` it prints alone the memory of the entries of a full log.
+//! `verify` and an `append` of a group, over methods of its own; the assembly of a text of many
+//! labels; a change of a small object, and the same change of a large one; calls that only read
+//! their object, with none and with one of full size; the adoption of another list by a log, and a
+//! replay of that list; and a request at the nodes of a group of three. With `--dry` it leaves the
+//! times out. With `memory` it prints alone the memory of the entries of a full log.
 #![tactic(auto)]
 
 mod handling;
