@@ -1,22 +1,22 @@
-//! What a request costs the nodes of a group of three, beside the network and threads: its primary,
-//! each of the two that replicate it, and the primary again at each acknowledgement.
+//! The cost of a request at the nodes of a group of three, without network and threads: at its
+//! primary, at each of the two that replicate it, and at the primary again at each acknowledgement.
 
 mod asked;
 mod group;
 mod measure;
 
-use anyhow::{Error, Result};
+use anyhow::Result;
 use asked::Asked;
 use measure::measured;
 use std::alloc::Global;
 use std::io;
 use std::time::Clock;
 
-/// What clients ask.
+/// The requests of clients.
 const ASKED: [Asked; 2] = [Asked::Lock, Asked::Read];
 
 /// Prints an empty line, a heading, and a line for each request: how many messages it takes and,
-/// where there is a clock, the nanoseconds of each part and of all.
+/// if there is a clock, the nanoseconds of each part and of all.
 pub fn report<C: Clock, O: io::Write>(alloc: Global, clock: Option<&C>, out: &mut O) -> Result<()> {
     let heading = if clock.is_some() {
         "  request    Rep    Ack    all, ns"
@@ -25,19 +25,9 @@ pub fn report<C: Clock, O: io::Write>(alloc: Global, clock: Option<&C>, out: &mu
     };
     writeln!(out, "\nhandle    messages{heading}")?;
     for asked in &ASKED {
-        line(alloc, clock, *asked, out)?;
+        let parts = measured(alloc, clock, *asked)?;
+        let name = asked.name();
+        writeln!(out, "{name:<9} {parts}")?;
     }
     Ok(())
-}
-
-/// Prints a line.
-fn line<C: Clock, O: io::Write>(
-    alloc: Global,
-    clock: Option<&C>,
-    asked: Asked,
-    out: &mut O,
-) -> Result<()> {
-    let name = asked.name();
-    let parts = measured(alloc, clock, asked)?;
-    writeln!(out, "{name:<9} {parts}").map_err(Error::from)
 }

@@ -1,10 +1,9 @@
-//! `bench` measures, a table each: an instruction of `call`, a call beside an object, a slot of
-//! `verify` and an `append` of a group, over methods of its own; what a text of many labels costs
-//! to assemble; what a change of a small object costs, beside the same change of a large one; calls
-//! that only read their object, beside none and beside one of full size; a log that becomes another
-//! list, beside a replay of that list; and a request at the nodes of a group of three. With `--dry`
-//! it leaves the times out. With `memory` it prints alone what the entries of a full log hold in
-//! memory.
+//! `bench` measures, a table each: an instruction of `call`, a call on an object, a slot of
+//! `verify` and an `append` of a group, over methods of its own; the assembly of a text of many
+//! labels; a change of a small object, and the same change of a large one; calls that only read
+//! their object, with none and with one of full size; the adoption of another list by a log, and a
+//! replay of that list; and a request at the nodes of a group of three. With `--dry` it leaves the
+//! times out. With `memory` it prints alone the memory of the entries of a full log.
 #![tactic(auto)]
 
 mod handling;
@@ -32,7 +31,7 @@ fn main(rt: HostRuntime) -> Result<()> {
     parts(rt.alloc(), &rt, mode, &mut out)
 }
 
-/// Whether a command line asks for memory alone.
+/// True if a command line asks for memory alone.
 fn asks_for_memory(words: &[String]) -> bool {
     match words {
         [_, word] => word.as_str() == "memory",
@@ -40,7 +39,7 @@ fn asks_for_memory(words: &[String]) -> bool {
     }
 }
 
-/// Prints the tables of parts, an empty line before each, with times where they are taken.
+/// Prints the tables of parts, an empty line before each, with times if they are taken.
 fn parts<C: Clock, O: io::Write>(alloc: Global, clock: &C, mode: Mode, out: &mut O) -> Result<()> {
     let clock = match mode {
         Mode::Dry => None,

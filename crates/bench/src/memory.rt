@@ -1,5 +1,5 @@
-//! What a log's entries hold in memory, with the objects that they make: what is resident at most,
-//! less what an empty program is, by what the system says of this process.
+//! The memory of a log's entries, with the objects that they make: the most that is resident, less
+//! that of an empty program, as the system tells it of this process.
 use anyhow::{Context, Error, Result};
 use bench_table::lock_request;
 use builtin_classes::load_lock;
@@ -13,7 +13,7 @@ const REQUESTS: u32 = 65_536;
 /// The objects that are locked and unlocked, one after another.
 const OBJECTS: u32 = 1_000;
 
-/// Where the system says what this process holds.
+/// The file of the system that tells what this process holds.
 const STATUS: &str = "/proc/self/status";
 
 /// The word before the most that was resident, in KiB.

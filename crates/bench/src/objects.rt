@@ -1,14 +1,14 @@
-//! What a change of a small object costs, beside the same change of a large one.
+//! The cost of a change of a small object, and of the same change of a large one.
 
 mod measure;
 
-use anyhow::{Error, Result};
+use anyhow::Result;
 use measure::{Subject, time};
 use std::alloc::Global;
 use std::io;
 use std::time::Clock;
 
-/// What is measured, and what the table calls it.
+/// The subjects that are measured, with their names in the table.
 const SUBJECTS: [(Subject, &str); 7] = [
     (Subject::Copy, "copy of the largest object"),
     (Subject::Write { len: 1024 }, "write a byte in 1 KiB"),
@@ -19,23 +19,12 @@ const SUBJECTS: [(Subject, &str); 7] = [
     (Subject::Read { len: 65_536 }, "read 64 bytes of 64 KiB"),
 ];
 
-/// Prints an empty line, and a line for each subject, with its time where there is a clock.
+/// Prints an empty line, and a line for each subject, with its time if there is a clock.
 pub fn report<C: Clock, O: io::Write>(alloc: Global, clock: Option<&C>, out: &mut O) -> Result<()> {
     writeln!(out)?;
     for (subject, name) in &SUBJECTS {
-        line(alloc, clock, *subject, name, out)?;
+        let time = time(alloc, clock, *subject)?;
+        writeln!(out, "{name:<28}{time}")?;
     }
     Ok(())
-}
-
-/// Prints a line.
-fn line<C: Clock, O: io::Write>(
-    alloc: Global,
-    clock: Option<&C>,
-    subject: Subject,
-    name: &str,
-    out: &mut O,
-) -> Result<()> {
-    let time = time(alloc, clock, subject)?;
-    writeln!(out, "{name:<28}{time}").map_err(Error::from)
 }

@@ -1,10 +1,10 @@
-//! Calls that only read their object, beside none and beside one of full size.
+//! Calls that only read their object, with none and with one of full size.
 
 mod measure;
 mod subject;
 
 use crate::timing::{Time, least_of};
-use anyhow::{Error, Result};
+use anyhow::Result;
 use measure::{CALLS, RUNS, Reads};
 use object_store::Object;
 use std::alloc::Global;
@@ -12,7 +12,7 @@ use std::io;
 use std::time::Clock;
 use subject::{Reading, full_object};
 
-/// The calls, and whether each has an object beside it.
+/// The calls, and true for those that have an object.
 const LINES: [(Reading, bool); 4] = [
     (Reading::Stat, false),
     (Reading::Stat, true),
@@ -20,8 +20,8 @@ const LINES: [(Reading, bool); 4] = [
     (Reading::MapGet, true),
 ];
 
-/// Prints an empty line, and a line for each call beside each object, with its time where there is
-/// a clock.
+/// Prints an empty line, and a line for each call with each object, with its time if there is a
+/// clock.
 pub fn report<C: Clock, O: io::Write>(alloc: Global, clock: Option<&C>, out: &mut O) -> Result<()> {
     let full = full_object(alloc)?;
     lines(alloc, clock, &full, out)
@@ -36,25 +36,20 @@ fn lines<C: Clock, O: io::Write>(
 ) -> Result<()> {
     let heading = if clock.is_some() { "  ns" } else { "" };
     writeln!(out, "\ncall      object  answer{heading}")?;
-    for (reading, beside) in &LINES {
-        let object = if *beside { Some(full) } else { None };
-        line(alloc, clock, *reading, object, out)?;
+    for (reading, has_object) in &LINES {
+        let (object, word) = if *has_object {
+            (Some(full), "full")
+        } else {
+            (None, "none")
+        };
+        let answer = reading.call(object)?.cast_signed();
+        let reads = Reads {
+            reading: *reading,
+            object,
+        };
+        let time = Time::Nanos(least_of(alloc, clock, &reads, CALLS, RUNS)?);
+        let name = reading.name();
+        writeln!(out, "{name:<9} {word:<6} {answer:>7}{time}")?;
     }
     Ok(())
-}
-
-/// Prints a line.
-fn line<C: Clock, O: io::Write>(
-    alloc: Global,
-    clock: Option<&C>,
-    reading: Reading,
-    object: Option<&Object>,
-    out: &mut O,
-) -> Result<()> {
-    let name = reading.name();
-    let beside = if object.is_some() { "full" } else { "none" };
-    let answer = reading.call(object)?.cast_signed();
-    let reads = Reads { reading, object };
-    let time = Time::Nanos(least_of(alloc, clock, &reads, CALLS, RUNS)?);
-    writeln!(out, "{name:<9} {beside:<6} {answer:>7}{time}").map_err(Error::from)
 }

@@ -1,4 +1,4 @@
-//! What a text of many labels costs to assemble.
+//! The cost of a text of many labels, which is assembled.
 
 use crate::timing::{Time, least_of};
 use anyhow::{Error, Result};
@@ -8,17 +8,16 @@ use std::alloc::{AllocError, Global};
 use std::io;
 use std::time::Clock;
 
-/// How many labels stand after the jumps.
+/// The numbers of labels after the jumps.
 const LABELS: [u32; 3] = [4095, 20_000, 80_000];
 
-/// How many jumps each text has, each to a label of its own.
+/// The jumps of a text, each to a label of its own.
 const JUMPS: u32 = 4095;
 
-/// How often each text is assembled, of which the least time counts.
+/// The times that a text is assembled; the least time counts.
 const RUNS: usize = 5;
 
-/// Prints an empty line, and a line for each number of labels, with its time where there is a
-/// clock.
+/// Prints an empty line, and a line for each number of labels, with its time if there is a clock.
 pub fn report<C: Clock, O: io::Write>(alloc: Global, clock: Option<&C>, out: &mut O) -> Result<()> {
     writeln!(out)?;
     for labels in &LABELS {

@@ -6,7 +6,7 @@ use std::alloc::Global;
 use std::fmt;
 use std::time::{Clock, Instant};
 
-/// What stands after a line: a time of that many picoseconds, where one was taken.
+/// The end of a line: a time of that many picoseconds, if one was taken.
 #[derive(Clone, Copy)]
 pub enum Time {
     /// Prints as microseconds.
@@ -37,7 +37,7 @@ impl fmt::Display for Time {
     }
 }
 
-/// The least picoseconds that each of that many took, of that many runs, where there is a clock.
+/// The least picoseconds that each of `count` took, of that many runs, if there is a clock.
 pub fn least_of<C: Clock, W: Work>(
     alloc: Global,
     clock: Option<&C>,
@@ -53,7 +53,7 @@ pub fn least_of<C: Clock, W: Work>(
     }
 }
 
-/// What the clock reads, where there is one.
+/// The time that the clock shows, if there is one.
 pub fn now<C: Clock>(clock: Option<&C>) -> Result<Option<Instant>> {
     match clock {
         None => Ok(None),
@@ -61,7 +61,7 @@ pub fn now<C: Clock>(clock: Option<&C>) -> Result<Option<Instant>> {
     }
 }
 
-/// The nanoseconds since then; 0 where there is no clock.
+/// The nanoseconds since then; 0 if there is no clock.
 pub fn nanos_since<C: Clock>(clock: Option<&C>, start: Option<Instant>) -> Result<u128> {
     match (clock, start) {
         (Some(clock), Some(start)) => Ok(start.elapsed(clock)?.as_nanos()),

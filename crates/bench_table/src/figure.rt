@@ -6,7 +6,7 @@ use anyhow::Result;
 use std::fmt;
 use std::time::{Clock, Instant};
 
-/// How many there were, and the least picoseconds that one of them took, if times are taken.
+/// The number of them, and the least picoseconds that one of them took, if times are taken.
 #[derive(Clone, Copy)]
 pub struct Figure {
     pub mode: Mode,
@@ -28,7 +28,7 @@ impl Figure {
         }
     }
 
-    /// Notes a run that began at `start`. The least time stands.
+    /// Notes a run that began at `start`, and keeps the least time.
     pub fn note<C: Clock>(&mut self, clock: &C, start: Instant, count: usize) -> Result<()>
         ensures mode { self.new.mode ≡ self.old.mode }
         ensures count { OnOk result (self.new.count ≡ count) }

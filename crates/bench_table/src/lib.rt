@@ -1,5 +1,5 @@
-//! What `bench` and `bench_threads` measure and print: the methods and the calls beside objects of
-//! the one, with the table of what they take, and the figures of the other. What is printed is
+//! The measurements of `bench` and `bench_threads`, and their text: the methods of the one and its
+//! calls on objects, with the table of their times, and the figures of the other. The text is
 //! stated, and each time is the least of its runs.
 #![tactic(auto)]
 

@@ -15,20 +15,19 @@ use std::alloc::Global;
 use std::time::{Clock, Instant};
 use verifier::{VerifiedClass, verify};
 
-/// How often each time is taken for the table, of which the least counts.
+/// The times that are taken of each for the table; the least counts.
 pub const RUNS: usize = 50;
 
-/// How many instructions or slots a measurement has, about.
+/// The instructions or slots of a measurement, about.
 const UNITS: usize = 100_000;
 
-/// The calls of a measurement beside an object.
+/// The calls of a measurement on an object.
 const CALLS: usize = 1_000;
 
 /// The requests of a measurement of `append`.
 const REQUESTS: u32 = 4_096;
 
-/// The picoseconds that each of `count` took, where all took that many nanoseconds; at most 2^64 -
-/// 1.
+/// The picoseconds that each of `count` took, if all took that many nanoseconds; at most 2^64 - 1.
 pub fn picos_each(nanos: u128, count: usize) -> u64
     requires { 1 ≤ count }
     ensures { result ≡ picos_each nanos count }
@@ -60,13 +59,13 @@ impl Least {
     }
 }
 
-/// What is timed.
+/// A thing that is timed.
 pub trait Work {
-    /// Does it so often.
+    /// Does it that many times.
     fn run(&self, alloc: Global, count: usize) -> Result<()>;
 }
 
-/// A call of the class's method `f`, found before, in one room, beside no object.
+/// A call of the class's method `f`, found before, in one room, without an object.
 impl Work for VerifiedClass {
     fn run(&self, alloc: Global, count: usize) -> Result<()> {
         let method = self.method("f").context("a method")?;
@@ -88,7 +87,7 @@ impl Work for ClassImage {
     }
 }
 
-/// A call beside the object, in one room.
+/// A call on the object, in one room.
 impl Work for Beside {
     fn run(&self, alloc: Global, count: usize) -> Result<()> {
         let mut room = Room::new(alloc);
@@ -124,7 +123,7 @@ pub fn time_call<C: Clock>(alloc: Global, clock: &C, ready: &Ready, runs: usize)
     least_picos(alloc, clock, &ready.class, calls, runs)
 }
 
-/// The least picoseconds that a call beside an object took, of that many runs.
+/// The least picoseconds that a call on an object took, of that many runs.
 pub fn time_beside<C: Clock>(
     alloc: Global,
     clock: &C,
@@ -165,7 +164,7 @@ pub fn time_append<C: Clock>(
     Ok(least.picos)
 }
 
-/// So many requests for the method `f` of a class, numbered from 1 on, the last first.
+/// That many requests for the method `f` of a class, numbered from 1 on, the last first.
 fn requests(alloc: Global, class: usize, count: u32) -> Result<Vec<Request>> {
     let client = ClientId::new(1).context("a client")?;
     let mut requests = Vec::new(alloc);

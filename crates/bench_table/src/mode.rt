@@ -1,7 +1,7 @@
 ghost use Rattle.std.specs.Prelude.{◌≡◌, map, string_bytes};
 ghost use Rattle.bench_table.specs.Mode.{mode_of, runs_of};
 
-/// What is measured, and printed.
+/// A choice of the measurements, and so of the text.
 #[derive(Clone, Copy, PartialEq, Eq)]
 pub enum Mode {
     /// Steps or counts alone, which are the same on every machine: each measurement runs once.
@@ -11,8 +11,8 @@ pub enum Mode {
 }
 
 impl Mode {
-    /// The mode that the words of a command line ask for, of which the first is the program's own
-    /// name: none more for `Timed`, `--dry` for `Dry`.
+    /// The mode that the words of a command line ask for, after the program's own name: no word for
+    /// `Timed`, `--dry` for `Dry`.
     pub fn of(words: &[String]) -> Option<Mode>
         ensures { result ≡ mode_of (map string_bytes words.now) }
     {
@@ -22,7 +22,8 @@ impl Mode {
             _ => None,
         }
     }
-    /// How often a figure's measurement runs.
+
+    /// The runs of a figure's measurement.
     pub fn runs(self) -> usize
         ensures { result ≡ runs_of self }
     {

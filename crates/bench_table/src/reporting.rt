@@ -13,8 +13,8 @@ use std::alloc::Global;
 use std::io;
 use std::time::Clock;
 
-/// Prints the table: a line for each method and, where it is timed, one for each call beside an
-/// object, and one for `append` at each length, of the method of four steps. Each time is the least
+/// Prints the table: a line for each method and, if it is timed, one for each call on an object,
+/// and one for `append` at each length, of the method of four steps. Each time is the least
 /// of that many.
 pub fn report<C: Clock, O: io::Write>(
     alloc: Global,
@@ -93,7 +93,7 @@ fn line<C: Clock>(
     })
 }
 
-/// The times of a method, where they are taken.
+/// The times of a method, if they are taken.
 fn times<C: Clock>(
     alloc: Global,
     clock: &C,
@@ -121,7 +121,7 @@ fn times<C: Clock>(
     }
 }
 
-/// A line for each call beside an object, where times are taken.
+/// A line for each call on an object, if times are taken.
 fn calls<C: Clock>(alloc: Global, clock: &C, mode: Mode, runs: usize) -> Result<Vec<CallLine>>
     ensures { IfOk result (λ lines. map subject_of lines.items ≡ subjects_of mode) }
 {
@@ -152,7 +152,7 @@ fn timed_calls<C: Clock>(
     Ok(lines)
 }
 
-/// The times of `append`, where they are taken.
+/// The times of `append`, if they are taken.
 fn appends<C: Clock>(
     alloc: Global,
     clock: &C,

@@ -9,21 +9,21 @@ use object_store::{DATA_LIMIT, KEY_LIMIT, Object, StoreError, XATTR_LIMIT, calls
 use std::alloc::Global;
 use verifier::{VerifiedClass, verify};
 
-/// A call beside an object.
+/// A call on an object.
 #[derive(Clone, Copy, PartialEq, Eq)]
 pub enum Subject {
     /// A byte written to 1 KiB, and to 64 KiB.
     WriteShort,
     WriteLong,
-    /// A key of 8 bytes set beside one key, and beside 1,023 with values of 4,096 bytes.
+    /// A key of 8 bytes set next to one key, and next to 1,023 with values of 4,096 bytes.
     SetFew,
     SetMany,
-    /// Eight bytes read beside no object, and beside one at all limits.
+    /// Eight bytes read without an object, and of one at all limits.
     ReadNone,
     ReadFull,
 }
 
-/// The calls beside objects that are measured, in the table's order.
+/// The calls on objects that are measured, in the table's order.
 pub const SUBJECTS: [Subject; 6] = [
     Subject::WriteShort,
     Subject::WriteLong,
@@ -55,11 +55,11 @@ const READ: [u8; 56] = [
 /// A value of the most bytes.
 const VALUE: [u8; 4096] = [0x5a; 4096];
 
-/// What every call is given: the byte, or a key and its value.
+/// The input of every call: the byte, or a key and its value.
 const INPUT: [u8; 16] = *b"a key...a value.";
 
 impl Subject {
-    /// What the table calls it.
+    /// Its name in the table.
     pub fn text(self) -> &'static str
         ensures { result.now ≡ subject_text self }
     {
@@ -82,7 +82,7 @@ impl Subject {
         }
     }
 
-    /// The object that it is beside.
+    /// The object that it is called on.
     fn object(self, alloc: Global) -> Result<Option<Object>, StoreError> {
         match self {
             Subject::WriteShort => of_length(alloc, 1024).map(Some),
@@ -104,7 +104,7 @@ impl Subject {
     }
 }
 
-/// A class with a method `f`, and the object that it is called beside.
+/// A class with a method `f`, and the object that it is called on.
 #[derive(Drop)]
 pub struct Beside {
     class: VerifiedClass,

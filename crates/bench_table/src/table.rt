@@ -13,7 +13,7 @@ pub struct Nanos {
     pub picos: u64,
 }
 
-/// What a method takes: a call, a step of it, and a slot of `verify`.
+/// The times of a method: of a call, of a step of it, and of a slot of `verify`.
 #[derive(Clone, Copy)]
 pub struct Times {
     pub call: Nanos,
@@ -30,7 +30,7 @@ pub struct Line {
     pub times: Option<Times>,
 }
 
-/// What an `append` takes after that many entries.
+/// The time of an `append` after that many entries.
 #[derive(Clone, Copy)]
 pub struct AppendLine {
     pub behind: u32,
@@ -44,15 +44,15 @@ pub struct AppendLines {
     pub long: AppendLine,
 }
 
-/// What a call beside an object takes.
+/// The time of a call on an object.
 #[derive(Clone, Copy)]
 pub struct CallLine {
     pub subject: Subject,
     pub time: Nanos,
 }
 
-/// The table: a heading, a line for each method and, where times are taken, one for each call
-/// beside an object and two for `append`.
+/// The table: a heading, a line for each method and, if times are taken, one for each call on an
+/// object and two for `append`.
 #[derive(Drop)]
 pub struct Table {
     pub mode: Mode,

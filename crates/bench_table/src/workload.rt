@@ -14,7 +14,7 @@ type Slot = [u8; 8];
 /// object, and takes no input.
 #[derive(Drop)]
 pub struct Workload {
-    /// What the table calls it.
+    /// Its name in the table.
     pub name: &'static str,
     pub rules: RuleSet,
     pub head: [Slot; 3],
@@ -29,7 +29,7 @@ pub struct Ready {
     pub image: ClassImage,
     /// The same, verified.
     pub class: VerifiedClass,
-    /// Its instructions, each of which takes one slot.
+    /// Its instructions, of one slot each.
     pub instructions: usize,
     /// The instructions that a run executes.
     pub steps: usize,
@@ -127,8 +127,8 @@ const SPILLS: [Slot; 4] = [
     [0x79, 0xa5, 0xf0, 0xff, 0, 0, 0, 0],
 ];
 
-/// The methods that are measured, in the table's order. What the first takes is what a call costs
-/// beside its steps.
+/// The methods that are measured, in the table's order. The first one's time is the cost of a call
+/// without its steps.
 pub const WORKLOADS: [Workload; 11] = [
     Workload {
         name: "call",
@@ -262,7 +262,7 @@ pub fn class_of(
     Ok(ClassImage::new(methods, rules)?)
 }
 
-/// How many instructions the class's first method has.
+/// The number of instructions of the class's first method.
 fn instructions(class: &VerifiedClass) -> usize
     ensures { result ≡ first_length class.now }
 {
@@ -272,8 +272,8 @@ fn instructions(class: &VerifiedClass) -> usize
     }
 }
 
-/// How many instructions a run of the class's method `f` executes, beside no object, for client 1,
-/// on no input.
+/// The number of instructions that a run of the class's method `f` executes, without an object, for
+/// client 1, on no input.
 pub fn steps(alloc: Global, class: &VerifiedClass) -> Result<usize>
     ensures { IfOk result (λ n. RunsIn class.now n) }
 {

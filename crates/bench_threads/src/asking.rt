@@ -1,5 +1,5 @@
 use anyhow::{Error, Result};
-use bench_table::{Figure, Mode, picos_each};
+use bench_table::{Figure, picos_each};
 use object_store::ObjectName;
 use osd::{ClusterName, Config, Opened, Running, Scenario};
 use pg_log::{Request, RequestNumber, RequestParts};
@@ -15,8 +15,8 @@ const ASKS: usize = 700;
 /// The looks of a run.
 const LOOKS: usize = 100_000;
 
-/// What a client does.
-#[derive(Clone, Copy, PartialEq, Eq)]
+/// A step of a client.
+#[derive(Clone, Copy)]
 pub enum Step {
     /// It submits a request.
     Ask,
@@ -32,7 +32,7 @@ struct Asking<'a, C> {
     step: Step,
 }
 
-/// What a client's steps took.
+/// The steps of a client, and the nanoseconds that they took.
 #[derive(Clone, Copy)]
 struct Taken {
     count: usize,
@@ -60,26 +60,13 @@ impl<C: Clock> Scenario for Asking<'_, C> {
     }
 }
 
-/// The steps of a client.
-pub fn steps<R: Threads + Wait + Clock + Sync>(
+/// A client's steps on a new cluster.
+pub fn asks<R: Threads + Wait + Clock + Sync>(
     rt: &R,
     alloc: Global,
-    mode: Mode,
     step: Step,
-) -> Result<Figure> {
-    let mut figure = Figure::new(mode);
-    for _ in 0..mode.runs() {
-        let taken = run(rt, alloc, step)?;
-        figure.count = taken.count;
-        figure.picos = figure
-            .picos
-            .min(picos_each(taken.nanos, taken.count.max(1)));
-    }
-    Ok(figure)
-}
-
-/// A run on a new cluster.
-fn run<R: Threads + Wait + Clock + Sync>(rt: &R, alloc: Global, step: Step) -> Result<Taken> {
+    figure: &mut Figure,
+) -> Result<()> {
     let config = Config {
         nodes: 3,
         replicas: 3,
@@ -96,11 +83,13 @@ fn run<R: Threads + Wait + Clock + Sync>(rt: &R, alloc: Global, step: Step) -> R
         alloc,
         step,
     };
-    match cluster.run(rt, &asking) {
-        Ok(Some(taken)) => Ok(taken),
-        Ok(None) => Err(Error::msg("a run")),
-        Err(_) => Err(Error::msg("a start")),
-    }
+    let Ok(Some(taken)) = cluster.run(rt, &asking) else {
+        return Err(Error::msg("a run"));
+    };
+    figure.count = taken.count;
+    let picos = picos_each(taken.nanos, taken.count.max(1));
+    figure.picos = figure.picos.min(picos);
+    Ok(())
 }
 
 /// A request of a session's.
@@ -116,7 +105,7 @@ fn request<N: ClusterName>(alloc: Global, opened: &Opened<N>) -> Option<Request>
     Request::new(alloc, parts).ok()
 }
 
-/// How many requests are taken.
+/// The number of requests that are taken.
 fn ask_often<N: ClusterName, R: Wait>(
     running: &Running<N, R>,
     opened: &mut Opened<N>,
@@ -131,7 +120,7 @@ fn ask_often<N: ClusterName, R: Wait>(
     taken
 }
 
-/// How many looks find nothing.
+/// The number of looks that find nothing.
 fn look_often<N: ClusterName, R: Wait>(running: &Running<N, R>, opened: &Opened<N>) -> usize {
     let mut empty: usize = 0;
     for _ in 0..LOOKS {

@@ -1,7 +1,7 @@
-ghost use Rattle.std.specs.Prelude.{◌≡◌, ◌<◌, ◌≤◌, [], length};
+ghost use Rattle.std.specs.Prelude.{◌≡◌, ◌<◌, [], length};
 
 use anyhow::{Error, Result};
-use bench_table::{Figure, Mode, lock_request};
+use bench_table::{Figure, lock_request};
 use commit_board::{Board, Seen, Writer};
 use pg_log::Request;
 use std::alloc::Global;
@@ -13,46 +13,22 @@ const COMMITS: usize = 60_000;
 /// The looks of a run.
 const LOOKS: usize = 100_000;
 
-/// One writer commits.
-pub fn commits<C: Clock>(clock: &C, alloc: Global, mode: Mode) -> Result<Figure> {
-    let request = lock_request(alloc, 1, 1, "object")?;
-    commit_runs(clock, alloc, mode, &request)
-}
-
-fn commit_runs<C: Clock>(
-    clock: &C,
-    alloc: Global,
-    mode: Mode,
-    request: &Request,
-) -> Result<Figure> {
-    let mut figure = Figure::new(mode);
-    for _ in 0..mode.runs() {
-        commit_run(clock, alloc, request, &mut figure)?;
-    }
-    Ok(figure)
-}
-
-/// A run on a board of its own.
-fn commit_run<C: Clock>(
-    clock: &C,
-    alloc: Global,
-    request: &Request,
-    figure: &mut Figure,
-) -> Result<()> {
+/// One writer commits, on a new board.
+pub fn commits<C: Clock>(clock: &C, alloc: Global, figure: &mut Figure) -> Result<()> {
     let (board, mut writers, mut seen) = Board::new(alloc, 1)?;
     let Some(mut writer) = writers.pop() else {
         return Err(Error::msg("a writer"));
     };
-    time_commits(clock, &board, &mut writer, &mut seen, request, figure)
+    time_commits(clock, alloc, &board, &mut writer, &mut seen, figure)
 }
 
-/// Times a run.
+/// Times the commits.
 fn time_commits<C: Clock>(
     clock: &C,
+    alloc: Global,
     board: &Board,
     writer: &mut Writer,
     seen: &mut Seen,
-    request: &Request,
     figure: &mut Figure,
 ) -> Result<()>
     requires writer { writer.old.board ≡ board.now }
@@ -60,8 +36,9 @@ fn time_commits<C: Clock>(
     requires seen { seen.old.board ≡ board.now }
     requires row { 0 < board.now.words }
 {
+    let request = lock_request(alloc, 1, 1, "object")?;
     let start = Instant::now(clock)?;
-    commit_all(board, writer, request);
+    commit_all(board, writer, &request);
     let count = board.look(seen, 0) as usize;
     figure.note(clock, start, count)
 }
@@ -75,35 +52,18 @@ fn commit_all(board: &Board, writer: &mut Writer, request: &Request)
     }
 }
 
-/// One token looks at a row.
-pub fn looks<C: Clock>(clock: &C, alloc: Global, mode: Mode) -> Result<Figure> {
+/// One token looks at a row, which has a commit.
+pub fn looks<C: Clock>(clock: &C, alloc: Global, figure: &mut Figure) -> Result<()> {
     let request = lock_request(alloc, 1, 1, "object")?;
-    look_after(clock, alloc, mode, &request)
-}
-
-/// The same, after a commit.
-fn look_after<C: Clock>(clock: &C, alloc: Global, mode: Mode, request: &Request) -> Result<Figure> {
     let (board, mut writers, mut seen) = Board::new(alloc, 1)?;
     let Some(mut writer) = writers.pop() else {
         return Err(Error::msg("a writer"));
     };
-    board.commit(&mut writer, request);
-    look_runs(clock, &board, &mut seen, mode)
+    board.commit(&mut writer, &request);
+    time_looks(clock, &board, &mut seen, figure)
 }
 
-fn look_runs<C: Clock>(clock: &C, board: &Board, seen: &mut Seen, mode: Mode) -> Result<Figure>
-    requires board { seen.old.board ≡ board.now }
-    requires row { 0 < board.now.words }
-{
-    let mut figure = Figure::new(mode);
-    for _ in 0..mode.runs() {
-        let mut late = board.fresh(seen);
-        time_looks(clock, board, &mut late, &mut figure)?;
-    }
-    Ok(figure)
-}
-
-/// Times a run.
+/// Times the looks.
 fn time_looks<C: Clock>(
     clock: &C,
     board: &Board,
@@ -118,7 +78,7 @@ fn time_looks<C: Clock>(
     figure.note(clock, start, count)
 }
 
-/// The sum of what the looks find.
+/// The sum of the counts that the looks find.
 fn look_often(board: &Board, seen: &mut Seen) -> usize
     requires board { seen.old.board ≡ board.now }
     requires row { 0 < board.now.words }

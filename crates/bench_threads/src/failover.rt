@@ -1,5 +1,5 @@
-//! What a failover takes: sessions fill the log of one group of three nodes, a map changes who acts
-//! for it, and each session makes one call more. A row is measured in a process of its own, since
+//! A failover: sessions fill the log of one group of three nodes, a map changes which nodes act for
+//! it, and each session makes one call more. A row is measured in a process of its own, since
 //! the system tells a process's greatest memory once.
 
 mod calling;
@@ -13,14 +13,14 @@ mod taken;
 use crate::failover::playing::run;
 use crate::failover::row::{Change, Load, Row};
 use crate::failover::taken::Taken;
-use anyhow::{Context, Result};
-use std::alloc::{AllocError, Global};
+use anyhow::{Error, Result};
+use std::alloc::Global;
 use std::fs::Files;
 use std::sync::Wait;
 use std::thread::Threads;
 use std::time::Clock;
 
-/// What is called before the map, and how often by all sessions.
+/// The calls before the map, and their number, of all sessions.
 #[rattlefmt::skip]
 const LOADS: [(Load, usize); 4] = [
     (Load::Locks,         1_000),
@@ -29,14 +29,14 @@ const LOADS: [(Load, usize); 4] = [
     (Load::Writes(4_088), 4_000),
 ];
 
-/// What the map changes.
+/// The changes of the map.
 const CHANGES: [Change; 3] = [
     Change::PrimaryLeaves,
     Change::BackupLeaves,
     Change::EmptyReturns,
 ];
 
-/// How many sessions call.
+/// The numbers of sessions.
 const SESSIONS: [usize; 4] = [1, 4, 16, 64];
 
 /// Rows more: other sizes of writes, and more workers than one.
@@ -62,51 +62,42 @@ const MORE: [(Load, usize, usize, usize); 18] = [
     (Load::Writes(4_088), 4_000, 64, 4),
 ];
 
-/// The table's rows.
-pub fn rows(alloc: Global) -> Result<Vec<Row>, AllocError> {
-    let mut rows = Vec::new(alloc);
-    for (load, calls) in LOADS {
-        for change in CHANGES {
-            push_sizes(&mut rows, load, calls, change)?;
-        }
-    }
-    for (load, calls, sessions, workers) in MORE {
-        rows.push(Row {
+/// The rows of the table.
+pub const ROWS: usize = 66;
+
+/// The row at that place: of each load each change, of that each number of sessions; then the rows
+/// more.
+pub fn row_of(place: usize) -> Option<Row> {
+    if let Some(more) = place.checked_sub(LOADS.len() * CHANGES.len() * SESSIONS.len()) {
+        let (load, calls, sessions, workers) = *MORE.get(more)?;
+        return Some(Row {
             load,
             calls,
             change: Change::PrimaryLeaves,
             sessions,
             workers,
-        })?;
+        });
     }
-    Ok(rows)
+    let (load, calls) = *LOADS.get(place / SESSIONS.len() / CHANGES.len())?;
+    Some(Row {
+        load,
+        calls,
+        change: *CHANGES.get(place / SESSIONS.len() % CHANGES.len())?,
+        sessions: *SESSIONS.get(place % SESSIONS.len())?,
+        workers: 1,
+    })
 }
 
-/// Adds a row for each number of sessions.
-fn push_sizes(
-    rows: &mut Vec<Row>,
-    load: Load,
-    calls: usize,
-    change: Change,
-) -> Result<(), AllocError> {
-    for sessions in SESSIONS {
-        rows.push(Row {
-            load,
-            calls,
-            change,
-            sessions,
-            workers: 1,
-        })?;
-    }
-    Ok(())
-}
-
-/// Measures a row. It fails where a call isn't answered.
+/// Measures a row. It fails if a call isn't answered.
 pub fn failover<R: Threads + Wait + Clock + Files + Sync + Drop>(
     rt: R,
     alloc: Global,
     row: Row,
 ) -> Result<Taken> {
     let taken = run(rt, alloc, row)?;
-    taken.answered(row.answers()).context("each call's answer")
+    if taken.answers == row.answers() {
+        Ok(taken)
+    } else {
+        Err(Error::msg("a call isn't answered"))
+    }
 }

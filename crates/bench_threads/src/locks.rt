@@ -1,5 +1,5 @@
 use anyhow::Result;
-use bench_table::{Figure, Mode};
+use bench_table::Figure;
 use std::sync::{Condvar, Mutex, Wait};
 use std::thread::{Threads, join};
 use std::time::{Clock, Instant};
@@ -10,7 +10,7 @@ const LOCKS: usize = 100_000;
 /// The wakes of a run, half of them by each thread.
 const WAKES: usize = 1_000;
 
-/// A word under a lock, and what is rung when it changes.
+/// A word under a lock, and the signal of its changes.
 #[derive(Drop)]
 struct Ball {
     throws: Mutex<usize>,
@@ -18,18 +18,14 @@ struct Ball {
 }
 
 /// A lock that nobody else takes is taken and given back.
-pub fn locks<R: Wait + Clock>(rt: &R, mode: Mode) -> Result<Figure> {
-    let mut figure = Figure::new(mode);
-    let count = Mutex::new(0);
-    for _ in 0..mode.runs() {
-        let start = Instant::now(rt)?;
-        lock_often(rt, &count);
-        figure.note(rt, start, LOCKS)?;
-    }
-    Ok(figure)
+pub fn locks<R: Wait + Clock>(rt: &R, figure: &mut Figure) -> Result<()> {
+    let start = Instant::now(rt)?;
+    lock_often(rt);
+    figure.note(rt, start, LOCKS)
 }
 
-fn lock_often<R: Wait>(rt: &R, count: &Mutex<usize>) {
+fn lock_often<R: Wait>(rt: &R) {
+    let count = Mutex::new(0usize);
     for _ in 0..LOCKS {
         let mut count = count.lock(rt);
         *count = count.wrapping_add(1);
@@ -37,14 +33,10 @@ fn lock_often<R: Wait>(rt: &R, count: &Mutex<usize>) {
 }
 
 /// Two threads wake each other by turns.
-pub fn wakes<R: Threads + Wait + Clock + Sync>(rt: &R, mode: Mode) -> Result<Figure> {
-    let mut figure = Figure::new(mode);
-    for _ in 0..mode.runs() {
-        let start = Instant::now(rt)?;
-        wake_often(rt);
-        figure.note(rt, start, WAKES)?;
-    }
-    Ok(figure)
+pub fn wakes<R: Threads + Wait + Clock + Sync>(rt: &R, figure: &mut Figure) -> Result<()> {
+    let start = Instant::now(rt)?;
+    wake_often(rt);
+    figure.note(rt, start, WAKES)
 }
 
 fn wake_often<R: Threads + Wait + Sync>(rt: &R) {

@@ -1,7 +1,7 @@
 ghost use Rattle.std.specs.Prelude.{◌≡◌, ◌<◌, length};
 
 use anyhow::{Error, Result};
-use bench_table::{Figure, Mode};
+use bench_table::Figure;
 use op_shards::{Op, OpShards, SendPass, TakePass};
 use std::alloc::Global;
 use std::sync::Wait;
@@ -26,16 +26,7 @@ impl Op for Asked {
 }
 
 /// One thread submits and takes each operation in turn.
-pub fn pairs_in_one_thread<R: Wait + Clock>(rt: &R, alloc: Global, mode: Mode) -> Result<Figure> {
-    let mut figure = Figure::new(mode);
-    for _ in 0..mode.runs() {
-        one_thread(rt, alloc, &mut figure)?;
-    }
-    Ok(figure)
-}
-
-/// A run of one thread.
-fn one_thread<R: Wait + Clock>(rt: &R, alloc: Global, figure: &mut Figure) -> Result<()> {
+pub fn one_thread<R: Wait + Clock>(rt: &R, alloc: Global, figure: &mut Figure) -> Result<()> {
     let (shards, mut sends, mut takes) = OpShards::new(alloc, 1, 64, 1, 1)?;
     let Some(send) = sends.pop() else {
         return Err(Error::msg("a sender"));
@@ -84,20 +75,7 @@ fn pairs<R: Wait>(
 }
 
 /// Two threads submit to two shards, and two take of one each.
-pub fn pairs_in_four_threads<R: Threads + Wait + Clock + Sync>(
-    rt: &R,
-    alloc: Global,
-    mode: Mode,
-) -> Result<Figure> {
-    let mut figure = Figure::new(mode);
-    for _ in 0..mode.runs() {
-        four_threads(rt, alloc, &mut figure)?;
-    }
-    Ok(figure)
-}
-
-/// A run of four threads.
-fn four_threads<R: Threads + Wait + Clock + Sync>(
+pub fn four_threads<R: Threads + Wait + Clock + Sync>(
     rt: &R,
     alloc: Global,
     figure: &mut Figure,
@@ -112,7 +90,7 @@ fn four_threads<R: Threads + Wait + Clock + Sync>(
     time_four(rt, &shards, (one, two), (first, second), figure)
 }
 
-/// Times a run of four threads.
+/// Times a run of four threads, which send and take at once.
 fn time_four<R: Threads + Wait + Clock + Sync>(
     rt: &R,
     shards: &OpShards<Asked>,
@@ -126,26 +104,9 @@ fn time_four<R: Threads + Wait + Clock + Sync>(
     requires second { takes.1.queues ≡ shards.now.queues }
     requires shards { length shards.now.queues.names ≡ 2 }
 {
-    let start = Instant::now(rt)?;
-    let taken = four(rt, shards, sends, takes);
-    figure.note(rt, start, taken)
-}
-
-/// Sends and takes at once.
-fn four<R: Threads + Wait + Sync>(
-    rt: &R,
-    shards: &OpShards<Asked>,
-    sends: (SendPass<Asked>, SendPass<Asked>),
-    takes: (TakePass<Asked>, TakePass<Asked>),
-) -> usize
-    requires one { sends.0.queues ≡ shards.now.queues }
-    requires two { sends.1.queues ≡ shards.now.queues }
-    requires first { takes.0.queues ≡ shards.now.queues }
-    requires second { takes.1.queues ≡ shards.now.queues }
-    requires shards { length shards.now.queues.names ≡ 2 }
-{
     let (one, two) = sends;
     let (first, second) = takes;
+    let start = Instant::now(rt)?;
     let ((), taken) = join(
         rt,
         ||
@@ -158,7 +119,7 @@ fn four<R: Threads + Wait + Sync>(
             requires shards { length shards.now.queues.names ≡ 2 }
         { take_two(rt, shards, first, second) },
     );
-    taken
+    figure.note(rt, start, taken)
 }
 
 fn send_two<R: Threads + Wait + Sync>(

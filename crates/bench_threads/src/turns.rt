@@ -1,16 +1,15 @@
 ghost use Rattle.std.specs.Prelude.{◌≡◌, []};
 
 use anyhow::{Error, Result};
-use bench_table::{Figure, Mode, lock_request};
+use bench_table::{Figure, lock_request};
+use builtin_classes::load_lock;
 use carried::Carried;
 use commit_board::{Board, Writer};
 use group_cell::{BoardName, GroupCell, Outgoing};
 use group_world::{Epoch, Event, GroupMap, Message, MessageKind, Party};
-use osd::Config;
 use peering::GroupNode;
 use pg_log::{ClassTable, Request};
 use placement::NodeId;
-use rados_client::Cluster;
 use std::alloc::{AllocError, Global};
 use std::marker::Brand;
 use std::time::{Clock, Instant};
@@ -21,7 +20,7 @@ const CALLS: u32 = 1_000;
 /// The messages that one event leads to, at most.
 const MESSAGE_LIMIT: usize = 64;
 
-/// What the nodes of a group share.
+/// The board and the classes that the nodes of a group share.
 #[derive(Clone, Copy)]
 struct Shared<'a> {
     alloc: Global,
@@ -29,56 +28,29 @@ struct Shared<'a> {
     table: &'a ClassTable,
 }
 
-/// What is on its way to the node at that place.
+/// An event on its way to the node at that place.
 #[derive(Drop)]
 struct Delivery {
     place: usize,
     carried: Carried,
 }
 
-/// What the nodes of a group do with all messages of a call, in one thread, where the first so many
-/// of three nodes act.
-pub fn turns<C: Clock>(clock: &C, alloc: Global, mode: Mode, acting: usize) -> Result<Figure> {
-    let table = table(alloc)?;
-    let mut figure = Figure::new(mode);
-    for _ in 0..mode.runs() {
-        run(clock, alloc, &table, acting, &mut figure)?;
-    }
-    Ok(figure)
+/// The nodes of a group take all messages of calls, in one thread; of three nodes the first ones
+/// act, that many.
+pub fn turns<C: Clock>(clock: &C, alloc: Global, acting: usize, figure: &mut Figure) -> Result<()> {
+    let mut table = ClassTable::new(alloc);
+    table.add(load_lock(alloc)?)?;
+    turns_of(clock, alloc, &table, acting, figure)
 }
 
-/// The table of the built-in classes.
-fn table(alloc: Global) -> Result<ClassTable> {
-    let config = Config {
-        nodes: 1,
-        replicas: 1,
-        groups: 1,
-        shards: 1,
-        workers: 1,
-        tries: 1,
-    };
-    let Ok(mut cluster) = Cluster::new(alloc, config) else {
-        return Err(Error::msg("a cluster"));
-    };
-    match cluster.start() {
-        Some((parts, table)) => {
-            drop(parts);
-            Ok(table)
-        }
-        None => Err(Error::msg("its classes")),
-    }
-}
-
-/// A run on a new group.
-fn run<C: Clock>(
+/// The same, with the table of the class.
+fn turns_of<C: Clock>(
     clock: &C,
     alloc: Global,
     table: &ClassTable,
     acting: usize,
     figure: &mut Figure,
 ) -> Result<()> {
-    let requests = requests(alloc)?;
-    let map = first_map(alloc, acting)?;
     let (board, mut writers, _) = Board::new(alloc, 3)?;
     let (Some(third), Some(second), Some(first)) = (writers.pop(), writers.pop(), writers.pop())
     else {
@@ -90,10 +62,10 @@ fn run<C: Clock>(
         table,
     };
     let writers = (first, second, third);
-    time::<Brand, C>(clock, shared, writers, (map, requests), figure)
+    run::<Brand, C>(clock, shared, writers, acting, figure)
 }
 
-/// Requests of one client, which locks an object and unlocks it, by turns.
+/// Requests of one client, which locks an object and unlocks it by turns.
 fn requests(alloc: Global) -> Result<Vec<Request>> {
     let mut requests = Vec::new(alloc);
     for number in 1..=CALLS {
@@ -102,7 +74,7 @@ fn requests(alloc: Global) -> Result<Vec<Request>> {
     Ok(requests)
 }
 
-/// The map of epoch 1, for which the first so many nodes act.
+/// The map of epoch 1, for which that many nodes act, the first ones.
 fn first_map(alloc: Global, acting: usize) -> Result<GroupMap> {
     let one = Epoch::new(1);
     let mut nodes = Vec::new(alloc);
@@ -112,12 +84,12 @@ fn first_map(alloc: Global, acting: usize) -> Result<GroupMap> {
     Ok(GroupMap::new(one, one, nodes, Epoch::new(0), Vec::new(alloc)))
 }
 
-/// Times the requests, after the map.
-fn time<N: BoardName, C: Clock>(
+/// A run on a new group.
+fn run<N: BoardName, C: Clock>(
     clock: &C,
     shared: Shared<'_>,
     writers: (Writer, Writer, Writer),
-    events: (GroupMap, Vec<Request>),
+    acting: usize,
     figure: &mut Figure,
 ) -> Result<()>
     requires board { shared.board.now ≡ N.board }
@@ -126,11 +98,26 @@ fn time<N: BoardName, C: Clock>(
     requires second { (writers.1.board ≡ N.board) × (writers.1.list ≡ []) }
     requires third { (writers.2.board ≡ N.board) × (writers.2.list ≡ []) }
 {
-    let (map, requests) = events;
     let mut cells = cells::<N>(shared.alloc, writers)?;
-    settle(shared, &mut cells, Event::Map(map))?;
+    time(clock, shared, &mut cells, acting, figure)
+}
+
+/// Times the requests, after the map.
+fn time<N: BoardName, C: Clock>(
+    clock: &C,
+    shared: Shared<'_>,
+    cells: &mut Vec<GroupCell<N>>,
+    acting: usize,
+    figure: &mut Figure,
+) -> Result<()>
+    requires board { shared.board.now ≡ N.board }
+    requires table { shared.table.now ≡ N.classes }
+{
+    let map = first_map(shared.alloc, acting)?;
+    settle(shared, cells, Event::Map(map))?;
+    let requests = requests(shared.alloc)?;
     let start = Instant::now(clock)?;
-    let replied = settle_all(shared, &mut cells, requests)?;
+    let replied = settle_all(shared, cells, requests)?;
     figure.note(clock, start, replied)
 }
 
@@ -158,8 +145,8 @@ fn cell<N: BoardName>(alloc: Global, number: u64, writer: Writer) -> GroupCell<N
     GroupCell::new(GroupNode::<N>::new(alloc, NodeId::new(number)), writer)
 }
 
-/// Brings the requests to the first node, one after another, and all that comes of each. Answers
-/// how many were replied to.
+/// Brings the requests to the first node, one after another, and the messages that each leads to.
+/// The number of those that are replied to.
 fn settle_all<N: BoardName>(
     shared: Shared<'_>,
     cells: &mut Vec<GroupCell<N>>,
@@ -175,8 +162,8 @@ fn settle_all<N: BoardName>(
     Ok(replied)
 }
 
-/// Brings an event to the first node, and all that comes of it. Answers how many clients were
-/// answered.
+/// Brings an event to the first node, and the messages that it leads to. The number of clients that
+/// are answered.
 fn settle<N: BoardName>(
     shared: Shared<'_>,
     cells: &mut Vec<GroupCell<N>>,
@@ -200,7 +187,7 @@ fn settle<N: BoardName>(
     Ok(replied)
 }
 
-/// Brings what is on its way to its node. Answers how many clients were answered.
+/// Brings an event to its node. The number of clients that are answered.
 fn turn<N: BoardName>(
     shared: Shared<'_>,
     cells: &mut Vec<GroupCell<N>>,
@@ -218,7 +205,7 @@ fn turn<N: BoardName>(
     forward_all(waiting, sent)
 }
 
-/// Has what a node sends wait for its receivers. Answers how many clients were answered.
+/// Adds a node's messages to those that wait. The number of clients that are answered.
 fn forward_all<N: BoardName>(
     waiting: &mut Vec<Delivery>,
     sent: Vec<Option<Outgoing<N>>>,
@@ -236,7 +223,7 @@ fn forward_all<N: BoardName>(
     Ok(replied)
 }
 
-/// What a node sends to a node, or is told by the monitor. None where a client is answered.
+/// A message on its way to a node, or the monitor's answer to it. None if a client is answered.
 fn delivery_of<N: BoardName>(outgoing: Outgoing<N>) -> Option<Delivery> {
     match outgoing {
         Outgoing::ToNode(node, carried) => Some(Delivery {

@@ -2,7 +2,7 @@
 
 use rados_client::{Cluster, Config, ConfigError, LoadError};
 use std::alloc::Global;
-use tests_memory_table::{Ending, Found};
+use tests_memory_table::Ending;
 
 /// A method `f`: `mov r0, 0`, `exit`.
 const IMAGE: [u8; 33] = [
@@ -23,56 +23,33 @@ pub fn config(nodes: u64, groups: u64) -> Config {
     }
 }
 
-fn new_once(alloc: Global) -> Found {
+/// `Cluster::new`. The classes `lock` and `obj` are loaded, so the next one gets the id 2.
+pub fn new(alloc: Global) -> Option<Ending> {
     match Cluster::new(alloc, config(2, 2)) {
-        // The classes `lock` and `obj` are loaded.
-        Ok(mut cluster) => Found::of(loads(&mut cluster)),
-        Err(error) => Found::want(error == ConfigError::NoMemory && error.number() == 2),
+        Ok(mut cluster) => {
+            let id = cluster.load_class(&IMAGE).ok()?;
+            Some(Ending::of(id.get() == 2))
+        }
+        Err(error) => {
+            let is_named = error == ConfigError::NoMemory && error.number() == 2;
+            Some(Ending::refused(is_named))
+        }
     }
 }
 
-/// Whether the next class gets the id 2, maybe at the second time.
-fn loads(cluster: &mut Cluster) -> bool {
+/// The next class has the id 2: a refusal loads none.
+fn load_end(cluster: &mut Cluster) -> Ending {
     match cluster.load_class(&IMAGE) {
-        Ok(id) => id.get() == 2,
-        Err(_) => match cluster.load_class(&IMAGE) {
-            Ok(id) => id.get() == 2,
-            Err(_) => false,
-        },
-    }
-}
-
-/// `Cluster::new`.
-pub fn new(alloc: Global) -> Ending {
-    match new_once(alloc) {
-        Found::Want => new_once(alloc).again(),
-        found => found.once(),
-    }
-}
-
-/// A cluster.
-pub fn cluster_of(alloc: Global, config: Config) -> Option<Cluster> {
-    match Cluster::new(alloc, config) {
-        Ok(cluster) => Some(cluster),
-        Err(_) => Cluster::new(alloc, config).ok(),
-    }
-}
-
-/// What loading a class gave, which is the next with id 2: a refusal loads none.
-fn load_once(cluster: &mut Cluster) -> Found {
-    match cluster.load_class(&IMAGE) {
-        Ok(id) => Found::of(id.get() == 2),
-        Err(error) => Found::want(error == LoadError::NoMemory && error.number() == 4),
+        Ok(id) => Ending::of(id.get() == 2),
+        Err(error) => Ending::refused(error == LoadError::NoMemory && error.number() == 4),
     }
 }
 
 /// `Cluster::load_class`.
-pub fn load(alloc: Global) -> Ending {
-    let Some(mut cluster) = cluster_of(alloc, config(1, 1)) else {
-        return Ending::Differs;
-    };
-    match load_once(&mut cluster) {
-        Found::Want => load_once(&mut cluster).again(),
-        found => found.once(),
-    }
+pub fn load(alloc: Global) -> Option<Ending> {
+    let mut cluster = Cluster::new(alloc, config(1, 1)).ok()?;
+    Some(match load_end(&mut cluster) {
+        Ending::Refused => Ending::Refused.then(Some(load_end(&mut cluster))),
+        ending => ending,
+    })
 }

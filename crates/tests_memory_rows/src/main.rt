@@ -40,7 +40,7 @@ fn words_once(rt: &HostRuntime) -> Option<Vec<String>> {
     env::args(rt).ok()?.collect(rt.alloc()).ok()
 }
 
-/// Makes the rows that the words ask for. Whether none differs.
+/// Makes the rows that the words ask for. True if none differs.
 fn run<R: Threads + Wait + Sync + Copy + Drop, O: io::Write>(
     rt: R,
     alloc: Global,
@@ -54,13 +54,13 @@ fn run<R: Threads + Wait + Sync + Copy + Drop, O: io::Write>(
     }
 }
 
-/// Prints how a row ended. Whether it doesn't differ.
+/// Prints the end of a row. True if it doesn't differ.
 fn print<O: io::Write>(name: &str, ending: Ending, out: &mut O) -> io::Result<bool> {
     writeln!(out, "{name} {}", ending.word())?;
     Ok(ending != Ending::Differs)
 }
 
-/// Makes the row of a name. False where there is none.
+/// Makes the row of a name. False if there is none.
 fn run_one<R: Threads + Wait + Sync + Copy + Drop, O: io::Write>(
     rt: R,
     alloc: Global,
@@ -75,7 +75,7 @@ fn run_one<R: Threads + Wait + Sync + Copy + Drop, O: io::Write>(
     print(name, ending, out)
 }
 
-/// Makes every row.
+/// Makes every row. True if none differs.
 fn run_all<R: Threads + Wait + Sync + Copy + Drop, O: io::Write>(
     rt: R,
     alloc: Global,

@@ -2,45 +2,46 @@
 //! before their first submit, 8 NoMemory; `logged`, 2 NoMemory; and a worker, who loses a message
 //! or an event, until the client submits again.
 
-use crate::clusters::{cluster_of, config};
+use crate::clusters::config;
 use map_book::MapError;
 use object_store::ObjectName;
 use osd::{Gate, LoggedEntry, LoggedError, Sends};
-use pg_log::{ClientId, Request, RequestNumber, RequestParts};
+use pg_log::Request;
 use placement::NodeId;
-use rados_client::{ClassId, ClusterName, ExecError, Reply, Running, Scenario, Session};
+use rados_client::{ClassId, Cluster, ClusterName, ExecError, Reply, Running, Scenario, Session};
 use std::alloc::Global;
 use std::cell::Cell;
 use std::sync::Wait;
 use std::thread::Threads;
-use tests_memory_table::{Ending, Found, name_of, nodes_of};
+use tests_memory_table::{Ending, nodes_of, request_of};
 
 /// A call of a running cluster.
-#[derive(Clone, Copy, PartialEq, Eq)]
+#[derive(Clone, Copy)]
 pub enum Call {
     NewMap,
     Exec,
     Retry,
     Logged,
+    Serve,
 }
 
-fn map_once<N: ClusterName, R: Wait>(running: &Running<N, R>, up: &[NodeId]) -> Found {
+/// After a refusal the next map has the epoch that the refused one would have had.
+fn map_end<N: ClusterName, R: Wait>(running: &Running<N, R>, up: &[NodeId]) -> Ending {
     match running.new_map(up) {
-        // After a refusal the next map has the epoch that the refused one would have had.
-        Ok(epoch) => Found::of(epoch == 2),
-        Err(error) => Found::want(error == MapError::NoMemory),
+        Ok(epoch) => Ending::of(epoch == 2),
+        Err(error) => Ending::refused(error == MapError::NoMemory),
     }
 }
 
 fn mapped<N: ClusterName, R: Wait>(alloc: Global, running: &Running<N, R>) -> Option<Ending> {
     let up = nodes_of(alloc, &[1])?;
-    Some(match map_once(running, &up) {
-        Found::Want => map_once(running, &up).again(),
-        found => found.once(),
+    Some(match map_end(running, &up) {
+        Ending::Refused => Ending::Refused.then(Some(map_end(running, &up))),
+        ending => ending,
     })
 }
 
-/// Ends the worker at the first request of a client, of which it keeps the number.
+/// Ends the worker at the first request of a client, and keeps its number.
 #[derive(Drop)]
 struct Ends<'a, N: ClusterName, R> {
     running: &'a Running<N, R>,
@@ -56,78 +57,65 @@ impl<N: ClusterName, R: Wait> Gate for Ends<'_, N, R> {
     }
 }
 
-/// What a call without a worker gave: nobody answers.
-fn unanswered(answer: Result<Reply, ExecError>) -> Found {
+/// The end of a call without a worker: nobody answers.
+fn unanswered(answer: Result<Reply, ExecError>) -> Ending {
     match answer {
-        Ok(_) => Found::Wrong,
-        Err(ExecError::Unanswered) => Found::Answer,
-        Err(error) => Found::want(error == ExecError::NoMemory && error.number() == 8),
+        Ok(_) => Ending::Differs,
+        Err(ExecError::Unanswered) => Ending::Answered,
+        Err(error) => Ending::refused(error == ExecError::NoMemory && error.number() == 8),
     }
 }
 
-fn exec_once<N: ClusterName, R: Wait>(
-    alloc: Global,
-    session: &mut Session<N, R>,
-    object: &ObjectName,
-) -> Found {
-    unanswered(session.exec(alloc, object, ClassId::new(0), "lock", &[]))
-}
-
-/// The number of the request that reached the worker, after client 1's number times 2^32.
-fn reached<N: ClusterName, R: Wait>(running: &Running<N, R>) -> u64 {
-    let gate = Ends {
-        running,
-        number: Cell::new(0),
-    };
-    running.serve(0, &gate);
-    gate.number.get()
-}
-
-/// Calls, once more if memory was refused.
+/// Calls, once more if memory is refused.
 fn exec<N: ClusterName, R: Wait>(
     alloc: Global,
     session: &mut Session<N, R>,
     object: &ObjectName,
 ) -> Ending {
-    match exec_once(alloc, session, object) {
-        Found::Want => exec_once(alloc, session, object).again(),
-        found => found.once(),
+    match unanswered(session.exec(alloc, object, ClassId::new(0), "lock", &[])) {
+        Ending::Refused => {
+            let second = session.exec(alloc, object, ClassId::new(0), "lock", &[]);
+            Ending::Refused.then(Some(unanswered(second)))
+        }
+        ending => ending,
     }
 }
 
-/// Sends the request again, once more if memory was refused.
+/// Sends the request again, once more if memory is refused.
 fn retry<N: ClusterName, R: Wait>(session: &mut Session<N, R>) -> Ending {
     match unanswered(session.retry()) {
-        Found::Want => unanswered(session.retry()).again(),
-        found => found.once(),
+        Ending::Refused => Ending::Refused.then(Some(unanswered(session.retry()))),
+        ending => ending,
     }
 }
 
-/// The request that reached the worker has the number 1, refused or not.
-fn executed<N: ClusterName, R: Wait>(alloc: Global, running: &Running<N, R>) -> Option<Ending> {
-    let object = name_of(alloc, "a")?;
+/// The end of `exec`, or of `retry` after it.
+fn called<N: ClusterName, R: Wait>(
+    alloc: Global,
+    running: &Running<N, R>,
+    has_retry: bool,
+) -> Option<Ending> {
+    let object = ObjectName::new(alloc, "a").ok()?;
     let mut session = Session::open(running).ok()?;
     let ending = exec(alloc, &mut session, &object);
-    is_first(running, ending)
-}
-
-/// The same after the request was sent again.
-fn retried<N: ClusterName, R: Wait>(alloc: Global, running: &Running<N, R>) -> Option<Ending> {
-    let object = name_of(alloc, "a")?;
-    let mut session = Session::open(running).ok()?;
-    if exec(alloc, &mut session, &object) == Ending::Differs {
-        return None;
+    if !has_retry || ending == Ending::Differs {
+        return Some(ending);
     }
-    let ending = retry(&mut session);
-    is_first(running, ending)
+    Some(retry(&mut session))
 }
 
-/// That ending, if the request that reached the worker is client 1's first.
-fn is_first<N: ClusterName, R: Wait>(running: &Running<N, R>, ending: Ending) -> Option<Ending> {
-    if reached(running) == (1 << 32) + 1 {
-        Some(ending)
+/// That end, if the request that gets to the worker has the number 1, refused or not, of client 1:
+/// it comes after the client's number times 2^32.
+fn is_first<N: ClusterName, R: Wait>(running: &Running<N, R>, ending: Ending) -> Ending {
+    let gate = Ends {
+        running,
+        number: Cell::new(0),
+    };
+    running.serve(0, &gate);
+    if gate.number.get() == (1 << 32) + 1 {
+        ending
     } else {
-        None
+        Ending::Differs
     }
 }
 
@@ -168,32 +156,12 @@ impl<N: ClusterName, R: Wait> Gate for Asks<'_, N, R> {
     }
 }
 
-/// Client 1's request of the lock.
-fn lock_of(alloc: Global, client: ClientId) -> Option<Request> {
-    match lock_once(alloc, client) {
-        Some(request) => Some(request),
-        None => lock_once(alloc, client),
-    }
-}
-
-fn lock_once(alloc: Global, client: ClientId) -> Option<Request> {
-    let parts = RequestParts {
-        client,
-        number: RequestNumber::new(1)?,
-        object: ObjectName::new(alloc, "a").ok()?,
-        class: 0,
-        method: String::from_str(alloc, "lock").ok()?,
-        input: Vec::new(alloc),
-    };
-    Request::new(alloc, parts).ok()
-}
-
-/// Serves until the request is logged: how many operations that takes.
+/// Serves until a client's request of the lock is logged. The number of operations that it takes.
 fn serve<N: ClusterName, R: Wait>(alloc: Global, running: &Running<N, R>) -> Option<u64> {
     let opened = running.open()?;
     let gate = Asks {
         running,
-        request: lock_of(alloc, opened.client)?,
+        request: request_of(alloc, &(opened.client.get(), 1, "a", "lock", b""))?,
         sends: Cell::new(Some(opened.sends)),
         count: Cell::new(0),
     };
@@ -204,10 +172,10 @@ fn serve<N: ClusterName, R: Wait>(alloc: Global, running: &Running<N, R>) -> Opt
     Some(gate.count.get())
 }
 
-/// What the log of the one node says: the request once, answered 0.
-fn logged_once<N: ClusterName, R: Wait>(running: &Running<N, R>) -> Found {
+/// The log of the one node has the request once, answered 0.
+fn logged_end<N: ClusterName, R: Wait>(running: &Running<N, R>) -> Ending {
     match running.logged(NodeId::new(0), 0) {
-        Ok(entries) => Found::of(
+        Ok(entries) => Ending::of(
             entries.as_slice()
                 == [LoggedEntry {
                     client: 1,
@@ -216,16 +184,25 @@ fn logged_once<N: ClusterName, R: Wait>(running: &Running<N, R>) -> Found {
                 }]
                 .as_slice(),
         ),
-        Err(error) => Found::want(error == LoggedError::NoMemory),
+        Err(error) => Ending::refused(error == LoggedError::NoMemory),
     }
 }
 
-fn logged<N: ClusterName, R: Wait>(alloc: Global, running: &Running<N, R>) -> Option<Ending> {
-    serve(alloc, running)?;
-    Some(match logged_once(running) {
-        Found::Want => logged_once(running).again(),
-        found => found.once(),
-    })
+/// The end of a call on a running cluster, and how many operations its worker took.
+#[derive(Clone, Copy)]
+struct Played {
+    ending: Ending,
+    count: u64,
+}
+
+/// The end of `logged` after a worker's operations.
+fn logged<N: ClusterName, R: Wait>(alloc: Global, running: &Running<N, R>) -> Option<Played> {
+    let count = serve(alloc, running)?;
+    let ending = match logged_end(running) {
+        Ending::Refused => Ending::Refused.then(Some(logged_end(running))),
+        ending => ending,
+    };
+    Some(Played { ending, count })
 }
 
 /// A call on a running cluster.
@@ -236,105 +213,57 @@ struct Row {
 }
 
 impl Scenario for Row {
-    type Output = Option<Ending>;
+    type Output = Option<Played>;
 
     ghost gives = { λ _ _ _. Unit {0} };
 
     fn play<N: ClusterName + Send + Sync, R: Threads + Wait + Sync>(
         &self,
         running: &Running<N, R>,
-    ) -> Option<Ending> {
-        match self.call {
-            Call::NewMap => mapped(self.alloc, running),
-            Call::Exec => executed(self.alloc, running),
-            Call::Retry => retried(self.alloc, running),
-            Call::Logged => logged(self.alloc, running),
-        }
+    ) -> Option<Played> {
+        let ending = match self.call {
+            Call::NewMap => mapped(self.alloc, running)?,
+            Call::Exec => is_first(running, called(self.alloc, running, false)?),
+            Call::Retry => is_first(running, called(self.alloc, running, true)?),
+            Call::Logged | Call::Serve => return logged(self.alloc, running),
+        };
+        Some(Played { ending, count: 0 })
     }
 }
 
-/// How a call ends on a new cluster; None where that can't be run.
-fn run_once<R: Threads + Wait + Sync + Copy + Drop>(
+/// A call on a new cluster. None if memory for the cluster is refused, or for what the call takes.
+fn play<R: Threads + Wait + Sync + Copy + Drop>(
     rt: R,
     alloc: Global,
     call: Call,
-) -> Option<Option<Ending>> {
+) -> Option<Played> {
     let config = match call {
         Call::NewMap => config(2, 2),
-        Call::Exec => config(1, 1),
-        Call::Retry => config(1, 1),
-        Call::Logged => config(1, 1),
+        Call::Exec | Call::Retry | Call::Logged | Call::Serve => config(1, 1),
     };
-    let mut cluster = cluster_of(alloc, config)?;
-    cluster.run(rt, &Row { alloc, call }).ok()
+    let mut cluster = Cluster::new(alloc, config).ok()?;
+    cluster.run(rt, &Row { alloc, call }).ok()?
 }
 
-/// A call on a running cluster.
+/// The end of a call on a running cluster.
+///
+/// A worker who is refused memory loses a message or an event, as one that never came: the log is
+/// the same in the end, after more operations than those of a worker who is refused nothing.
 pub fn on_running<R: Threads + Wait + Sync + Copy + Drop>(
     rt: R,
     alloc: Global,
     call: Call,
-) -> Ending {
-    let ending = match run_once(rt, alloc, call) {
-        Some(ending) => ending,
-        None => run_once(rt, alloc, call).unwrap_or(None),
-    };
-    ending.unwrap_or(Ending::Differs)
-}
-
-/// A worker's operations until a request is logged.
-#[derive(Drop)]
-struct Worker {
-    alloc: Global,
-}
-
-/// Whether the log has the request once, which is asked once more if memory was refused.
-fn is_logged<N: ClusterName, R: Wait>(running: &Running<N, R>) -> bool {
-    match logged_once(running) {
-        Found::Answer => true,
-        Found::Want => logged_once(running) == Found::Answer,
-        Found::Wrong => false,
-    }
-}
-
-impl Scenario for Worker {
-    type Output = Option<u64>;
-
-    ghost gives = { λ _ _ _. Unit {0} };
-
-    fn play<N: ClusterName + Send + Sync, R: Threads + Wait + Sync>(
-        &self,
-        running: &Running<N, R>,
-    ) -> Option<u64> {
-        let count = serve(self.alloc, running)?;
-        if is_logged(running) {
-            Some(count)
-        } else {
-            None
+) -> Option<Ending> {
+    let played = play(rt, alloc, call)?;
+    match call {
+        Call::NewMap | Call::Exec | Call::Retry | Call::Logged => Some(played.ending),
+        Call::Serve => {
+            let other = play(rt, alloc, call)?;
+            Some(match (played.ending, other.ending) {
+                (Ending::Differs, _) | (_, Ending::Differs) => Ending::Differs,
+                _ if played.count == other.count => Ending::Answered,
+                _ => Ending::Refused,
+            })
         }
-    }
-}
-
-fn count_once<R: Threads + Wait + Sync + Copy + Drop>(rt: R, alloc: Global) -> Option<Option<u64>> {
-    let mut cluster = cluster_of(alloc, config(1, 1))?;
-    cluster.run(rt, &Worker { alloc }).ok()
-}
-
-/// How many operations a worker of a new cluster takes until the request is logged, and the log is
-/// right.
-fn count<R: Threads + Wait + Sync + Copy + Drop>(rt: R, alloc: Global) -> Option<u64> {
-    match count_once(rt, alloc) {
-        Some(count) => count,
-        None => count_once(rt, alloc).unwrap_or(None),
-    }
-}
-
-/// What a worker is refused makes a message or an event as one that never came: the log is the same
-/// in the end, after more operations than those of a worker who is refused nothing.
-pub fn served<R: Threads + Wait + Sync + Copy + Drop>(rt: R, alloc: Global) -> Ending {
-    match (count(rt, alloc), count(rt, alloc)) {
-        (Some(one), Some(other)) if one == other => Ending::Answered,
-        (Some(_), Some(_)) => Ending::Refused,
-        _ => Ending::Differs,
     }
 }

@@ -1,20 +1,19 @@
 //! The table of a cluster's calls that can be refused memory.
 
-use crate::cells::turn;
+use crate::cells::turned;
 use crate::clusters::{load, new};
-use crate::running::{Call, on_running, served};
+use crate::running::{Call, on_running};
 use std::alloc::Global;
 use std::sync::Wait;
 use std::thread::Threads;
 use tests_memory_table::Ending;
 
 /// A call that can be refused memory.
-#[derive(Clone, Copy, PartialEq, Eq)]
+#[derive(Clone, Copy)]
 pub enum ClusterRow {
     New,
     LoadClass,
     Turn,
-    Serve,
     Running(Call),
 }
 
@@ -28,7 +27,7 @@ pub const CLUSTER_ROWS: [(&str, ClusterRow); 8] = [
     ("exec", ClusterRow::Running(Call::Exec)),
     ("retry", ClusterRow::Running(Call::Retry)),
     ("logged", ClusterRow::Running(Call::Logged)),
-    ("serve", ClusterRow::Serve),
+    ("serve", ClusterRow::Running(Call::Serve)),
 ];
 
 impl ClusterRow {
@@ -42,14 +41,23 @@ impl ClusterRow {
         None
     }
 
-    /// Makes the call, and once more if it is refused memory.
-    #[rattlefmt::skip]
+    /// Makes the call, and once more if memory is refused.
     pub fn run<R: Threads + Wait + Sync + Copy + Drop>(self, rt: R, alloc: Global) -> Ending {
+        match self.end(rt, alloc) {
+            Some(Ending::Answered) => Ending::Answered,
+            Some(Ending::Refused) => Ending::Refused.then(self.end(rt, alloc)),
+            Some(Ending::Differs) => Ending::Differs,
+            None => Ending::Answered.then(self.end(rt, alloc)),
+        }
+    }
+
+    /// Makes the call. None if memory is refused to what it is made of.
+    #[rattlefmt::skip]
+    fn end<R: Threads + Wait + Sync + Copy + Drop>(self, rt: R, alloc: Global) -> Option<Ending> {
         match self {
             ClusterRow::New => new(alloc),
             ClusterRow::LoadClass => load(alloc),
-            ClusterRow::Turn => turn(alloc),
-            ClusterRow::Serve => served(rt, alloc),
+            ClusterRow::Turn => turned(alloc),
             ClusterRow::Running(call) => on_running(rt, alloc, call),
         }
     }

@@ -1,6 +1,6 @@
 //! Rows of `call`, 3 NoMemory, and of `ClassTable::add`, 2 NoMemory.
 
-use crate::found::{Ending, Found};
+use crate::ending::Ending;
 use crate::made::class_of;
 use crate::same::same;
 use crate::store::object_of;
@@ -60,7 +60,7 @@ mov r0, r8
 exit
 ";
 
-/// Whether the object after holds what the method makes of that of 4,200 bytes.
+/// True if the object after holds what the method makes of that of 4,200 bytes.
 fn is_made(after: &Object) -> bool {
     let mut bytes = [0u8; 9];
     after.read(4092, &mut bytes) == 8
@@ -74,7 +74,7 @@ fn is_made(after: &Object) -> bool {
         && after.key_count() == 4
 }
 
-/// Whether the outcome is 6 bytes read, and that change of the object.
+/// True if the outcome is 6 bytes read, and that change of the object.
 fn is_outcome(outcome: &Outcome, object: &Object) -> bool {
     let is_changed = match outcome.change.after() {
         None => false,
@@ -87,51 +87,40 @@ fn is_outcome(outcome: &Outcome, object: &Object) -> bool {
         && same(outcome.change.before(), Some(object))
 }
 
-fn call_once(alloc: Global, class: &VerifiedClass, object: &Object, before: &Object) -> Found {
+fn every(alloc: Global, class: &VerifiedClass, object: &Object, before: &Object) -> Ending {
     match call(alloc, class, "every", Some(object), 7, b"abcdefgh") {
-        Ok(outcome) => Found::of(is_outcome(&outcome, before)),
+        Ok(outcome) => Ending::of(is_outcome(&outcome, before)),
         Err(error) => {
-            let is_want = error == CallError::NoMemory && error.number() == 3;
-            Found::want(is_want && same(Some(object), Some(before)))
+            let is_named = error == CallError::NoMemory && error.number() == 3;
+            Ending::refused(is_named && same(Some(object), Some(before)))
         }
     }
 }
 
-fn called_on(alloc: Global, class: &VerifiedClass, object: &Object, before: &Object) -> Ending {
-    match call_once(alloc, class, object, before) {
-        Found::Want => call_once(alloc, class, object, before).again(),
-        found => found.once(),
-    }
-}
-
 /// `call`.
-pub fn called(alloc: Global) -> Ending {
-    match (class_of(alloc, EVERY), object_of(alloc), object_of(alloc)) {
-        (Some(class), Some(object), Some(before)) => called_on(alloc, &class, &object, &before),
-        _ => Ending::Differs,
-    }
+pub fn called(alloc: Global) -> Option<Ending> {
+    let class = class_of(alloc, EVERY)?;
+    let object = object_of(alloc)?;
+    let before = object_of(alloc)?;
+    Some(every(alloc, &class, &object, &before))
 }
 
 /// `mov r0, 0`, `exit`.
 const SHORT: &str = ".method f r 0 0\nmov r0, 0\nexit\n";
 
-/// How many classes stand in the table before, of as many as its first room has.
+/// The classes of the table before, as many as its first room has.
 const BEFORE: usize = 4;
 
 /// A table of some classes.
 fn table(alloc: Global) -> Option<ClassTable> {
     let mut table = ClassTable::new(alloc);
     for _ in 0..BEFORE {
-        let class = class_of(alloc, SHORT)?;
-        if table.add(class).is_err() {
-            let class = class_of(alloc, SHORT)?;
-            table.add(class).ok()?;
-        }
+        table.add(class_of(alloc, SHORT)?).ok()?;
     }
     Some(table)
 }
 
-/// Whether there are that many classes, each with that method.
+/// True if there are that many classes, each with that method.
 fn has(table: &ClassTable, count: usize) -> bool {
     for id in 0..count {
         let is_there = match table.get(id) {
@@ -145,27 +134,21 @@ fn has(table: &ClassTable, count: usize) -> bool {
     table.len() == count
 }
 
-fn add_once(table: &mut ClassTable, class: VerifiedClass) -> Found {
+fn add(table: &mut ClassTable, class: VerifiedClass) -> Ending {
     match table.add(class) {
-        Ok(id) => Found::of(id == BEFORE && has(table, BEFORE + 1)),
+        Ok(id) => Ending::of(id == BEFORE && has(table, BEFORE + 1)),
         Err(error) => {
-            let is_want = error == TableError::NoMemory && error.number() == 2;
-            Found::want(is_want && has(table, BEFORE))
+            let is_named = error == TableError::NoMemory && error.number() == 2;
+            Ending::refused(is_named && has(table, BEFORE))
         }
     }
 }
 
-fn added_to(table: &mut ClassTable, first: VerifiedClass, second: VerifiedClass) -> Ending {
-    match add_once(table, first) {
-        Found::Want => add_once(table, second).again(),
-        found => found.once(),
-    }
-}
-
 /// `ClassTable::add`.
-pub fn added(alloc: Global) -> Ending {
-    match (table(alloc), class_of(alloc, SHORT), class_of(alloc, SHORT)) {
-        (Some(mut table), Some(first), Some(second)) => added_to(&mut table, first, second),
-        _ => Ending::Differs,
-    }
+pub fn added(alloc: Global) -> Option<Ending> {
+    let mut table = table(alloc)?;
+    Some(match add(&mut table, class_of(alloc, SHORT)?) {
+        Ending::Refused => Ending::Refused.then(Some(add(&mut table, class_of(alloc, SHORT)?))),
+        ending => ending,
+    })
 }

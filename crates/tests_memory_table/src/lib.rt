@@ -8,7 +8,7 @@
 #![tactic(auto)]
 
 mod calls;
-mod found;
+mod ending;
 mod images;
 mod lists;
 mod logs;
@@ -22,9 +22,11 @@ mod table;
 mod texts;
 mod verdicts;
 
-pub use found::{Ending, Found};
+pub use ending::Ending;
 pub use logs::Verb;
-pub use made::{name_of, nodes_of, table_of};
+pub use made::{names_of, nodes_of, request_of, table_of};
+pub use nodes::NodeCall;
 pub use objects::Deed;
-pub use staged::Step;
+pub use staged::{Step, Turn};
 pub use table::{ROWS, Row};
+pub use verdicts::Case;

@@ -1,8 +1,8 @@
 //! Rows of a group's log: `append`, `append_at`, `adopt` and `replay`, 3 NoMemory.
 ghost use mathlib.Core.List.{IsPrefix};
 
-use crate::found::{Ending, Found};
-use crate::made::{Asked, list_of, name_of, request_of, table_of};
+use crate::ending::Ending;
+use crate::made::{Asked, list_of, names_of, request_of, table_of};
 use crate::same::same;
 use object_store::ObjectName;
 use pg_log::{ClassTable, Classes, Group, GroupWork, LogError, Request, with_group};
@@ -10,7 +10,7 @@ use replication::{Rep, append_at};
 use std::alloc::Global;
 
 /// A call of a log.
-#[derive(Clone, Copy, PartialEq, Eq)]
+#[derive(Clone, Copy)]
 pub enum Verb {
     Append,
     AppendAt,
@@ -52,7 +52,7 @@ const LOGGED: [Asked; 4] = [
     (3, 1, "a", "keep", b"xten"),
 ];
 
-/// What is appended.
+/// The request that is appended.
 const NEXT: Asked = (4, 1, "a", "keep", b"zall");
 
 /// A list that has the first entry of the log alone.
@@ -67,7 +67,7 @@ const OTHER: [Asked; 5] = [
 /// The names of the objects.
 const NAMES: [&str; 3] = ["a", "b", "c"];
 
-/// Whether two logs have the same entries with the same replies, and the same objects of those
+/// True if two logs have the same entries with the same replies, and the same objects of those
 /// names.
 pub fn same_logs<C: Classes>(one: &Group<C>, other: &Group<C>, names: &[ObjectName]) -> bool {
     same_entries(one, other) && same_objects(one, other, names)
@@ -95,7 +95,7 @@ fn same_objects<C: Classes>(one: &Group<C>, other: &Group<C>, names: &[ObjectNam
     true
 }
 
-/// Whether the log has that many entries, and the last one has that code.
+/// True if the log has that many entries, and the last one has that code.
 fn ends<C: Classes>(group: &Group<C>, len: usize, code: i64) -> bool {
     match group.entries().last() {
         None => false,
@@ -103,7 +103,7 @@ fn ends<C: Classes>(group: &Group<C>, len: usize, code: i64) -> bool {
     }
 }
 
-/// Whether the log is that list, and its last entry has the code 12.
+/// True if the log is that list, and its last entry has the code 12.
 fn is_other<C: Classes>(group: &Group<C>, list: &[Request]) -> bool {
     let entries = group.entries();
     for k in 0..list.len().min(entries.len()) {
@@ -114,162 +114,113 @@ fn is_other<C: Classes>(group: &Group<C>, list: &[Request]) -> bool {
     list.len() == 5 && ends(group, 5, 12)
 }
 
-/// What the calls are given, and the log before.
+/// The log before, and what the calls are given.
 #[derive(Drop)]
 struct Trial<C: Classes> {
     names: Vec<ObjectName>,
     before: Group<C>,
-    next: Vec<Request>,
     list: Vec<Request>,
 }
 
 impl<C: Classes> Trial<C> {
-    /// What a refusal gave.
-    fn refused(&self, group: &Group<C>, error: LogError) -> Found {
-        let is_want = error == LogError::NoMemory && error.number() == 3;
-        Found::want(is_want && same_logs(group, &self.before, &self.names))
+    fn of(alloc: Global, group: &Group<C>) -> Option<Trial<C>> {
+        let before = group.copy(alloc).ok()?;
+        Some(Trial {
+            names: names_of(alloc, &NAMES)?,
+            before,
+            list: list_of(alloc, &OTHER)?,
+        })
     }
 
-    fn append_once(&mut self, table: &ClassTable, group: &mut Group<C>) -> Found
+    /// The end of a refused call.
+    fn refused(&self, group: &Group<C>, error: LogError) -> Ending {
+        let is_named = error == LogError::NoMemory && error.number() == 3;
+        Ending::refused(is_named && same_logs(group, &self.before, &self.names))
+    }
+
+    fn append(&self, table: &ClassTable, group: &mut Group<C>, request: Request) -> Ending
         requires { IsPrefix table.now C.classes }
     {
-        let Some(request) = self.next.pop() else {
-            return Found::Wrong;
-        };
         match group.append(table, request) {
-            Ok(place) => Found::of(place == 4 && ends(group, 5, 16)),
+            Ok(place) => Ending::of(place == 4 && ends(group, 5, 16)),
             Err(error) => self.refused(group, error),
         }
     }
 
-    fn append_at_once(&mut self, table: &ClassTable, group: &mut Group<C>) -> Found
+    fn append_at(&self, table: &ClassTable, group: &mut Group<C>, request: Request) -> Ending
         requires { IsPrefix table.now C.classes }
     {
-        let Some(request) = self.next.pop() else {
-            return Found::Wrong;
-        };
         let rep = Rep {
             epoch: 1,
             place: 4,
             request,
         };
         match append_at(group, table, rep) {
-            Ok(len) => Found::of(len == Some(5) && ends(group, 5, 16)),
+            Ok(len) => Ending::of(len == Some(5) && ends(group, 5, 16)),
             Err(error) => self.refused(group, error),
         }
     }
 
-    fn adopt_once(&mut self, table: &ClassTable, group: &mut Group<C>) -> Found
+    fn adopt(&self, table: &ClassTable, group: &mut Group<C>) -> Ending
         requires { IsPrefix table.now C.classes }
     {
         match group.adopt(table, &self.list) {
-            Ok(common) => Found::of(common == 1 && is_other(group, &self.list)),
+            Ok(common) => Ending::of(common == 1 && is_other(group, &self.list)),
             Err(error) => self.refused(group, error),
         }
     }
 
-    fn replay_once(&mut self, alloc: Global, table: &ClassTable) -> Found
+    fn replay(&self, alloc: Global, table: &ClassTable) -> Ending
         requires { IsPrefix table.now C.classes }
     {
         match Group::<C>::replay(alloc, table, &self.list) {
-            Ok(group) => Found::of(is_other(&group, &self.list)),
-            Err(error) => Found::want(error == LogError::NoMemory && error.number() == 3),
+            Ok(group) => Ending::of(is_other(&group, &self.list)),
+            Err(error) => Ending::refused(error == LogError::NoMemory && error.number() == 3),
         }
     }
 
-    fn call_once(
-        &mut self,
+    /// Makes the call on the log of four entries.
+    fn end(
+        &self,
         alloc: Global,
         table: &ClassTable,
         group: &mut Group<C>,
         verb: Verb,
-    ) -> Found
+    ) -> Option<Ending>
         requires { IsPrefix table.now C.classes }
     {
-        match verb {
-            Verb::Append => self.append_once(table, group),
-            Verb::AppendAt => self.append_at_once(table, group),
-            Verb::Adopt => self.adopt_once(table, group),
-            Verb::Replay => self.replay_once(alloc, table),
-        }
+        Some(match verb {
+            Verb::Append => self.append(table, group, request_of(alloc, &NEXT)?),
+            Verb::AppendAt => self.append_at(table, group, request_of(alloc, &NEXT)?),
+            Verb::Adopt => self.adopt(table, group),
+            Verb::Replay => self.replay(alloc, table),
+        })
     }
 }
 
-/// Appends a request, once more if memory was refused; whether it is appended.
-fn append<C: Classes>(
+fn append_all<C: Classes>(alloc: Global, table: &ClassTable, group: &mut Group<C>) -> Option<()>
+    requires { IsPrefix table.now C.classes }
+{
+    for request in list_of(alloc, &LOGGED)? {
+        group.append(table, request).ok()?;
+    }
+    Some(())
+}
+
+/// The end of a call on a new group's log.
+fn ending<C: Classes>(
     alloc: Global,
     table: &ClassTable,
     group: &mut Group<C>,
-    asked: &Asked,
-) -> bool
+    verb: Verb,
+) -> Option<Ending>
     requires { IsPrefix table.now C.classes }
 {
-    for _ in 0..2 {
-        if let Some(request) = request_of(alloc, asked) {
-            if group.append(table, request).is_ok() {
-                return true;
-            }
-        }
-    }
-    false
-}
-
-fn append_all<C: Classes>(alloc: Global, table: &ClassTable, group: &mut Group<C>) -> bool
-    requires { IsPrefix table.now C.classes }
-{
-    for asked in &LOGGED {
-        if !append(alloc, table, group, asked) {
-            return false;
-        }
-    }
-    true
-}
-
-/// An equal log.
-fn copy<C: Classes>(alloc: Global, group: &Group<C>) -> Option<Group<C>> {
-    match group.copy(alloc) {
-        Ok(copy) => Some(copy),
-        Err(_) => group.copy(alloc).ok(),
-    }
-}
-
-fn names(alloc: Global) -> Option<Vec<ObjectName>> {
-    match names_once(alloc) {
-        Some(names) => Some(names),
-        None => names_once(alloc),
-    }
-}
-
-fn names_once(alloc: Global) -> Option<Vec<ObjectName>> {
-    let mut names = Vec::new(alloc);
-    for name in &NAMES {
-        names.push(name_of(alloc, name)?).ok()?;
-    }
-    Some(names)
-}
-
-fn given<C: Classes>(alloc: Global, group: &Group<C>) -> Option<Trial<C>> {
-    Some(Trial {
-        names: names(alloc)?,
-        before: copy(alloc, group)?,
-        next: list_of(alloc, &[NEXT, NEXT])?,
-        list: list_of(alloc, &OTHER)?,
-    })
-}
-
-/// How a call ends on the log of four entries.
-fn ending<C: Classes>(alloc: Global, table: &ClassTable, group: &mut Group<C>, verb: Verb) -> Ending
-    requires { IsPrefix table.now C.classes }
-{
-    if !append_all(alloc, table, group) {
-        return Ending::Differs;
-    }
-    let Some(mut given) = given(alloc, group) else {
-        return Ending::Differs;
-    };
-    match given.call_once(alloc, table, group, verb) {
-        Found::Want => given.call_once(alloc, table, group, verb).again(),
-        found => found.once(),
+    append_all(alloc, table, group)?;
+    let trial = Trial::of(alloc, group)?;
+    match trial.end(alloc, table, group, verb) {
+        Some(Ending::Refused) => Some(Ending::Refused.then(trial.end(alloc, table, group, verb))),
+        ending => ending,
     }
 }
 
@@ -280,20 +231,17 @@ struct Row {
 }
 
 impl GroupWork for Row {
-    type Output = Ending;
+    type Output = Option<Ending>;
 
     ghost gives = { λ _ _ _ _. Unit {0} };
 
-    fn work<C: Classes>(self, table: &ClassTable, group: Group<C>) -> Ending {
-        let mut group = group;
+    fn work<C: Classes>(self, table: &ClassTable, mut group: Group<C>) -> Option<Ending> {
         ending(self.alloc, table, &mut group, self.verb)
     }
 }
 
 /// A call of a log.
-pub fn logged(alloc: Global, verb: Verb) -> Ending {
-    match table_of(alloc, KEEP) {
-        None => Ending::Differs,
-        Some(table) => with_group(alloc, &table, Row { alloc, verb }),
-    }
+pub fn logged(alloc: Global, verb: Verb) -> Option<Ending> {
+    let table = table_of(alloc, KEEP)?;
+    with_group(alloc, &table, Row { alloc, verb })
 }

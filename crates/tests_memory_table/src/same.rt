@@ -1,8 +1,8 @@
-//! Whether two objects are equal, each of which may be absent. It takes no memory.
+//! Equal objects, of two that each may be absent. It takes no memory.
 
 use object_store::Object;
 
-/// Whether both are absent, or equal.
+/// True if both are absent, or equal.
 pub fn same(one: Option<&Object>, other: Option<&Object>) -> bool {
     match (one, other) {
         (None, None) => true,

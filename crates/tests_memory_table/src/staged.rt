@@ -1,15 +1,16 @@
 //! Rows of `Staged`, whose word for want of memory is its `StoreError`'s, 7; and of `apply` and
 //! `undo`: NoMemory.
 
-use crate::found::{Ending, Found};
+use crate::ending::Ending;
+use crate::made::names_of;
 use crate::same::same;
-use crate::store::{names, object_of, objects_of};
+use crate::store::{NAMES, object_of, objects_of};
 use object_store::{Object, ObjectName, Objects, StoreError};
 use std::alloc::Global;
 use txn::{Change, NoMemory, Staged, apply, undo};
 
 /// A call of `Staged` that changes what it has staged.
-#[derive(Clone, Copy, PartialEq, Eq)]
+#[derive(Clone, Copy)]
 pub enum Step {
     Write,
     Truncate,
@@ -30,7 +31,7 @@ fn make(staged: &mut Staged, alloc: Global, step: Step) -> Result<(), StoreError
     }
 }
 
-/// Whether the object is what the step makes of that of 4,200 bytes.
+/// True if the object is what the step makes of that of 4,200 bytes.
 fn is_stepped(object: &Object, step: Step) -> bool {
     let mut bytes = [0u8; 13];
     match step {
@@ -43,25 +44,20 @@ fn is_stepped(object: &Object, step: Step) -> bool {
     }
 }
 
-/// Whether it has staged what the step makes.
-fn has_staged(staged: &Staged, step: Step) -> bool {
-    match staged.object() {
-        None => false,
-        Some(object) => is_stepped(object, step),
-    }
-}
-
-fn step_once(staged: &mut Staged, alloc: Global, base: &Object, wanted: Step) -> Found {
+fn step_end(staged: &mut Staged, alloc: Global, base: &Object, wanted: Step) -> Ending {
     match make(staged, alloc, wanted) {
-        Ok(()) => Found::of(has_staged(staged, wanted)),
+        Ok(()) => match staged.object() {
+            Some(object) => Ending::of(is_stepped(object, wanted)),
+            None => Ending::Differs,
+        },
         Err(error) => {
-            let is_want = error == StoreError::NoMemory && error.number() == 7;
-            Found::want(is_want && same(staged.object(), Some(base)))
+            let is_named = error == StoreError::NoMemory && error.number() == 7;
+            Ending::refused(is_named && same(staged.object(), Some(base)))
         }
     }
 }
 
-/// Whether finishing gives the change from the base to what the step makes. It takes no memory.
+/// True if finishing gives the change from the base to what the step makes. It takes no memory.
 fn finishes(staged: Staged, base: &Object, step: Step) -> bool {
     match staged.finish() {
         Err(_) => false,
@@ -72,52 +68,46 @@ fn finishes(staged: Staged, base: &Object, step: Step) -> bool {
     }
 }
 
-/// How a step ends over that object.
-fn ending_over(alloc: Global, base: &Object, wanted: Step) -> Ending {
-    let mut staged = Staged::over(Some(base));
-    let ending = match step_once(&mut staged, alloc, base, wanted) {
-        Found::Want => step_once(&mut staged, alloc, base, wanted).again(),
-        found => found.once(),
+/// A call of `Staged`, and `finish`.
+pub fn stepped(alloc: Global, wanted: Step) -> Option<Ending> {
+    let base = object_of(alloc)?;
+    let mut staged = Staged::over(Some(&base));
+    let ending = match step_end(&mut staged, alloc, &base, wanted) {
+        Ending::Refused => Ending::Refused.then(Some(step_end(&mut staged, alloc, &base, wanted))),
+        ending => ending,
     };
-    if finishes(staged, base, wanted) {
+    Some(if finishes(staged, &base, wanted) {
         ending
     } else {
         Ending::Differs
-    }
+    })
 }
 
-/// A call of `Staged`, and `finish`.
-pub fn stepped(alloc: Global, step: Step) -> Ending {
-    match object_of(alloc) {
-        None => Ending::Differs,
-        Some(base) => ending_over(alloc, &base, step),
-    }
+/// A change of objects that takes one away, done or undone.
+#[derive(Clone, Copy)]
+pub enum Turn {
+    Apply,
+    Undo,
 }
 
-/// Applies the change that takes the object of that name away.
-fn take_away(alloc: Global, objects: &mut Objects, name: &ObjectName) -> Result<(), NoMemory> {
-    let change = Change::of(objects.get(name), None)?;
-    apply(alloc, objects, name, &change)
-}
-
-/// Undoes the change that took that object away.
-fn put_back(
+/// Takes the object of that name away, or puts it back.
+fn take_or_put(
     alloc: Global,
+    turn: Turn,
     objects: &mut Objects,
     name: &ObjectName,
     object: &Object,
 ) -> Result<(), NoMemory> {
-    let change = Change::of(Some(object), None)?;
-    undo(alloc, objects, name, &change)
-}
-
-/// The objects without that one.
-fn without(alloc: Global, objects: &Objects, name: &ObjectName) -> Option<Objects> {
-    let mut without = objects.copy().ok()?;
-    if without.remove(alloc, name).is_err() {
-        without.remove(alloc, name).ok()?;
+    match turn {
+        Turn::Apply => {
+            let change = Change::of(objects.get(name), None)?;
+            apply(alloc, objects, name, &change)
+        }
+        Turn::Undo => {
+            let change = Change::of(Some(object), None)?;
+            undo(alloc, objects, name, &change)
+        }
     }
-    Some(without)
 }
 
 /// Objects of those names, and the same without the third.
@@ -128,66 +118,48 @@ struct Pair {
     without: Objects,
 }
 
-fn both(alloc: Global) -> Option<Pair> {
-    let names = names(alloc)?;
-    let whole = objects_of(alloc, &names)?;
-    let without = without(alloc, &whole, names.get(2)?)?;
-    Some(Pair {
-        names,
-        whole,
-        without,
-    })
-}
-
 impl Pair {
-    fn apply_once(&self, alloc: Global, objects: &mut Objects, name: &ObjectName) -> Found {
-        match take_away(alloc, objects, name) {
-            Ok(()) => Found::of(objects.is_same(&self.without)),
-            Err(NoMemory) => Found::want(objects.is_same(&self.whole)),
-        }
-    }
-
-    fn applied(&self, alloc: Global) -> Option<Ending> {
-        let name = self.names.get(2)?;
-        let mut objects = self.whole.copy().ok()?;
-        Some(match self.apply_once(alloc, &mut objects, name) {
-            Found::Want => self.apply_once(alloc, &mut objects, name).again(),
-            found => found.once(),
+    fn of(alloc: Global) -> Option<Pair> {
+        let names = names_of(alloc, &NAMES)?;
+        let whole = objects_of(alloc, &names)?;
+        let mut without = whole.copy().ok()?;
+        without.remove(alloc, names.get(2)?).ok()?;
+        Some(Pair {
+            names,
+            whole,
+            without,
         })
     }
 
-    fn undo_once(&self, alloc: Global, objects: &mut Objects, name: &ObjectName) -> Found {
-        let Some(object) = self.whole.get(name) else {
-            return Found::Wrong;
+    /// The objects before, and those after.
+    fn sides(&self, turn: Turn) -> (&Objects, &Objects) {
+        match turn {
+            Turn::Apply => (&self.whole, &self.without),
+            Turn::Undo => (&self.without, &self.whole),
+        }
+    }
+
+    fn end(&self, alloc: Global, wanted: Turn, objects: &mut Objects) -> Ending {
+        let (before, after) = self.sides(wanted);
+        let Some(name) = self.names.get(2) else {
+            return Ending::Differs;
         };
-        match put_back(alloc, objects, name, object) {
-            Ok(()) => Found::of(objects.is_same(&self.whole)),
-            Err(NoMemory) => Found::want(objects.is_same(&self.without)),
+        let Some(object) = self.whole.get(name) else {
+            return Ending::Differs;
+        };
+        match take_or_put(alloc, wanted, objects, name, object) {
+            Ok(()) => Ending::of(objects.is_same(after)),
+            Err(NoMemory) => Ending::refused(objects.is_same(before)),
         }
     }
-
-    fn undone(&self, alloc: Global) -> Option<Ending> {
-        let name = self.names.get(2)?;
-        let mut objects = self.without.copy().ok()?;
-        Some(match self.undo_once(alloc, &mut objects, name) {
-            Found::Want => self.undo_once(alloc, &mut objects, name).again(),
-            found => found.once(),
-        })
-    }
 }
 
-/// `apply`.
-pub fn applied(alloc: Global) -> Ending {
-    match both(alloc) {
-        Some(both) => both.applied(alloc).unwrap_or(Ending::Differs),
-        None => Ending::Differs,
-    }
-}
-
-/// `undo`.
-pub fn undone(alloc: Global) -> Ending {
-    match both(alloc) {
-        Some(both) => both.undone(alloc).unwrap_or(Ending::Differs),
-        None => Ending::Differs,
-    }
+/// `apply` or `undo`.
+pub fn turned(alloc: Global, turn: Turn) -> Option<Ending> {
+    let pair = Pair::of(alloc)?;
+    let mut objects = pair.sides(turn).0.copy().ok()?;
+    Some(match pair.end(alloc, turn, &mut objects) {
+        Ending::Refused => Ending::Refused.then(Some(pair.end(alloc, turn, &mut objects))),
+        ending => ending,
+    })
 }

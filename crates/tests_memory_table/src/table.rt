@@ -1,16 +1,18 @@
 //! The table of calls that can be refused memory.
 
-use crate::found::Ending;
+use crate::ending::Ending;
 use crate::lists::{acts, board, packed, queues, unpacked};
 use crate::logs::{Verb, logged};
-use crate::nodes::{handled, mapped, resent};
-use crate::objects::{Deed, extents_edited, flat_edited, named, stored};
-use crate::staged::{Step, applied, stepped, undone};
-use crate::{calls, images, texts, verdicts};
+use crate::nodes::{NodeCall, mapped, played};
+use crate::objects::{Deed, edited, named, stored};
+use crate::staged::{Step, Turn, stepped, turned};
+use crate::verdicts::{Case, ONE, TWO, verified};
+use crate::{calls, images, texts};
+use object_store::{ExtentData, FlatData};
 use std::alloc::Global;
 
 /// A call that can be refused memory.
-#[derive(Clone, Copy, PartialEq, Eq)]
+#[derive(Clone, Copy)]
 pub enum Row {
     Decode,
     Encode,
@@ -20,15 +22,13 @@ pub enum Row {
     Disassemble,
     AssembleClass,
     DisassembleClass,
-    Verify,
-    VerifySpills,
+    Verify(Case),
     ObjectName,
     Objects(Deed),
     EditFlat,
     EditExtents,
     Staged(Step),
-    Apply,
-    Undo,
+    Turn(Turn),
     Call,
     AddClass,
     Log(Verb),
@@ -38,8 +38,7 @@ pub enum Row {
     Queues,
     Board,
     NewMap,
-    Handle,
-    Resend,
+    Node(NodeCall),
 }
 
 /// Each row with its name.
@@ -53,8 +52,8 @@ pub const ROWS: [(&str, Row); 45] = [
     ("disassemble", Row::Disassemble),
     ("assemble_class", Row::AssembleClass),
     ("disassemble_class", Row::DisassembleClass),
-    ("verify", Row::Verify),
-    ("verify_spills", Row::VerifySpills),
+    ("verify", Row::Verify(ONE)),
+    ("verify_spills", Row::Verify(TWO)),
     ("object_name", Row::ObjectName),
     ("objects_put", Row::Objects(Deed::Put)),
     ("objects_store", Row::Objects(Deed::Store)),
@@ -74,8 +73,8 @@ pub const ROWS: [(&str, Row); 45] = [
     ("staged_remove_xattr", Row::Staged(Step::RemoveXattr)),
     ("staged_set_key", Row::Staged(Step::SetKey)),
     ("staged_remove_key", Row::Staged(Step::RemoveKey)),
-    ("apply", Row::Apply),
-    ("undo", Row::Undo),
+    ("apply", Row::Turn(Turn::Apply)),
+    ("undo", Row::Turn(Turn::Undo)),
     ("call", Row::Call),
     ("add_class", Row::AddClass),
     ("append", Row::Log(Verb::Append)),
@@ -88,8 +87,8 @@ pub const ROWS: [(&str, Row); 45] = [
     ("queues", Row::Queues),
     ("board", Row::Board),
     ("new_map", Row::NewMap),
-    ("handle", Row::Handle),
-    ("resend", Row::Resend),
+    ("handle", Row::Node(NodeCall::Handle)),
+    ("resend", Row::Node(NodeCall::Resend)),
 ];
 
 impl Row {
@@ -103,38 +102,46 @@ impl Row {
         None
     }
 
-    /// Makes the call, and once more if it is refused memory.
-    #[rattlefmt::skip]
+    /// Makes the call, and once more if memory is refused.
     pub fn run(self, alloc: Global) -> Ending {
+        match self.end(alloc) {
+            Some(Ending::Answered) => Ending::Answered,
+            Some(Ending::Refused) => Ending::Refused.then(self.end(alloc)),
+            Some(Ending::Differs) => Ending::Differs,
+            None => Ending::Answered.then(self.end(alloc)),
+        }
+    }
+
+    /// Makes the call, of values that are made for it. A call that changes its state is made again
+    /// on the same state if it is refused. None if memory is refused to what it is made of.
+    #[rattlefmt::skip]
+    fn end(self, alloc: Global) -> Option<Ending> {
         match self {
-            Row::Decode => images::decoded(alloc),
+            Row::Decode => Some(images::decoded(alloc)),
             Row::Encode => images::encoded(alloc),
-            Row::ReadImage => images::read(alloc),
+            Row::ReadImage => Some(images::read(alloc)),
             Row::WriteImage => images::written(alloc),
-            Row::Assemble => texts::assembled(alloc),
+            Row::Assemble => Some(texts::assembled(alloc)),
             Row::Disassemble => texts::disassembled(alloc),
-            Row::AssembleClass => texts::class_assembled(alloc),
+            Row::AssembleClass => Some(texts::class_assembled(alloc)),
             Row::DisassembleClass => texts::class_disassembled(alloc),
-            Row::Verify => verdicts::verified(alloc),
-            Row::VerifySpills => verdicts::verified_spills(alloc),
-            Row::ObjectName => named(alloc),
+            Row::Verify(case) => verified(alloc, case),
+            Row::ObjectName => Some(named(alloc)),
             Row::Objects(deed) => stored(alloc, deed),
-            Row::EditFlat => flat_edited(alloc),
-            Row::EditExtents => extents_edited(alloc),
+            Row::EditFlat => edited(alloc, &mut FlatData::new(alloc)),
+            Row::EditExtents => edited(alloc, &mut ExtentData::new()),
             Row::Staged(step) => stepped(alloc, step),
-            Row::Apply => applied(alloc),
-            Row::Undo => undone(alloc),
+            Row::Turn(turn) => turned(alloc, turn),
             Row::Call => calls::called(alloc),
             Row::AddClass => calls::added(alloc),
             Row::Log(verb) => logged(alloc, verb),
             Row::PackLog => packed(alloc),
             Row::UnpackLog => unpacked(alloc),
             Row::Acting => acts(alloc),
-            Row::Queues => queues(alloc),
-            Row::Board => board(alloc),
+            Row::Queues => Some(queues(alloc)),
+            Row::Board => Some(board(alloc)),
             Row::NewMap => mapped(alloc),
-            Row::Handle => handled(alloc),
-            Row::Resend => resent(alloc),
+            Row::Node(call) => played(alloc, call),
         }
     }
 }

@@ -1,13 +1,12 @@
 //! The rows of `verify`, by both rule sets: 16 NoMemory, at method 0 and slot 0.
 
-use crate::found::{Ending, Found};
-use crate::made::image_of;
-use bpf_decode::ClassImage;
+use crate::ending::Ending;
+use bpf_asm::assemble_class;
 use std::alloc::Global;
-use verifier::{Refusal, Rule, VerifiedClass, verify};
+use verifier::{Rule, VerifiedClass, verify};
 
-/// Two methods, in which ways fork and meet, over registers, stores and a helper.
-const TEXT: &str = ".method f r 8 8
+/// Two methods whose paths fork and join, over registers, stores and a helper.
+const FORKS: &str = ".method f r 8 8
 jgt r2, 4, far
 stxdw [r10-8], r2
 ldxb r0, [r1+0]
@@ -31,8 +30,8 @@ mov r0, 0
 exit
 ";
 
-/// Two methods of rule set 2: in the one a pointer is loaded from the stack where ways meet, and a
-/// slot that one of the ways alone has stored another in.
+/// Two methods of rule set 2. The first loads a pointer from the stack where paths join; one of the
+/// paths alone stores another one in a second slot.
 const SPILLS: &str = ".rules 2
 .method f r 8 8
 stxdw [r10-8], r3
@@ -61,54 +60,49 @@ mov r0, 0
 exit
 ";
 
-/// How many instructions the two methods of a text have.
-struct Counts {
+/// A text, and how many instructions its methods `f` and `g` have.
+#[derive(Clone, Copy)]
+pub struct Case {
+    text: &'static str,
     f: usize,
     g: usize,
 }
 
-/// Whether it is of the two methods, of so many instructions.
-fn is_whole(class: &VerifiedClass, counts: &Counts) -> bool {
-    match class.methods() {
-        [f, g] => {
-            f.count() == counts.f
-                && f.ops().len() == counts.f
-                && g.count() == counts.g
-                && g.ops().len() == counts.g
+pub const ONE: Case = Case {
+    text: FORKS,
+    f: 12,
+    g: 5,
+};
+
+pub const TWO: Case = Case {
+    text: SPILLS,
+    f: 13,
+    g: 7,
+};
+
+impl Case {
+    /// True if the class has the two methods, with all their instructions.
+    fn is_whole(self, class: &VerifiedClass) -> bool {
+        match class.methods() {
+            [f, g] => {
+                f.count() == self.f
+                    && f.ops().len() == self.f
+                    && g.count() == self.g
+                    && g.ops().len() == self.g
+            }
+            _ => false,
         }
-        _ => false,
-    }
-}
-
-/// What a refusal gave.
-fn refused(refusal: &Refusal) -> Found {
-    let is_first = refusal.method == 0 && refusal.slot == 0;
-    Found::want(is_first && refusal.rule == Rule::NoMemory && refusal.rule.number() == 16)
-}
-
-fn verify_once(alloc: Global, image: &ClassImage, counts: &Counts) -> Found {
-    match verify(alloc, image) {
-        Ok(class) => Found::of(is_whole(&class, counts)),
-        Err(refusal) => refused(&refusal),
-    }
-}
-
-fn verified_text(alloc: Global, text: &str, counts: &Counts) -> Ending {
-    let Some(image) = image_of(alloc, text) else {
-        return Ending::Differs;
-    };
-    match verify_once(alloc, &image, counts) {
-        Found::Want => verify_once(alloc, &image, counts).again(),
-        found => found.once(),
     }
 }
 
 /// `verify`.
-pub fn verified(alloc: Global) -> Ending {
-    verified_text(alloc, TEXT, &Counts { f: 12, g: 5 })
-}
-
-/// `verify` by rule set 2.
-pub fn verified_spills(alloc: Global) -> Ending {
-    verified_text(alloc, SPILLS, &Counts { f: 13, g: 7 })
+pub fn verified(alloc: Global, case: Case) -> Option<Ending> {
+    let image = assemble_class(alloc, case.text).ok()?;
+    Some(match verify(alloc, &image) {
+        Ok(class) => Ending::of(case.is_whole(&class)),
+        Err(refusal) => {
+            let is_named = refusal.rule == Rule::NoMemory && refusal.rule.number() == 16;
+            Ending::refused(is_named && refusal.method == 0 && refusal.slot == 0)
+        }
+    })
 }

@@ -16,7 +16,7 @@ const MOST: usize = 16;
 /// The epoch of the map.
 const ONE: u32 = 1;
 
-/// What is on its way to the node at that place.
+/// An event on its way to the node at that place.
 #[derive(Drop)]
 pub struct Delivery {
     place: usize,
@@ -24,13 +24,13 @@ pub struct Delivery {
 }
 
 impl Delivery {
-    /// What comes to the primary.
+    /// An event on its way to the primary.
     pub fn to_primary(event: Event) -> Delivery {
         Delivery { place: 0, event }
     }
 
-    /// A packet. What is for the monitor asks it to activate the one interval, which it does; what
-    /// is for a client isn't delivered.
+    /// A packet on its way. One for the monitor asks it to activate the one interval, which it
+    /// does; one for a client isn't delivered.
     pub fn of(packet: Packet) -> Option<Delivery> {
         let Packet { receiver, message } = packet;
         match receiver {
@@ -80,7 +80,7 @@ pub fn active<C: Classes>(alloc: Global, table: &ClassTable) -> Result<Vec<Group
     Ok(nodes)
 }
 
-/// Brings an event to the primary, and all that comes of it.
+/// Brings an event to the primary, and the messages that it leads to.
 pub fn settle<C: Classes>(
     alloc: Global,
     table: &ClassTable,
@@ -104,7 +104,7 @@ pub fn settle<C: Classes>(
     Ok(())
 }
 
-/// Brings what is on its way to its node, and gives what that sends.
+/// Brings an event to its node. The packets that it sends.
 fn bring<C: Classes>(
     table: &ClassTable,
     nodes: &mut Vec<GroupNode<C>>,
@@ -114,12 +114,12 @@ fn bring<C: Classes>(
 {
     let Delivery { place, event } = delivery;
     let node = nodes.get_mut(place).context("a node")?;
-    // Reading the log says that its list is legal.
+    // For the proof: reading the log says that its list is legal.
     let _ = node.group().entries();
     Ok(node.handle(table, event)?.into_items())
 }
 
-/// Brings each of these to its node, in turn, and gives what they send.
+/// Brings each of these to its node, in turn. The packets that they send.
 pub fn bring_all<C: Classes>(
     table: &ClassTable,
     nodes: &mut Vec<GroupNode<C>>,

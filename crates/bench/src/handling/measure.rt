@@ -1,6 +1,6 @@
 ghost use Rattle.std.specs.Prelude.{◌≡◌};
 
-use super::asked::Asked;
+use super::asked::{Asked, FIRST};
 use super::group::{Delivery, active, bring_all, settle};
 use crate::timing::{nanos_since, now};
 use anyhow::Result;
@@ -15,11 +15,11 @@ use std::time::Clock;
 /// The requests of a run.
 const REQUESTS: u32 = 1_000;
 
-/// How often a run is made, of which the least times count.
+/// The runs; the least times count.
 const RUNS: usize = 20;
 
-/// What a run's parts take: all its requests at the primary, all Reps at their replicas, and all
-/// Acks at the primary.
+/// The nanoseconds of a run's parts: all its requests at the primary, all Reps at their replicas,
+/// and all Acks at the primary.
 #[derive(Clone, Copy)]
 struct Nanos {
     request: u128,
@@ -38,7 +38,7 @@ impl Nanos {
     }
 }
 
-/// How many messages a request takes and, where there is a clock, what a run's parts take.
+/// The messages of a request and, if there is a clock, the times of a run's parts.
 #[derive(Clone, Copy)]
 pub struct Parts {
     messages: usize,
@@ -61,7 +61,7 @@ impl fmt::Display for Parts {
     }
 }
 
-/// What such a request takes.
+/// The messages and the times of such a request.
 pub fn measured<T: Clock>(alloc: Global, clock: Option<&T>, asked: Asked) -> Result<Parts> {
     let mut table = ClassTable::new(alloc);
     table.add(load_lock(alloc)?)?;
@@ -121,7 +121,7 @@ fn run<C: Classes, T: Clock>(with: &Measures<'_, T>, table: &ClassTable) -> Resu
         alloc,
         table,
         &mut nodes,
-        Event::Request(Asked::write(alloc)?),
+        Event::Request(Asked::Write.request(alloc, FIRST)?),
     )?;
     let mut deliveries = Vec::new(alloc);
     for request in with.asked.requests(alloc, REQUESTS)? {
@@ -130,14 +130,14 @@ fn run<C: Classes, T: Clock>(with: &Measures<'_, T>, table: &ClassTable) -> Resu
     rounds(with, table, &mut nodes, deliveries)
 }
 
-/// What one round of messages sent, and what it took.
+/// The messages that one round of them led to, and its nanoseconds.
 #[derive(Drop)]
 struct Round {
     sent: Vec<Packet>,
     nanos: u128,
 }
 
-/// The requests, then what they send, then what that sends.
+/// The requests, then the messages that they lead to, then those that these lead to.
 fn rounds<C: Classes, T: Clock>(
     with: &Measures<'_, T>,
     table: &ClassTable,
@@ -171,7 +171,7 @@ fn brought<C: Classes, T: Clock>(
 ) -> Result<Round>
     requires { table.now ≡ C.classes }
 {
-    // Room for what they send.
+    // Room for the packets that they send.
     let room = Vec::with_capacity(with.alloc, deliveries.len().saturating_mul(2))?;
     let start = now(with.clock)?;
     let sent = bring_all(table, nodes, deliveries, room)?;
@@ -179,7 +179,7 @@ fn brought<C: Classes, T: Clock>(
     Ok(Round { sent, nanos })
 }
 
-/// What nodes sent, on its way to the receivers.
+/// The packets that nodes sent, on their way to the receivers.
 fn deliveries(alloc: Global, sent: Vec<Packet>) -> Result<Vec<Delivery>> {
     let mut deliveries = Vec::with_capacity(alloc, sent.len())?;
     for packet in sent {

@@ -11,11 +11,11 @@ use std::time::{Clock, Instant};
 /// The requests of a full log.
 const REQUESTS: u32 = 65_536;
 
-/// How often each time is taken, of which the least counts.
+/// The times that are taken of each; the least counts.
 const RUNS: usize = 20;
 
-/// The least times of a replay and of an adoption, where there is a clock, of a full log whose
-/// client takes a lock and gives it back in turn; else both are made once.
+/// The least times of a replay and of an adoption, if there is a clock, of a full log whose client
+/// takes a lock and gives it back by turns; else both are made once.
 pub fn times<C: Clock>(alloc: Global, clock: Option<&C>) -> Result<(Time, Time)> {
     let mut table = ClassTable::new(alloc);
     table.add(load_lock(alloc)?)?;
@@ -81,7 +81,7 @@ fn then_adopt<C: Classes, T: Clock>(
     Ok((replay, adopt))
 }
 
-/// The least of that many runs; one where there is no clock.
+/// The least of some runs, of one if there is no clock.
 fn least<C: Classes, T: Clock>(
     clock: Option<&T>,
     alloc: Global,
@@ -91,7 +91,8 @@ fn least<C: Classes, T: Clock>(
     requires { IsPrefix table.now C.classes }
 {
     let (mut replay, mut adopt) = (Least::new(), Least::new());
-    for _ in 0..runs(clock) {
+    let runs = if clock.is_some() { RUNS } else { 1 };
+    for _ in 0..runs {
         let (replayed, adopted) = once::<C, T>(clock, alloc, table, lists)?;
         replay.note(replayed, 1);
         adopt.note(adopted, 1);
@@ -99,12 +100,7 @@ fn least<C: Classes, T: Clock>(
     Ok((time(clock, replay), time(clock, adopt)))
 }
 
-/// How often both are made.
-fn runs<C>(clock: Option<&C>) -> usize {
-    if clock.is_some() { RUNS } else { 1 }
-}
-
-/// The time, where there is a clock.
+/// The time, if there is a clock.
 fn time<C>(clock: Option<&C>, least: Least) -> Time {
     Time::Micros(if clock.is_some() {
         Some(least.picos)

@@ -5,28 +5,27 @@ use object_store::{Object, StoreError, calls};
 use std::alloc::Global;
 use std::time::Clock;
 
-/// How often a subject is timed, of which the least time counts, and how many calls each time has.
+/// The times that are taken of a subject, whose least counts, and the calls of each.
 const RUNS: usize = 50;
 
 const CALLS: usize = 1024;
 
 const LONGEST_VALUE: [u8; 4096] = [7; 4096];
 
-/// What is measured.
+/// A call that is measured.
 #[derive(Clone, Copy)]
 pub enum Subject {
     /// A copy of the largest object.
     Copy,
     /// A write of one byte to an object of that many bytes.
     Write { len: u64 },
-    /// A set of a new key to 8 bytes, beside that many others of 4,096 bytes each.
+    /// A set of a new key to 8 bytes, next to that many others of 4,096 bytes each.
     Set { others: u32 },
     /// A read of 64 bytes of an object of that many.
     Read { len: u64 },
 }
 
-/// Makes the calls once, and gives the least time that one took of some runs, where there is a
-/// clock.
+/// Makes the calls once, and gives the least time that one took of some runs, if there is a clock.
 pub fn time<C: Clock>(alloc: Global, clock: Option<&C>, subject: Subject) -> Result<Time> {
     let object = object_of(alloc, subject)?;
     let work = Calls {
@@ -37,7 +36,7 @@ pub fn time<C: Clock>(alloc: Global, clock: Option<&C>, subject: Subject) -> Res
     Ok(Time::Picos(least_of(alloc, clock, &work, CALLS, RUNS)?))
 }
 
-/// The calls that a time is taken of.
+/// The calls of a time.
 #[derive(Clone, Copy)]
 struct Calls<'a> {
     object: &'a Object,
@@ -56,8 +55,8 @@ impl Work for Calls<'_> {
     }
 }
 
-/// Looks at what was read, of objects that hold zeros: without that, the compiler leaves each read
-/// out.
+/// Looks at the bytes that were read, of objects that hold zeros: without that, the compiler leaves
+/// each read out.
 fn all_zero(read: &[u8; 64]) -> Result<()> {
     if *read == [0; 64] {
         Ok(())
@@ -71,15 +70,9 @@ fn key(n: u32) -> [u8; 4] {
     n.wrapping_mul(2_654_435_761).to_be_bytes()
 }
 
-/// An object of that many bytes.
-fn of_length(alloc: Global, len: u64) -> Result<Object, StoreError> {
-    let empty = calls::create(None, true)?;
-    calls::truncate(alloc, Some(&empty), len)
-}
-
 /// An object of that many bytes, and that many keys.
 fn filled(alloc: Global, len: u64, keys: u32) -> Result<Object, StoreError> {
-    let mut object = of_length(alloc, len)?;
+    let mut object = calls::truncate(alloc, Some(&calls::create(None, true)?), len)?;
     for n in 0..keys {
         object = calls::set_key(alloc, Some(&object), &key(n), &LONGEST_VALUE)?;
     }

@@ -4,13 +4,13 @@ use bench_table::Work;
 use object_store::Object;
 use std::alloc::Global;
 
-/// How often a time is taken, of which the least counts.
+/// The times that are taken; the least counts.
 pub const RUNS: usize = 50;
 
-/// How many calls a time is taken of.
+/// The calls of a time.
 pub const CALLS: usize = 1_000;
 
-/// The calls that a time is taken of.
+/// A call on an object, made again and again.
 #[derive(Clone, Copy)]
 pub struct Reads<'a> {
     pub reading: Reading,

@@ -13,7 +13,7 @@ use std::thread::{Threads, for_each_mut};
 /// The bytes that writes take theirs from.
 const BYTES: [u8; 4_088] = [7; 4_088];
 
-/// What each session calls, and how often.
+/// The calls of each session, and their number.
 #[derive(Clone, Copy)]
 pub struct Calls {
     pub load: Load,
@@ -36,7 +36,7 @@ pub fn open_all<'a, N: ClusterName, R: Wait>(
     Ok(sessions)
 }
 
-/// How often these sessions nudged.
+/// The number of nudges of these sessions.
 pub fn nudges<N: ClusterName, R: Wait>(sessions: &[Session<'_, N, R>]) -> u64 {
     let mut sum: u64 = 0;
     for session in sessions {
@@ -69,7 +69,7 @@ pub fn call_all<'a, N: ClusterName + Send + Sync, R: Threads + Wait + Sync>(
 
 impl Calls {
     /// Makes the calls of the session at that place on an object of its own, up to the first that
-    /// isn't answered. How many are.
+    /// isn't answered. The number of those that are.
     fn answered<N: ClusterName, R: Wait>(
         self,
         alloc: Global,

@@ -1,10 +1,10 @@
 use osd::{DeliveryMode, Fate};
 use std::sync::atomic::{AtomicU64, Ordering};
 
-/// What threads count together, modulo 2^64.
+/// The counts of all threads together, modulo 2^64.
 #[derive(Drop)]
 pub struct Counts {
-    /// What nodes sent.
+    /// The messages that nodes sent.
     messages: AtomicU64,
     /// The calls that were answered.
     answers: AtomicU64,
@@ -19,12 +19,12 @@ impl Counts {
         }
     }
 
-    /// What nodes sent.
+    /// The number of messages that nodes sent.
     pub fn messages(&self) -> u64 {
         self.messages.load(Ordering::SeqCst)
     }
 
-    /// The calls that were answered.
+    /// The number of calls that were answered.
     pub fn answers(&self) -> u64 {
         self.answers.load(Ordering::SeqCst)
     }

@@ -1,5 +1,5 @@
-//! What may go to another thread, for the proofs of `playing` and `calling`. The functions do
-//! nothing.
+//! Types whose values may go to another thread, for the proofs of `playing` and `calling`. The
+//! functions do nothing.
 ghost use denote.Param.Send.{IsSync};
 ghost use Rattle.bench_threads.specs.contracts.failover.counts.Counts as counts;
 

@@ -3,13 +3,13 @@ use std::alloc::Global;
 use std::fs;
 use std::fs::Files;
 
-/// Where the system says what this process holds.
+/// The file of the system that tells what this process holds.
 const STATUS: &str = "/proc/self/status";
 
-/// What the system says of this process's memory, in KiB.
+/// A number of the system, of this process's memory, in KiB.
 #[derive(Clone, Copy)]
 pub enum Resident {
-    /// What is resident now.
+    /// The memory that is resident now.
     Now,
     /// The most that was resident.
     Most,

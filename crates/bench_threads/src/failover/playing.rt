@@ -118,36 +118,35 @@ fn play_and_finish<N: ClusterName + Send + Sync, R: Threads + Wait + Clock + Fil
     taken
 }
 
-/// Fills the log, and times that and the failover.
+/// Plays a row with new sessions.
 fn play_row<N: ClusterName + Send + Sync, R: Threads + Wait + Clock + Files + Sync>(
     alloc: Global,
     running: &Running<N, R>,
     counts: &Counts,
     row: Row,
 ) -> Option<Taken> {
-    let nodes = acting_nodes(alloc)?;
-    if row.change == Change::EmptyReturns {
-        running.new_map(&without(alloc, &nodes, 0)?).ok()?;
-    }
+    begin(alloc, running, row.change)?;
+    let up = up_nodes(alloc, row.change)?;
     let mut sessions = open_all(alloc, running, row.sessions).ok()?;
-    let start = Instant::now(running.runtime()).ok()?;
-    let calls = Calls {
-        load: row.load,
-        each: row.calls_each(),
-    };
-    call_all(alloc, running, counts, calls, &mut sessions);
-    let calling = start.elapsed(running.runtime()).ok()?.as_nanos();
-    let up = match row.change {
-        Change::PrimaryLeaves => without(alloc, &nodes, 0)?,
-        Change::BackupLeaves => without(alloc, &nodes, nodes.len().saturating_sub(1))?,
-        Change::EmptyReturns => nodes,
-    };
-    let taken = fail_over(alloc, running, counts, row, &up, &mut sessions)?;
-    Some(Taken { calling, ..taken })
+    time(alloc, running, counts, row, &up, &mut sessions)
 }
 
-/// Makes the map of these up nodes, lets each session make a call, and times both.
-fn fail_over<'a, N: ClusterName + Send + Sync, R: Threads + Wait + Clock + Files + Sync>(
+/// Leaves the primary out from the beginning, if it is to come back empty.
+fn begin<N: ClusterName, R: Wait>(
+    alloc: Global,
+    running: &Running<N, R>,
+    change: Change,
+) -> Option<()> {
+    if change == Change::EmptyReturns {
+        let up = up_nodes(alloc, Change::PrimaryLeaves)?;
+        running.new_map(&up).ok()?;
+    }
+    Some(())
+}
+
+/// Fills the log, makes the map of these up nodes, and lets each session make a call; times both.
+// It owns nothing that is dropped at each of its ends.
+fn time<'a, N: ClusterName + Send + Sync, R: Threads + Wait + Clock + Files + Sync>(
     alloc: Global,
     running: &'a Running<N, R>,
     counts: &Counts,
@@ -156,21 +155,22 @@ fn fail_over<'a, N: ClusterName + Send + Sync, R: Threads + Wait + Clock + Files
     sessions: &mut Vec<Session<'a, N, R>>,
 ) -> Option<Taken> {
     let rt = running.runtime();
+    let Row { load, .. } = row;
+    let start = Instant::now(rt).ok()?;
+    let each = row.calls_each();
+    call_all(alloc, running, counts, Calls { load, each }, sessions);
+    let calling = start.elapsed(rt).ok()?.as_nanos();
     let before = Resident::Now.read(rt, alloc).unwrap_or(0);
     let nudged = nudges(sessions);
     let sent = counts.messages();
-    let calls = Calls {
-        load: row.load,
-        each: 1,
-    };
     let start = Instant::now(rt).ok()?;
     running.new_map(up).ok()?;
-    call_all(alloc, running, counts, calls, sessions);
+    call_all(alloc, running, counts, Calls { load, each: 1 }, sessions);
     let failover = start.elapsed(rt).ok()?.as_nanos();
     Some(Taken {
         sessions: row.sessions,
         answers: counts.answers(),
-        calling: 0,
+        calling,
         failover,
         before,
         most: Resident::Most.read(rt, alloc).unwrap_or(0),
@@ -179,7 +179,17 @@ fn fail_over<'a, N: ClusterName + Send + Sync, R: Threads + Wait + Clock + Files
     })
 }
 
-/// The nodes that act for the one group where all are up, the primary first.
+/// The nodes that are up after that change, in the order in which they act if all are up.
+fn up_nodes(alloc: Global, change: Change) -> Option<Vec<NodeId>> {
+    let nodes = acting_nodes(alloc)?;
+    match change {
+        Change::PrimaryLeaves => without(alloc, &nodes, 0),
+        Change::BackupLeaves => without(alloc, &nodes, nodes.len().saturating_sub(1)),
+        Change::EmptyReturns => Some(nodes),
+    }
+}
+
+/// The nodes that act for the one group if all are up, the primary first.
 fn acting_nodes(alloc: Global) -> Option<Vec<NodeId>> {
     let mut up = Vec::new(alloc);
     for number in 0..3 {

@@ -1,11 +1,10 @@
 use osd::Config;
 use std::fmt;
 
-/// How many looks and submits a call makes at most, so that a row ends also where a call is never
-/// answered.
+/// The looks and submits of a call, at most, so that a row ends also if a call is never answered.
 const TRIES: u32 = 1_000_000;
 
-/// What each session calls on an object of its own.
+/// The calls of a session, on an object of its own.
 #[derive(Clone, Copy)]
 pub enum Load {
     /// `lock` and `unlock` by turns.
@@ -23,7 +22,7 @@ impl fmt::Display for Load {
     }
 }
 
-/// What the map changes.
+/// The change that the map makes.
 #[derive(Clone, Copy, PartialEq, Eq)]
 pub enum Change {
     /// It leaves out the primary.
@@ -57,7 +56,7 @@ pub struct Row {
 }
 
 impl Row {
-    /// The same with a part of the calls: a tenth where the primary leaves and one worker serves,
+    /// The same with a part of the calls: a tenth if the primary leaves and one worker serves,
     /// else a hundredth.
     pub fn part(self) -> Row {
         let divisor = if self.change == Change::PrimaryLeaves && self.workers == 1 {
@@ -88,8 +87,8 @@ impl Row {
         (self.calls / self.sessions.max(1)).max(1)
     }
 
-    /// How many calls are answered, if all are: those before the map, and one of each session after
-    /// it.
+    /// The number of calls that are answered, if all are: those before the map, and one of each
+    /// session after it.
     pub fn answers(self) -> u64 {
         let each = self.calls_each().saturating_add(1);
         each.saturating_mul(self.sessions) as u64

@@ -1,6 +1,6 @@
 use std::fmt;
 
-/// What a failover may take more than its share of the time before it, in nanoseconds.
+/// The nanoseconds that a failover may take beyond its share of the time before it.
 const GRACE: u128 = 50_000_000;
 
 /// The nudges of a session, at most.
@@ -9,7 +9,7 @@ const NUDGES: u64 = 10;
 /// The messages of nodes for a session, at most.
 const MESSAGES: u64 = 60;
 
-/// What a row took.
+/// The figures of a row.
 #[derive(Clone, Copy)]
 pub struct Taken {
     pub sessions: usize,
@@ -19,8 +19,8 @@ pub struct Taken {
     pub calling: u128,
     /// The nanoseconds from the map to the last session's next answer.
     pub failover: u128,
-    /// What was resident before the map, and at most up to the last answer, in KiB; 0 where the
-    /// system doesn't say.
+    /// The KiB resident before the map, and the most up to the last answer; 0 if the system doesn't
+    /// say.
     pub before: u64,
     pub most: u64,
     /// From the map to the last session's next answer, by all sessions.
@@ -29,26 +29,17 @@ pub struct Taken {
 }
 
 impl Taken {
-    /// The same, if so many calls were answered.
-    pub fn answered(self, calls: u64) -> Option<Taken> {
-        if self.answers == calls {
-            Some(self)
-        } else {
-            None
-        }
-    }
-
-    /// Whether the failover took at most a quarter of the time of the calls before it, and 50 ms.
+    /// True if the failover took at most a quarter of the time of the calls before it, and 50 ms.
     fn is_fast(self) -> bool {
         self.failover <= (self.calling / 4).saturating_add(GRACE)
     }
 
-    /// Whether memory grew to 1.5 times at most.
+    /// True if memory grew to 1.5 times at most.
     fn is_small(self) -> bool {
         self.most.saturating_mul(2) <= self.before.saturating_mul(3)
     }
 
-    /// Whether there were at most that many a session.
+    /// True if there were at most that many a session.
     fn is_few(self, count: u64, each: u64) -> bool {
         count <= each.saturating_mul(self.sessions as u64)
     }
@@ -76,7 +67,7 @@ fn tenths(nanos: u128) -> u128 {
     nanos / 100_000
 }
 
-/// How many hundredths the first is of the second.
+/// The percentage of a part.
 fn percent(part: u128, whole: u128) -> u128 {
     part.saturating_mul(100) / whole.max(1)
 }

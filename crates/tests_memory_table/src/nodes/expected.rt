@@ -2,7 +2,7 @@
 
 use group_world::{MessageKind, Packet, Party};
 
-/// Where the monitor stands among the numbers of nodes, and client 1.
+/// The numbers of the monitor and of client 1, among those of nodes.
 const MONITOR: u64 = 100;
 
 const CLIENT: u64 = 201;
@@ -59,7 +59,7 @@ fn number_of(party: Party) -> u64 {
     }
 }
 
-/// What a message says, as in a line.
+/// The words of a message, as in a line.
 #[rattlefmt::skip]
 fn told(kind: &MessageKind) -> (&'static str, u32, usize) {
     match kind {
@@ -85,7 +85,7 @@ fn is_line(packet: &Packet, line: &Line) -> bool {
         && its_count == count
 }
 
-/// Whether the messages are those from that place on.
+/// True if the messages are those from that place on.
 pub fn are_from(sent: &[Packet], place: usize) -> bool {
     for (k, packet) in sent.iter().enumerate() {
         let is_so = match LINES.get(place.saturating_add(k)) {
@@ -99,7 +99,7 @@ pub fn are_from(sent: &[Packet], place: usize) -> bool {
     true
 }
 
-/// Whether they are all of them.
+/// True if they are all of them.
 pub fn are_all(sent: &[Packet]) -> bool {
     sent.len() == LINES.len() && are_from(sent, 0)
 }

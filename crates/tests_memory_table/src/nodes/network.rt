@@ -1,12 +1,12 @@
-//! Four nodes and a monitor, and the messages that they have sent, which come in their order.
+//! Four nodes and a monitor, and the messages that they have sent, which arrive in their order.
 ghost use Rattle.std.specs.Prelude.{◌≡◌};
 
+use crate::ending::Ending;
 use crate::logs::same_logs;
-use crate::made::{Asked, name_of, nodes_of, request_of};
+use crate::made::{Asked, names_of, nodes_of, request_of};
+use crate::nodes::NodeCall;
 use crate::nodes::expected::{LOST, are_all, are_from};
-use group_world::{
-    Epoch, Event, GroupMap, HandleError, Message, MessageKind, Messages, Packet, Party,
-};
+use group_world::{Epoch, Event, HandleError, Message, MessageKind, Messages, Packet, Party};
 use object_store::ObjectName;
 use peering::{GroupNode, Monitor};
 use pg_log::{ClassTable, Classes};
@@ -16,9 +16,11 @@ use std::alloc::Global;
 /// More messages than the run has.
 const MOST: usize = 32;
 
-/// What the client asks, again and again.
+/// The client's request, which it asks again and again.
 const LOCK: Asked = (1, 7, "a", "lock", b"");
 
+/// A run of the row. Its calls answer None if memory was refused to something else than `handle`
+/// and `resend`, or if one of them does otherwise than it should.
 #[derive(Drop)]
 pub struct Network<C: Classes> {
     alloc: Global,
@@ -26,49 +28,61 @@ pub struct Network<C: Classes> {
     nodes: Vec<GroupNode<C>>,
     monitor: Monitor,
     sent: Vec<Packet>,
-    /// How many of them have come, or are lost.
-    come: usize,
-    /// Whether a `handle`, and whether a `resend`, was refused memory.
-    pub is_handle_refused: bool,
-    pub is_resend_refused: bool,
+    /// The number of messages that have arrived, or are lost.
+    arrived: usize,
+    /// The call that was refused last.
+    refused: Option<NodeCall>,
 }
 
-/// What a call sent, and whether it was refused memory before, and made again.
+/// The messages of a call, which was made again if it was refused. None if it changed its node
+/// then, or is refused otherwise.
 #[derive(Drop)]
 struct Made {
-    sent: Messages,
+    sent: Option<Messages>,
     is_refused: bool,
 }
 
 impl<C: Classes> Network<C> {
     pub fn new(alloc: Global) -> Option<Network<C>> {
-        match Self::new_once(alloc) {
-            Some(network) => Some(network),
-            None => Self::new_once(alloc),
-        }
-    }
-
-    fn new_once(alloc: Global) -> Option<Network<C>> {
-        let mut names = Vec::new(alloc);
-        names.push(name_of(alloc, "a")?).ok()?;
         let mut nodes = Vec::new(alloc);
         for number in 1..=4u64 {
             nodes.push(GroupNode::new(alloc, NodeId::new(number))).ok()?;
         }
         Some(Network {
             alloc,
-            names,
+            names: names_of(alloc, &["a"])?,
             nodes,
             monitor: Monitor::new(alloc),
             sent: Vec::with_capacity(alloc, MOST).ok()?,
-            come: 0,
-            is_handle_refused: false,
-            is_resend_refused: false,
+            arrived: 0,
+            refused: None,
         })
     }
 
-    /// The run. None where a call did otherwise than it should.
-    pub fn play(&mut self, table: &ClassTable) -> Option<()>
+    /// The end of the row of that call. A refusal counts to the row whose call met it.
+    pub fn end(&mut self, table: &ClassTable, call: NodeCall) -> Option<Ending>
+        requires { table.now ≡ C.classes }
+    {
+        let is_whole = self.play(table).is_some() && are_all(&self.sent);
+        if self.refused.is_none() {
+            // Memory may have been refused to something else: the run is made anew.
+            return if is_whole {
+                Some(Ending::Answered)
+            } else {
+                None
+            };
+        }
+        if !is_whole {
+            return Some(Ending::Differs);
+        }
+        if self.refused == Some(call) {
+            Some(Ending::Refused)
+        } else {
+            Some(Ending::Answered)
+        }
+    }
+
+    fn play(&mut self, table: &ClassTable) -> Option<()>
         requires { table.now ≡ C.classes }
     {
         self.lead(table, &[1, 2, 3])?;
@@ -76,71 +90,80 @@ impl<C: Classes> Network<C> {
         self.repeat(table, 1)?;
         self.ask(table, 1)?;
         self.lead(table, &[4, 2, 3])?;
-        self.ask(table, 4)?;
-        if are_all(&self.sent) { Some(()) } else { None }
+        self.ask(table, 4)
     }
 
-    /// A new map of these nodes comes to the first of them, and then what is sent.
+    /// A new map of these nodes gets to the first of them, and then what is sent.
     fn lead(&mut self, table: &ClassTable, numbers: &[u64]) -> Option<()>
         requires { table.now ≡ C.classes }
     {
         let first = *numbers.first()?;
         let acting = nodes_of(self.alloc, numbers)?;
-        let map = match self.monitor.new_map(&acting) {
-            Ok(map) => map,
-            Err(_) => self.monitor.new_map(&acting).ok()?,
-        };
-        self.come_to(table, first, Event::Map(map))?;
-        self.resend(first)?;
+        let map = self.monitor.new_map(&acting).ok()?;
+        self.bring(table, first, Event::Map(map))?;
+        self.lose_again(first)?;
         self.deliver_all(table)
     }
 
-    /// The client's request comes to a node, and then what is sent.
+    /// The client's request gets to a node, and then what is sent.
     fn ask(&mut self, table: &ClassTable, number: u64) -> Option<()>
         requires { table.now ≡ C.classes }
     {
         let request = request_of(self.alloc, &LOCK)?;
         let before = self.sent.len();
-        self.come_to(table, number, Event::Request(request))?;
+        self.bring(table, number, Event::Request(request))?;
         if self.sent.len() == before.saturating_add(2) {
-            self.resend(number)?;
+            self.lose_again(number)?;
         }
         self.deliver_all(table)
     }
 
-    /// An event comes to a node, which may be refused memory, and then the same event once more.
-    fn come_to(&mut self, table: &ClassTable, number: u64, event: Event) -> Option<()>
+    /// An event gets to a node, which may be refused memory, and then the same event once more.
+    fn bring(&mut self, table: &ClassTable, number: u64, event: Event) -> Option<()>
         requires { table.now ≡ C.classes }
     {
         let again = copy_event(self.alloc, &event)?;
         let node = node_of(&mut self.nodes, number)?;
-        let made = handled(self.alloc, table, node, &self.names, (event, again))?;
-        self.is_handle_refused = self.is_handle_refused || made.is_refused;
-        for packet in made.sent.into_items() {
+        let before = node.copy(self.alloc).ok()?;
+        let made = handled(table, node, &before, &self.names, (event, again));
+        if made.is_refused {
+            self.refused = Some(NodeCall::Handle);
+        }
+        self.send(made.sent?)
+    }
+
+    /// Sends a node's messages.
+    fn send(&mut self, messages: Messages) -> Option<()> {
+        for packet in messages.into_items() {
             self.sent.push(packet).ok()?;
         }
         Some(())
     }
 
-    /// What a node sends again comes, since an acknowledgement was lost.
+    /// The messages that a node sends again.
+    fn resend(&mut self, number: u64) -> Option<Messages> {
+        let node = node_of(&mut self.nodes, number)?;
+        let before = node.copy(self.alloc).ok()?;
+        let made = resent(node, &before, &self.names);
+        if made.is_refused {
+            self.refused = Some(NodeCall::Resend);
+        }
+        made.sent
+    }
+
+    /// A node's messages again arrive, since an acknowledgement was lost.
     fn repeat(&mut self, table: &ClassTable, number: u64) -> Option<()>
         requires { table.now ≡ C.classes }
     {
-        let node = node_of(&mut self.nodes, number)?;
-        let made = resent(self.alloc, node, &self.names)?;
-        self.is_resend_refused = self.is_resend_refused || made.is_refused;
-        for packet in made.sent.into_items() {
-            self.sent.push(packet).ok()?;
-        }
+        let messages = self.resend(number)?;
+        self.send(messages)?;
         self.deliver_all(table)
     }
 
-    /// What a node sent last it sends again, which is lost.
-    fn resend(&mut self, number: u64) -> Option<()> {
-        let node = node_of(&mut self.nodes, number)?;
-        let made = resent(self.alloc, node, &self.names)?;
-        self.is_resend_refused = self.is_resend_refused || made.is_refused;
-        let sent = made.sent.items();
+    /// A node sends again what it sent last, and that is lost.
+    fn lose_again(&mut self, number: u64) -> Option<()> {
+        let messages = self.resend(number)?;
+        let sent = messages.items();
         let from = self.sent.len().checked_sub(sent.len())?;
         if sent.len() >= 2 && are_from(sent, from) {
             Some(())
@@ -153,33 +176,32 @@ impl<C: Classes> Network<C> {
         requires { table.now ≡ C.classes }
     {
         for _ in 0..MOST {
-            if self.come < self.sent.len() {
+            if self.arrived < self.sent.len() {
                 self.deliver(table)?;
             }
         }
         Some(())
     }
 
-    /// The next message comes, or is lost: what a client gets, and an acknowledgement.
+    /// The next message arrives, or is lost: each to a client, and one acknowledgement.
     fn deliver(&mut self, table: &ClassTable) -> Option<()>
         requires { table.now ≡ C.classes }
     {
-        let packet = self.sent.get(self.come)?;
-        let stop = stop_of(packet.receiver);
-        let is_lost = self.come == LOST;
-        self.come = self.come.checked_add(1)?;
-        match stop {
-            Stop::Node(_) if is_lost => Some(()),
-            Stop::Node(number) => {
-                let message = copy_message(self.alloc, &packet.message)?;
-                self.come_to(table, number, Event::Message(message))
+        let packet = self.sent.get(self.arrived)?;
+        let is_lost = self.arrived == LOST;
+        self.arrived = self.arrived.checked_add(1)?;
+        match packet.receiver {
+            Party::Node(_) if is_lost => Some(()),
+            Party::Node(node) => {
+                let message = packet.message.copy(self.alloc).ok()?;
+                self.bring(table, node.get(), Event::Message(message))
             }
-            Stop::Monitor => {
+            Party::Monitor => {
                 let sender = packet.message.sender;
                 let interval = asked_interval(&packet.message.kind)?;
                 self.activate(sender, interval)
             }
-            Stop::Client => Some(()),
+            Party::Client(_) => Some(()),
         }
     }
 
@@ -191,22 +213,6 @@ impl<C: Classes> Network<C> {
             kind: MessageKind::Activated(interval),
         };
         self.sent.push(Packet { receiver, message }).ok()
-    }
-}
-
-/// Where a message comes to: a node by its number, the monitor, or a client.
-#[derive(Clone, Copy)]
-enum Stop {
-    Node(u64),
-    Monitor,
-    Client,
-}
-
-fn stop_of(receiver: Party) -> Stop {
-    match receiver {
-        Party::Node(node) => Stop::Node(node.get()),
-        Party::Monitor => Stop::Monitor,
-        Party::Client(_) => Stop::Client,
     }
 }
 
@@ -225,103 +231,76 @@ fn asked_interval(kind: &MessageKind) -> Option<Epoch> {
     }
 }
 
-/// Whether two nodes are equal, as far as it can be read.
-fn same_nodes<C: Classes>(one: &GroupNode<C>, other: &GroupNode<C>, names: &[ObjectName]) -> bool {
-    one.epoch() == other.epoch()
+/// True if a refusal is for want of memory, and two nodes are equal, as far as it can be read.
+fn is_kept<C: Classes>(
+    error: HandleError,
+    one: &GroupNode<C>,
+    other: &GroupNode<C>,
+    names: &[ObjectName],
+) -> bool {
+    error == HandleError::NoMemory
+        && error.number() == 8
+        && one.epoch() == other.epoch()
         && one.status() == other.status()
         && one.committed() == other.committed()
         && same_logs(one.group(), other.group(), names)
 }
 
-fn copy_node<C: Classes>(alloc: Global, node: &GroupNode<C>) -> Option<GroupNode<C>> {
-    match node.copy(alloc) {
-        Ok(copy) => Some(copy),
-        Err(_) => node.copy(alloc).ok(),
-    }
-}
-
-/// An event at a node, and the same again if memory was refused. None if the node changed then, or
-/// is refused otherwise.
+/// An event at a node, and the same again if memory was refused.
 fn handled<C: Classes>(
-    alloc: Global,
     table: &ClassTable,
     node: &mut GroupNode<C>,
+    before: &GroupNode<C>,
     names: &[ObjectName],
     events: (Event, Event),
-) -> Option<Made>
+) -> Made
     requires { table.now ≡ C.classes }
 {
     let (event, again) = events;
-    let before = copy_node(alloc, node)?;
+    // For the proof, here and below: reading the log says that its list is legal.
     let _ = node.group().entries();
     match node.handle(table, event) {
-        Ok(sent) => Some(Made {
-            sent,
+        Ok(sent) => Made {
+            sent: Some(sent),
             is_refused: false,
-        }),
-        Err(error) => {
-            if error != HandleError::NoMemory || error.number() != 8 {
-                return None;
-            }
-            if !same_nodes(node, &before, names) {
-                return None;
-            }
+        },
+        Err(error) if is_kept(error, node, before, names) => {
             let _ = node.group().entries();
-            let sent = node.handle(table, again).ok()?;
-            Some(Made {
-                sent,
+            Made {
+                sent: node.handle(table, again).ok(),
                 is_refused: true,
-            })
+            }
         }
+        Err(_) => Made {
+            sent: None,
+            is_refused: true,
+        },
     }
 }
 
-/// What a node sends again, asked once more if memory was refused.
-fn resent<C: Classes>(alloc: Global, node: &GroupNode<C>, names: &[ObjectName]) -> Option<Made> {
-    let before = copy_node(alloc, node)?;
+/// A node's messages again, asked once more if memory was refused.
+fn resent<C: Classes>(node: &GroupNode<C>, before: &GroupNode<C>, names: &[ObjectName]) -> Made {
     match node.resend() {
-        Ok(sent) => Some(Made {
-            sent,
+        Ok(sent) => Made {
+            sent: Some(sent),
             is_refused: false,
-        }),
-        Err(error) => {
-            if error != HandleError::NoMemory || error.number() != 8 {
-                return None;
-            }
-            if !same_nodes(node, &before, names) {
-                return None;
-            }
-            let sent = node.resend().ok()?;
-            Some(Made {
-                sent,
-                is_refused: true,
-            })
-        }
-    }
-}
-
-fn copy_message(alloc: Global, message: &Message) -> Option<Message> {
-    match message.copy(alloc) {
-        Ok(copy) => Some(copy),
-        Err(_) => message.copy(alloc).ok(),
-    }
-}
-
-fn copy_map(alloc: Global, map: &GroupMap) -> Option<GroupMap> {
-    match map.copy(alloc) {
-        Ok(copy) => Some(copy),
-        Err(_) => map.copy(alloc).ok(),
+        },
+        Err(error) if is_kept(error, node, before, names) => Made {
+            sent: node.resend().ok(),
+            is_refused: true,
+        },
+        Err(_) => Made {
+            sent: None,
+            is_refused: true,
+        },
     }
 }
 
 /// An equal event.
 fn copy_event(alloc: Global, event: &Event) -> Option<Event> {
-    match event {
-        Event::Request(request) => match request.copy() {
-            Ok(copy) => Some(Event::Request(copy)),
-            Err(_) => Some(Event::Request(request.copy().ok()?)),
-        },
-        Event::Map(map) => Some(Event::Map(copy_map(alloc, map)?)),
-        Event::Message(message) => Some(Event::Message(copy_message(alloc, message)?)),
-    }
+    Some(match event {
+        Event::Request(request) => Event::Request(request.copy().ok()?),
+        Event::Map(map) => Event::Map(map.copy(alloc).ok()?),
+        Event::Message(message) => Event::Message(message.copy(alloc).ok()?),
+    })
 }
