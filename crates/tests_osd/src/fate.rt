@@ -1,0 +1,84 @@
+//! The fate of the messages of a test's cluster.
+
+use osd::{DeliveryMode, Fate};
+use std::sync::atomic::{AtomicBool, AtomicU64, Ordering};
+
+/// The rule that decides about messages.
+#[derive(Clone, Copy)]
+pub enum Rule {
+    /// All pass.
+    Pass,
+    /// All pass at first. Between the steps `BeginMode` and `EndMode` that mode is each one's.
+    Mode(DeliveryMode),
+    /// All pass but the one of that number, which is late.
+    LateOne(u64),
+    /// Each third one is lost. Of the others each fifth is doubled, and of the rest each seventh is
+    /// late.
+    Mixed,
+}
+
+/// The fate of a test's messages. It counts them.
+#[derive(Drop)]
+pub struct TestFate {
+    rule: Rule,
+    is_mode_on: AtomicBool,
+    messages: AtomicU64,
+    /// A message was not of worker 0, or its number was not the next one.
+    is_wrong: AtomicBool,
+}
+
+impl TestFate {
+    pub fn new(rule: Rule) -> TestFate {
+        TestFate {
+            rule,
+            is_mode_on: AtomicBool::new(false),
+            messages: AtomicU64::new(0),
+            is_wrong: AtomicBool::new(false),
+        }
+    }
+
+    /// Begins or ends the time in which the rule's mode is each message's.
+    pub fn set_mode(&self, is_on: bool) {
+        self.is_mode_on.store(is_on, Ordering::SeqCst);
+    }
+
+    /// The number of messages that it was asked about.
+    pub fn messages(&self) -> u64 {
+        self.messages.load(Ordering::SeqCst)
+    }
+
+    /// True if these were worker 0's, numbered 0, 1, 2 and so on.
+    pub fn is_in_order(&self) -> bool {
+        !self.is_wrong.load(Ordering::SeqCst)
+    }
+}
+
+impl Fate for TestFate {
+    fn of(&self, worker: usize, n: u64) -> DeliveryMode {
+        let messages = self.messages.fetch_add(1, Ordering::SeqCst);
+        if worker != 0 || messages != n {
+            self.is_wrong.store(true, Ordering::SeqCst);
+        }
+        match self.rule {
+            Rule::Pass => DeliveryMode::Pass,
+            Rule::Mode(mode) if self.is_mode_on.load(Ordering::SeqCst) => mode,
+            Rule::Mode(_) => DeliveryMode::Pass,
+            Rule::LateOne(late) if n == late => DeliveryMode::Late,
+            Rule::LateOne(_) => DeliveryMode::Pass,
+            Rule::Mixed => mixed(n),
+        }
+    }
+}
+
+/// The mode of a message by its number, under `Mixed`.
+fn mixed(n: u64) -> DeliveryMode {
+    if n % 3 == 0 {
+        DeliveryMode::Drop
+    } else if n % 5 == 0 {
+        DeliveryMode::Twice
+    } else if n % 7 == 0 {
+        DeliveryMode::Late
+    } else {
+        DeliveryMode::Pass
+    }
+}
