@@ -145,27 +145,26 @@ fn play<F: Reads, O: Output>(
     }
 }
 
-/// Plays a file of calls and maps on a cluster. Its figures are written to `stats`, if they are
-/// asked for.
+/// Plays a file of calls and maps on a cluster. Its figures are written to `err`, if they are asked
+/// for.
 fn measure<R: AllocGlobal + Threads + Wait + Clock + Sync, F: Reads, O: Output, E: io::Write>(
     rt: &R,
     files: &F,
     asked: &Clustering<'_>,
+    is_measured: bool,
     out: &mut O,
-    stats: Option<&mut E>,
+    err: &mut E,
 ) -> ExitStatus
     ensures { ClusterEnds (F.disk files.now) (stream O.printed O.failed out.old) (stream O.printed O.failed out.new) asked.now result }
 {
     let figures = Figures::new();
-    let Some(stats) = stats else {
-        return play_cluster(rt, files, asked, &mut Meter::<E>::new(&figures, None), out);
-    };
-    let mut meter = Meter::new(&figures, Some(&mut *stats));
+    let lines = if is_measured { Some(&mut *err) } else { None };
+    let mut meter = Meter::new(&figures, lines);
     let status = play_cluster(rt, files, asked, &mut meter, out);
-    // The meter wrote to `stats` too.
+    // The meter wrote to `err` too.
     drop(meter);
-    if status == ExitStatus::Done {
-        let _ = write!(stats, "{figures}");
+    if is_measured && status == ExitStatus::Done {
+        let _ = write!(err, "{figures}");
     }
     status
 }
@@ -187,8 +186,7 @@ fn do_task<R: AllocGlobal + Threads + Wait + Clock + Sync, F: Files, O: Output, 
         Task::Each(image, is_explained) => judge(alloc, files, image, *is_explained, out),
         Task::Run(call, is_explained) => act_call(alloc, files, call, *is_explained, out),
         Task::Sim(simulation) => play(alloc, files, simulation, out),
-        Task::Cluster(asked, true) => measure(rt, files, asked, out, Some(err)),
-        Task::Cluster(asked, false) => measure::<R, F, O, E>(rt, files, asked, out, None),
+        Task::Cluster(asked, is_measured) => measure(rt, files, asked, *is_measured, out, err),
     }
 }
 
