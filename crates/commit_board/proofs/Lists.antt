@@ -39,7 +39,7 @@ longer_of (x ∷ xs) (y ∷ ys) (z ∷ zs) p q =
     let heads : x ≡ z = cc (p.1) in
     let rest = longer_of xs ys zs (p.0, cc (p.1)) (q.0, cc (q.1)) in (rest.0, cc (heads, rest.1))
 
--- it is one of the two
+-- the longer list is one of the two
 pub longer_either : (xs ys zs : List ClientRequest) → IsPrefix xs zs → IsPrefix ys zs → (longer xs ys ≡ xs) ⊎ (longer xs ys ≡ ys)
 longer_either [] ys zs p q = inr refl
 longer_either (x ∷ xs) [] zs p q = inl refl
@@ -75,6 +75,6 @@ list_at-merged (x ∷ xs) [] i = sym (longer-nil (list_at (x ∷ xs) i))
 list_at-merged (x ∷ xs) (y ∷ ys) zero = refl
 list_at-merged (x ∷ xs) (y ∷ ys) (suc i) = list_at-merged xs ys i
 
--- one row more
+-- one more row
 pub more_rows : {B : Type 0} (f : ℕ → B) (n : ℕ) (xs ys : List B) (y : B) → xs ≡ map f (range_with_len 0 n) → y ≡ f n → ys ≡ xs ++ y ∷ [] → ys ≡ map f (range_with_len 0 (n + 1))
 more_rows f n xs ys y is so more = more ∙ (λ k. is k ++ so k ∷ []) ∙ sym (map-range_with_len_more f 0 n n (omega arith))

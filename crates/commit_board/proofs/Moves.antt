@@ -15,7 +15,7 @@ use Rattle.commit_board.specs.Lists.{list_at, put_at, longer, merged}
 use Rattle.commit_board.specs.Rows.{HasRow, Fits, Kept, Adds, Looks, Merges, Compares, view_of, writes, owner, sees, other_rows, one_row, shared, received_of, new_reader, informed}
 use Rattle.commit_board.proofs.Lists.{prefix_self, prefix_none, prefix_trans, longer_left, longer_right, longer_of, longer_either, list_at-put, list_at-put_else, list_at-merged}
 
--- f, but x at k
+-- the function f, but with x at k
 swapped : {A : Type 0} → (ℕ → A) → ℕ → A → ℕ → A
 swapped f k x i = cond (eqb i k) x (f i)
 
@@ -53,8 +53,8 @@ all_more F [] w mine others (suc j) u e = absurd (some-ne-none u (sym e))
 all_more F (x ∷ xs) w mine others zero u e = others zero u e
 all_more F (x ∷ xs) w mine others (suc j) u e = all_more (λ k. F (suc k)) xs w mine (λ k. others (suc k)) j u e
 
--- who has a row has it still after a seat's view changed, if that view keeps the row or didn't have
--- it
+-- A seat keeps a row also after one seat's view changed, if the new view keeps the row or the old
+-- one didn't have it.
 has_after : (views : List View) (by : ℕ) (v w : View) → get_elem? views by ≡ some v → (j i : ℕ) → (v.first ≤ i → i < v.end → (w.first ≤ i) × (i < w.end)) → HasRow views j i → HasRow (set views by w) j i
 has_after views by v w at j i still h =
     dite (ℕ_discrete j by)
@@ -64,15 +64,15 @@ has_after views by v w at j i still h =
     (w, ap (get_elem? (set views by w)) e ∙ set_here views by w (below_length views by v at), kept.0, kept.1))
     (λ ne. (h.0, set_else views by j w ne ∙ h.1, h.2, h.3))
 
--- so after it changed but for its rows
+-- a change of a view that keeps its rows
 has_set : (views : List View) (by : ℕ) (v w : View) → get_elem? views by ≡ some v → w.first ≡ v.first → w.end ≡ v.end → (j i : ℕ) → HasRow views j i → HasRow (set views by w) j i
 has_set views by v w at first end j i = has_after views by v w at j i (λ lo hi. (omega (arith, first, lo), omega (arith, end, hi)))
 
--- and where another seat comes
+-- a new seat
 has_more : (views : List View) (w : View) (j i : ℕ) → HasRow views j i → HasRow (views ++ w ∷ []) j i
 has_more views w j i h = (h.0, at_longer views (w ∷ []) j h.0 h.1, h.2, h.3)
 
--- a view that writes nothing fits where what it knows does
+-- A view that writes nothing fits if what it knows and what it received are beginnings.
 reads : (rows : ℕ) (logs : ℕ → List ClientRequest) (seat : ℕ → ℕ) (by : ℕ) (known received : List (List ClientRequest)) → ((i : ℕ) → IsPrefix (list_at known i) (logs i)) → ((i : ℕ) → IsPrefix (list_at received i) (logs i)) → Fits rows logs seat by (sees known received)
 reads rows logs seat by known received k t = record { owns = λ i lo hi. absurd (omega arith); knows = k; received = t }
 
@@ -147,7 +147,7 @@ grown rows id row written request s lt room kept at =
           });
     }
 
--- the view of one seat changes, but for its rows, and nothing else
+-- one seat's view changes, but for its rows, and nothing else does
 abbrev changed : (rows id : ℕ) (s : State ℕ View) (v w : View) (words : List ℕ) → words ≡ s.words → (kept : Kept rows s) → get_elem? s.views id ≡ some v → w.first ≡ v.first → w.end ≡ v.end → Fits rows kept.logs kept.seat id w
     → Kept rows record { words = words; homes = s.homes; views = set s.views id w }
 changed rows id s v w words is kept at first end fits = record {
@@ -229,7 +229,7 @@ module _ (rows slots id : ℕ) where
       ) in
       subst (λ (m : Me ℕ View). Allows (Kept rows) slots id m row (λ n. n) (Compares (step slots row 0 0 none) m)) (sym is) here
 
--- a seat gives a new one part of what it knows
+-- a seat gives a new seat some of what it knows
 gives : (rows id : ℕ) (v : View) (known : List (List ClientRequest)) → ((logs : ℕ → List ClientRequest) (seat : ℕ → ℕ) → Fits rows logs seat id v → (i : ℕ) → IsPrefix (list_at known i) (logs i)) → Splits (Kept rows) id v v (sees known [])
 gives rows id v known part s kept at =
     let same : set s.views id v ≡ s.views = set_again s.views id v at in record {

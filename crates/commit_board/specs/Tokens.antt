@@ -1,4 +1,4 @@
--- What contracts see of the tokens of a board.
+-- The tokens of a board, as contracts see them.
 use Rattle.std.specs.Prelude.{ℕ, List, []}
 use Rattle.atomic_table.specs.Seated.{TableId}
 use Rattle.pg_log.specs.Requests.{ClientRequest}
@@ -9,7 +9,7 @@ pub record Row : Type 0 where
   pub row : ℕ
   pub list : List ClientRequest
 
--- what is known of each row of a board: a list, which is empty where nothing is known
+-- the list that is known of each row of a board, which is empty if nothing is known
 pub record Knows : Type 0 where
   pub board : TableId
   pub lists : List (List ClientRequest)
