@@ -49,7 +49,7 @@ entries_beginning classes objects (e ∷ es) (suc k) h = (h.0, entries_beginning
 safe_beginning : (classes : Classes) (xs : List ClientRequest) (k : ℕ) → AreSafe classes xs → AreSafe classes (take k xs)
 safe_beginning classes xs k h i r e = h i r (get_take xs k i r e)
 
--- a log begins with a list exactly where that is the beginning that they have in common
+-- a log begins with a list exactly if the list is their common beginning
 pub begins_whole : (own list : List ClientRequest) (k : ℕ) → IsCommonBeginning own list k → k ≡ length list → IsPrefix list own
 begins_whole own list k h e =
     let same : take k own ≡ list = h.same ∙ take_all k list (omega arith) in
@@ -64,7 +64,7 @@ whole_begins own list k h p =
     let most : k ≤ n = h.in_list in
     omega arith
 
--- what is kept of a beginning
+-- the invariant of a log's beginning
 pub keeps_beginning : (classes : Classes) (es fs : List Entry) (objects before : PlainObjects) (places cut : Places) (k : ℕ) → Keeps classes es objects places →
     fs ≡ take k es → before ≡ fold classes (take k (requests_of es)) → ArePlaces cut (take k (requests_of es)) → Keeps classes fs before cut
 keeps_beginning classes es fs objects before places cut k h f o at =
@@ -90,7 +90,7 @@ module _ {X : Type 0} where
   get_in_take (x ∷ xs) (suc n) zero h = refl
   get_in_take (x ∷ xs) (suc n) (suc k) h = get_in_take xs n k (omega (arith, h))
 
--- one request more in common
+-- one more common request
 pub common_more : (xs ys : List ClientRequest) (k : ℕ) (a b : ClientRequest) → slice_get xs k ≡ Some a → slice_get ys k ≡ Some b → a ≡ b → take k xs ≡ take k ys →
     take (k + 1) xs ≡ take (k + 1) ys
 common_more xs ys k a b p q same e =
@@ -104,7 +104,7 @@ above n k h = ⊎_elim (λ w. w) (λ w. absurd (h w)) (split_le n k)
     split_le (suc n) zero = inr (omega arith)
     split_le (suc n) (suc k) = ⊎_elim (λ w. inl (omega (arith, w))) (λ w. inr (omega (arith, w))) (split_le n k)
 
--- no more in common
+-- the common beginning ends at two different requests
 pub common_ends : (xs ys : List ClientRequest) (k : ℕ) (a b : ClientRequest) → slice_get xs k ≡ Some a → slice_get ys k ≡ Some b → (a ≡ b → ⊥) → take k xs ≡ take k ys →
     IsCommonBeginning xs ys k
 common_ends xs ys k a b p q differ e =
@@ -117,7 +117,7 @@ common_ends xs ys k a b p q differ e =
       longest = λ n h i t. above n k (λ l. differ (same_Some a b (sym p ∙ sym (get_in_take xs n k l) ∙ ap (λ w. slice_get w k) t ∙ get_in_take ys n k l ∙ q)));
     }
 
--- all of one list in common
+-- the common beginning is all of one list
 pub common_whole : (xs ys : List ClientRequest) (k : ℕ) → k ≤ length xs → k ≤ length ys → length xs ≤ k ⊎ length ys ≤ k → take k xs ≡ take k ys → IsCommonBeginning xs ys k
 common_whole xs ys k p q all e = record {
   in_own = p;
@@ -143,19 +143,19 @@ module _ {X : Type 0} where
   take-take [] (suc k) = refl
   take-take (x ∷ xs) (suc k) = ap (λ l. x ∷ l) (take-take xs k)
 
-  -- a beginning of a longer list
+  -- a beginning of a list is one of each longer list
   pub take-longer : (xs ys : List X) (k : ℕ) → k ≤ length xs → take k (xs ++ ys) ≡ take k xs
   take-longer xs ys zero h = refl
   take-longer [] ys (suc k) h = absurd (omega (arith, h))
   take-longer (x ∷ xs) ys (suc k) h = ap (λ l. x ∷ l) (take-longer xs ys k (omega (arith, h)))
 
--- a beginning, whatever follows it
+-- a beginning doesn't depend on the entries after it
 pub take_own : (es fs : List Entry) (k : ℕ) → k ≤ length es → take k (requests_of (take k es ++ fs)) ≡ take k (requests_of es)
 take_own es fs zero h = refl
 take_own [] fs (suc k) h = absurd (omega (arith, h))
 take_own (e ∷ es) fs (suc k) h = ap (λ l. e.request ∷ l) (take_own es fs k (omega (arith, h)))
 
--- why the rest can't be run, at a request of it that can't, or where memory is short
+-- the rest can't be run: one of its requests is refused, or memory is short
 pub rest_refuses : (table : Classes) (list : List ClientRequest) (at k : ℕ) (r : ClientRequest) (e : LogError) → 0 < at → slice_get list k ≡ Some r →
     rest_refusal table list at ≡ rest_refusal table list k → Refuses (refusal table (take k list) r) e → RestRefuses table list at e
 rest_refuses table list at k r e h there left why =
@@ -163,7 +163,7 @@ rest_refuses table list at k r e h there left why =
     (λ w. Refused (left ∙ ap (first_refusal_from table (take k list)) (drop_get list k r there) ∙ ap (λ o. or_else o (first_refusal_from table (take k list ++ r ∷ []) (drop (k + 1) list))) w))
     (λ w. Short w.0 (inl h)) why
 
--- the same of a whole list
+-- the same for a whole list
 pub list_refuses : (table : Classes) (list : List ClientRequest) (k : ℕ) (r : ClientRequest) (e : LogError) → slice_get list k ≡ Some r →
     first_refusal table (take k list) ≡ None → first_refusal table list ≡ first_refusal_from table (take k list) (drop k list) →
     Refuses (refusal table (take k list) r) e → (first_refusal table list ≡ Some e) ⊎ ((e ≡ NoMemory) × SomeCanRun table list)
@@ -179,7 +179,7 @@ rest_more table list k r there why =
     ∙ ap (λ o. or_else o (first_refusal_from table (take k list ++ r ∷ []) (drop (k + 1) list))) why
     ∙ ap (λ w. first_refusal_from table w (drop (k + 1) list)) (sym (take_get list k r there))
 
--- what a log is cut back to, with what was cut off
+-- if a log still begins with its first k entries, these and the entries cut off are the log before
 pub cut_entries : (es begun fs tail : List Entry) (k : ℕ) → k ≤ length es → begun ≡ take k es → tail ≡ drop k es → IsPrefix begun fs → take k fs ++ tail ≡ es
 cut_entries es begun fs tail k h b t p =
     let long : length begun ≡ k = ap (λ l. length l) b ∙ length-beginning es k h in
@@ -193,7 +193,7 @@ cut_again es begun fs tail k h b t p =
     ap (λ (w : List ClientRequest). w ++ requests_of tail) (sym (requests_of-take fs k))
     ∙ sym (requests_of-append (take k fs) tail) ∙ ap requests_of (cut_entries es begun fs tail k h b t p)
 
--- the objects before the last entry of a beginning
+-- undoing the last entry of a beginning gives the objects before it
 pub undone_more : (classes : Classes) (es : List Entry) (objects : PlainObjects) (k : ℕ) (e : Entry) → AreEntries classes fin.empty es → slice_get es k ≡ Some e →
     objects ≡ fold classes (requests_of (take (k + 1) es)) → undone objects e.request.object e.change ≡ fold classes (requests_of (take k es))
 undone_more classes es objects k e h at is =
@@ -210,7 +210,7 @@ prefix_long xs ys p =
     let e : length (xs ++ p.0) ≡ length ys = ap (λ (w : List Entry). length w) p.1 in
     let s = length-append xs p.0 in omega (arith, e, s)
 
--- as many entries as requests
+-- there are as many requests as entries
 length_requests : (es : List Entry) → length (requests_of es) ≡ length es
 length_requests [] = refl
 length_requests (e ∷ es) = ap suc (length_requests es)
@@ -219,12 +219,12 @@ pub entries_long : (es : List Entry) (log : List ClientRequest) (k : ℕ) → re
 entries_long es log k e h =
     let s : length log ≡ length es = sym (ap (λ (w : List ClientRequest). length w) e) ∙ length_requests es in omega (arith, h, s)
 
--- an entry was added, or the list stayed
+-- the old log is a beginning of the new one, if an entry was added and if none was
 pub prefix_added : (r : Result (Unit {0}) LogError) (xs ys : List Entry) (e : Entry) → OnOk r (ys ≡ xs ++ e ∷ []) → IfErr r (λ w. (w ≡ NoMemory) × (ys ≡ xs)) → IsPrefix xs ys
 prefix_added (Ok u) xs ys e h f = (e ∷ [], sym h)
 prefix_added (Err w) xs ys e h f = ([], append-nil xs ∙ sym f.1)
 
--- refusals of a list go on after a beginning that isn't refused
+-- after a beginning that isn't refused, the refusal of a list is that of the rest
 refusals_go_on : (classes : Classes) (before xs ys : List ClientRequest) → first_refusal_from classes before xs ≡ None →
     first_refusal_from classes before (xs ++ ys) ≡ first_refusal_from classes (before ++ xs) ys
 refusals_go_on classes before [] ys e = ap (λ w. first_refusal_from classes w ys) (sym (append-nil before))
@@ -234,7 +234,7 @@ refusals_go_on classes before (x ∷ xs) ys e =
     ∙ refusals_go_on classes (before ++ x ∷ []) xs ys o.1
     ∙ ap (λ w. first_refusal_from classes w ys) (append_assoc before (x ∷ []) xs)
 
--- a list is put in place of a legal log as it would be replayed
+-- adopting a list in place of a legal log is refused as replaying it is
 pub as_replayed : (classes : Classes) (own list : List ClientRequest) (k : ℕ) → Legal classes own → IsCommonBeginning own list k → IsAsReplayed classes list k
 as_replayed classes own list k l c =
     let L : List ClientRequest → Type 0 = Legal classes in

@@ -1,4 +1,4 @@
--- What a group keeps, by a name with classes added.
+-- The invariant of a group holds also by a longer table of classes.
 use Rattle.std.proofs.Common.{◌≡◌, ℕ, suc, List, [], ◌∷◌, ◌++◌, Some, sym, ◌∙◌, subst, refl}
 use Rattle.std.specs.List.{slice_get}
 use Rattle.std.specs.FinMap as fin

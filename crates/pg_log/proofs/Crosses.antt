@@ -1,5 +1,5 @@
--- An entry and a group may go to another thread: their parts one by one, since a search of all of
--- them at once is too long.
+-- An entry and a group may go to another thread. Each part is proved by itself, since one search
+-- over all of them is too long.
 use denote.Param.Send.{IsSend, AllSend, sendable, view_send, recorded_send, struct_send}
 use denote.RattleType.{RattleType}
 use denote.Struct.Declared.{shape}

@@ -1,4 +1,4 @@
--- Refusals against legal lists.
+-- There is no refusal exactly if a request may follow a list, or if a list is legal.
 use Rattle.std.proofs.Common.{◌≡◌, ℕ, zero, suc, ◌<◌, ◌≤◌, Bool, true, false, cond, List, [], ◌∷◌, ◌++◌, length, Option, Some, None, refl, ap, sym, ◌∙◌, subst, arith, append_assoc, append-nil, ◌↔◌, nat_le, ◌||◌, take, ◌+◌}
 use Rattle.std.specs.List.{slice_get}
 use Rattle.std.proofs.lemmas.Option.{none-some, same_Some, slice_get_within}
@@ -100,7 +100,7 @@ or_else-none : (o : Option LogError) → or_else o None ≡ o
 or_else-none None = refl
 or_else-none (Some why) = refl
 
--- one request more
+-- one more request
 first_refusal_from-push : (classes : Classes) (before xs : List ClientRequest) (r : ClientRequest) →
     first_refusal_from classes before (xs ++ r ∷ []) ≡ or_else (first_refusal_from classes before xs) (refusal classes (before ++ xs) r)
 first_refusal_from-push classes before [] r =
@@ -110,7 +110,7 @@ first_refusal_from-push classes before (x ∷ xs) r =
     ∙ ap (λ w. or_else (first_refusal_from classes (before ++ x ∷ []) xs) (refusal classes w r)) (append_assoc before (x ∷ []) xs))
     ∙ or_else-or_else (refusal classes before x) _ _
 
--- a request that may follow those before it, none of which is refused
+-- a request that may follow those before it, if none of those is refused
 pub unrefused_next : (classes : Classes) (list : List ClientRequest) (k : ℕ) (r : ClientRequest) → slice_get list k ≡ Some r →
     first_refusal classes (take k list) ≡ None → refusal classes (take k list) r ≡ None → first_refusal classes (take (k + 1) list) ≡ None
 unrefused_next classes list k r e before now =

@@ -1,4 +1,4 @@
--- The index of places: what it answers of its list, and one request more.
+-- The index of places: its answers for a list, and the index of one more request.
 use Rattle.std.proofs.Common.{◌≡◌, ℕ, zero, suc, ◌<◌, ◌≤◌, ◌+◌, Bool, true, false, cond, ◌&&◌, ◌||◌, ◌==◌, nat_le, nat_lt, List, [], ◌∷◌, ◌++◌, length, get_or, Option, Some, None, refl, ap, sym, ◌∙◌, arith, add-zero, zero-add, append-nil, subst, take, ◌-◌, length-append, Vec, Global}
 use Rattle.std.specs.List.{slice_get, AllByRecursion, AllWithin}
 use Rattle.std.specs.List.Sorted.{IsNonDecreasingBy}
@@ -52,7 +52,7 @@ place_in-standing_from client number at (x ∷ xs) =
     place_in-cond (x.client == client) number (x.number, at) (standing_from client (suc at) xs)
     ∙ placed (x.client == client) (x.number == number) at _ _ (place_in-standing_from client number (suc at) xs)
 
--- the place of a pair, by the requests of its client
+-- the place of a pair in a list is that of the number among the client's requests
 pub place_in-standing : (client number : ℕ) (xs : List ClientRequest) → place_in number (standing client xs) ≡ place_of client number xs
 place_in-standing client number xs = place_in-standing_from client number 0 xs ∙ shifted-zero _
 
@@ -64,7 +64,7 @@ reached : (b c f g : Bool) → f ≡ g → cond b (c || f) f ≡ ((b && c) || g)
 reached true c f g e = ap (λ w. c || w) e
 reached false c f g e = e
 
--- whether a client has reached a number, by its requests
+-- a client's requests reach a number exactly if the list does
 pub reaches_in-standing_from : (client number at : ℕ) (xs : List ClientRequest) → reaches_in number (standing_from client at xs) ≡ is_reached client number xs
 reaches_in-standing_from client number at [] = refl
 reaches_in-standing_from client number at (x ∷ xs) =
@@ -93,7 +93,7 @@ rising client at (x ∷ xs) h =
       | false ↦ λ t. rest
     ] refl
 
--- what is found among a client's requests is the list's
+-- the place that is found among a client's requests is that in the list
 pub place_found : (items : List (ℕ × ℕ)) (client number k n : ℕ) (xs : List ClientRequest) → NumbersRise xs → items ≡ standing k xs → k ≡ client → n ≡ number →
     (o : Option ℕ) → (IsRising items → o ≡ place_in n items) → o ≡ place_of client number xs
 place_found items client number k n xs rise at c e o is =
@@ -124,7 +124,7 @@ or_false false = refl
 or_higher : (number low high : ℕ) → low < high → (nat_le number low || nat_le number high) ≡ nat_le number high
 or_higher number low high l = grind (arith, nat_tests)
 
--- whether a number is reached, by the last one
+-- a number is reached exactly if the last request's number is equal or greater
 last_reaches : (number n : ℕ) (xs : List (ℕ × ℕ)) (p : ℕ × ℕ) → IsRising xs → suc n ≡ length xs → slice_get xs n ≡ Some p → reaches_in number xs ≡ nat_le number p.0
 last_reaches number n [] p h l e = absurd (none-some p e)
 last_reaches number zero (x ∷ []) p h l e =
@@ -174,7 +174,7 @@ abbrev pub found : ℕ → Option (ℕ × ℕ) → Option ℕ
 found number None = None
 found number (Some p) = cond (p.0 == number) (Some p.1) None
 
--- the place of a number, by the first that isn't below it
+-- the place of a number, found at the first request whose number isn't below it
 pub place_in-point : (number i : ℕ) (xs : List (ℕ × ℕ)) → IsRising xs → AllWithin (λ y. nat_lt y.0 number ≡ true) xs 0 i → AllWithin (λ y. nat_lt y.0 number ≡ false) xs i (length xs) →
     found number (slice_get xs i) ≡ place_in number xs
 place_in-point number i [] h low high = refl
@@ -200,7 +200,7 @@ found-miss number p e =
     let no : (p.0 == number) ≡ false = grind (arith, nat_tests) in
     ap (λ b. cond b (Some p.1) None) (sym no)
 
--- where no number is that high
+-- a number that isn't reached has no place
 pub place_in-unreached : (number : ℕ) (xs : List (ℕ × ℕ)) → reaches_in number xs ≡ false → None ≡ place_in number xs
 place_in-unreached number [] e = refl
 place_in-unreached number (x ∷ xs) e =
@@ -250,7 +250,7 @@ one_less client q items before xs r is at c =
           whole ∙ ap (λ b. standing q xs ++ cond b ((r.number, 0 + length xs) ∷ []) []) no ∙ append-nil (standing q xs)
     ] refl
 
--- the index with a client's requests as given
+-- the index after one client's requests were replaced
 changed : (m n : BTreeMap ℕ (Vec (ℕ × ℕ) Global)) (client : ℕ) (v : Vec (ℕ × ℕ) Global) → tree.Updates nat_cmp m n client (Some v) →
     (q : ℕ) → kept_of (tree.get nat_cmp n q) ≡ cond (client == q) v.items (kept_of (tree.get nat_cmp m q))
 changed m n client v u q =
@@ -263,7 +263,7 @@ pub added : (m n : BTreeMap ℕ (Vec (ℕ × ℕ) Global)) (client number place 
 added m n client number place v u is xs r at c k p q =
     changed m n client v u q ∙ one_more client q number place v.items (kept_of (tree.get nat_cmp m q)) xs r (λ e. is ∙ ap (λ w. kept_of (tree.get nat_cmp m w) ++ (number, place) ∷ []) e) (at q) c k p
 
--- taken back
+-- the last request of a client is taken back
 pub taken : (m n : BTreeMap ℕ (Vec (ℕ × ℕ) Global)) (client : ℕ) (v w : Vec (ℕ × ℕ) Global) → tree.Updates nat_cmp m n client (Some v) →
     tree.get nat_cmp m client ≡ Some w → v.items ≡ take (length w.items - 1) w.items →
     (xs : List ClientRequest) (r : ClientRequest) → ((q : ℕ) → kept_of (tree.get nat_cmp m q) ≡ standing q (xs ++ r ∷ [])) →
@@ -272,7 +272,7 @@ taken m n client v w u was is xs r at c q =
     changed m n client v u q ∙ one_less client q v.items (kept_of (tree.get nat_cmp m q)) xs r
     (λ e. is ∙ ap (λ (l : List (ℕ × ℕ)). take (length l - 1) l) (sym (ap (λ o. kept_of o) was) ∙ ap (λ k. kept_of (tree.get nat_cmp m k)) e)) (at q) c
 
--- a client has a request of a list that it ends
+-- the index has the client whose request ends the list
 pub last_kept : (o : Option (Vec (ℕ × ℕ) Global)) (client : ℕ) (xs : List ClientRequest) (r : ClientRequest) → o ≡ None → kept_of o ≡ standing client (xs ++ r ∷ []) → client ≡ r.client → ⊥
 last_kept o client xs r none at c =
     let yes : (r.client == client) ≡ true = grind (arith, nat_tests) in

@@ -1,4 +1,4 @@
--- What a group keeps of its list, where it is read and where a request is added.
+-- The invariant of a group, as it is used by reading and kept by adding a request.
 use Rattle.std.proofs.Common.{◌≡◌, ℕ, zero, suc, true, false, List, [], ◌∷◌, ◌++◌, length, take, drop, ◌+◌, Some, None, Result, Ok, Err, is_err, OnErr, OnOk, IfOk, IfErr, Option, ◌⊎◌, inl, inr, option_map, refl, ap, sym, ◌∙◌, subst, ⊎_elim}
 use Rattle.std.specs.List.{slice_get}
 use Rattle.std.specs.Int.{w64, cast_unsigned}
@@ -71,7 +71,7 @@ kept_last : (classes : Classes) (objects : PlainObjects) (es : List Entry) (e : 
 kept_last classes objects [] e h = h.0
 kept_last classes objects (x ∷ es) e h = kept_last classes (after classes objects x.request) es e h.1
 
--- the last entry's change undone
+-- the last entry's change is undone
 pub undone_last : (classes : Classes) (es : List Entry) (e : Entry) → AreEntries classes fin.empty (es ++ e ∷ []) →
     undone (fold classes (requests_of (es ++ e ∷ []))) e.request.object e.change ≡ fold classes (requests_of es)
 undone_last classes es e h =
@@ -80,7 +80,7 @@ undone_last classes es e h =
     ap (λ w. undone w e.request.object e.change) (ap (fold classes) (requests_of-push es e) ∙ sym (folded_push classes xs e o))
     ∙ undone-stored (fold classes xs) e.request.object e.change o.from_before
 
--- what is kept, with one entry more
+-- the invariant with one more entry
 pub keeps_push : (classes : Classes) (es : List Entry) (objects next : PlainObjects) (places more : Places) (e : Entry) →
     Keeps classes es objects places → Legal classes (requests_of es ++ e.request ∷ []) →
     IsSafeRequest classes e.request → IsOutcomeOn classes (fold classes (requests_of es)) e.request e.code e.output.items e.change →
@@ -99,7 +99,7 @@ keeps_push classes es objects next places more e k l s o is at =
       indexed = subst Q q at;
     }
 
--- what is kept, where nothing was added
+-- the invariant if nothing was added
 pub keeps_same : (classes : Classes) (es fs : List Entry) (objects next : PlainObjects) (places more : Places) →
     Keeps classes es objects places → fs ≡ es → next ≡ objects → ArePlaces more (requests_of es) → Keeps classes fs next more
 keeps_same classes es fs objects next places more k p q at =
@@ -123,7 +123,7 @@ entry_follows classes es k e l p =
 pub entry_next : (es : List Entry) (k : ℕ) (e : Entry) → slice_get es k ≡ Some e → take k (requests_of es) ++ e.request ∷ [] ≡ take (k + 1) (requests_of es)
 entry_next es k e p = sym (take_get (requests_of es) k e.request (requests_at es k e p))
 
--- what keeping a request that wasn't logged makes of an append
+-- the result of an append that keeps a request which wasn't logged
 pub kept_answer : (place : Option ℕ) (why : Option LogError) (xs new : List ClientRequest) (s : ClientRequest) (o : Result ℕ LogError) → place ≡ None → why ≡ None →
     IfOk o (λ k. (k ≡ length xs) × (new ≡ xs ++ s ∷ [])) → IfErr o (λ e. (e ≡ NoMemory) × (new ≡ xs)) →
     (o ≡ answer_of place why (length xs)) ⊎ ((o ≡ Err NoMemory) × (place ≡ None) × (why ≡ None))

@@ -1,4 +1,4 @@
--- Which lists are legal: beginnings, and one request more.
+-- Legal lists: their beginnings, and one more request.
 use Rattle.std.proofs.Common.{◌<◌, List, [], ◌∷◌, ◌++◌, length, ap, sym, ◌∙◌, subst, arith, length-append, ⊎_elim}
 use Rattle.std.proofs.lemmas.Option.{none-some, slice_get_within}
 use Rattle.pg_log.specs.Requests.{ClientRequest}

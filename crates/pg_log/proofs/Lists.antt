@@ -14,7 +14,7 @@ module _ {X : Type 0} where
   get_last [] x = refl
   get_last (y ∷ xs) x = get_last xs x
 
-  -- what stands in a list with one element more
+  -- an element of a list with one more at the end
   pub get_push : (xs : List X) (x a : X) (i : ℕ) → slice_get (xs ++ x ∷ []) i ≡ Some a → ((i < length xs) × (slice_get xs i ≡ Some a)) ⊎ ((i ≡ length xs) × (a ≡ x))
   get_push [] x a zero e = inr (refl, sym (same_Some x a e))
   get_push [] x a (suc i) e = absurd (none-some a e)
@@ -22,7 +22,7 @@ module _ {X : Type 0} where
   get_push (y ∷ xs) x a (suc i) e =
       ⊎_elim (λ h. inl (omega (arith, h.0), h.1)) (λ h. inr (ap suc h.0, h.1)) (get_push xs x a i e)
 
-  -- what stands in a beginning
+  -- an element of a beginning
   pub get_take : (xs : List X) (n i : ℕ) (a : X) → slice_get (take n xs) i ≡ Some a → slice_get xs i ≡ Some a
   get_take [] zero i a e = e
   get_take [] (suc n) i a e = e

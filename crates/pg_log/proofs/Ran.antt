@@ -1,4 +1,4 @@
--- What running a request tells: refusals, one by one, and the outcome.
+-- Running a request gives a refusal or an outcome: the conditions of each.
 use Rattle.std.proofs.Common.{◌≡◌, ℕ, ℤ, ◌<◌, ◌≤◌, true, false, cond, nat_le, List, [], ◌∷◌, ◌++◌, length, Option, Some, None, Result, Ok, Err, IfOk, ap, sym, ◌∙◌, subst, arith}
 use Rattle.std.specs.List.{slice_get, AllByRecursion}
 use Rattle.std.specs.FinMap as fin
@@ -46,7 +46,7 @@ pub refusal-class : (classes : Classes) (xs : List ClientRequest) (r : ClientReq
 refusal-class classes xs r h e =
     refusal-room classes xs r h ∙ ap (λ b. cond b (Some StaleNumber) (refusal_of_class (slice_get classes r.class) r)) e
 
--- each method of a class is a method, so that of a name is
+-- all methods of a class are within the limits, so the one of a name is
 pub method_named-is : (class : List ClassMethod) (name : List ℕ) (m : ClassMethod) → AllByRecursion IsMethod class → method_named class name ≡ Some m → IsMethod m
 method_named-is [] name m h e = absurd (none-some m e)
 method_named-is (x ∷ class) name m h e =
@@ -55,7 +55,7 @@ method_named-is (x ∷ class) name m h e =
       | false ↦ λ q. method_named-is class name m h.1 q
     ] e
 
--- an answered call is the outcome of the method
+-- an answered call has the machine's outcome of the method
 pub ran : OutcomesAreOne → (m : ClassMethod) → IsMethod m → (object : PlainObject) (r : ClientRequest) (o : Outcome) →
     AnswersMethod m object r.client r.input o → IsOutcome (Some m) object r o.code o.output.items o.change
 unfolding outcome_of_method
@@ -72,7 +72,7 @@ more-outcome classes more objects r code output change c o =
 pub more-safe : (classes more : Classes) (r : ClientRequest) → CanRun classes r → IsSafeRequest classes r → IsSafeRequest (classes ++ more) r
 more-safe classes more r c s m n = s m (sym (ap (λ o. method_in o r.method) (loaded-more classes more r c)) ∙ n)
 
--- what may follow by the given table may follow by the named one, with the same outcome
+-- a request that may follow by the given table may follow by the named one, with the same outcome
 pub next_legal : (table classes : Classes) (xs : List ClientRequest) (r : ClientRequest) → IsPrefix table classes → Legal classes xs → refusal table xs r ≡ None → Legal classes (xs ++ r ∷ [])
 next_legal table classes xs r pre l e =
     let f = follows_unrefused table xs r e in
@@ -92,7 +92,7 @@ next_safe table classes xs r pre e s =
     let P : Classes → Type 0 = λ w. IsSafeRequest w r in
     subst P pre.1 (more-safe table pre.0 r f.run s)
 
--- an entry that was made of a request and its outcome
+-- an entry that was made from a request and its outcome may be kept
 pub entry_made : (classes : Classes) (xs : List ClientRequest) (r : ClientRequest) (o : Outcome) (e : Entry) →
     e.request ≡ r → e.code ≡ o.code → e.output.items ≡ o.output.items → e.change ≡ o.change →
     Legal classes (xs ++ r ∷ []) → IsSafeRequest classes r → IsOutcomeOn classes (fold classes xs) r o.code o.output.items o.change → IsNextEntry classes xs e
@@ -109,7 +109,7 @@ entry_made classes xs r o e request code output change legal safe ran =
       outcome = subst R (sym request) (subst C (sym code) (subst U (sym output) (subst D (sym change) ran)));
     }
 
--- the same of one that may want memory
+-- the same if memory for the entry may be refused
 pub entry_copied : (classes : Classes) (xs : List ClientRequest) (r : ClientRequest) (o : Outcome) (made : Result Entry LogError) →
     IfOk made (λ e. e.request ≡ r) → IfOk made (λ e. e.code ≡ o.code) → IfOk made (λ e. e.output.items ≡ o.output.items) → IfOk made (λ e. e.change ≡ o.change) →
     Legal classes (xs ++ r ∷ []) → IsSafeRequest classes r → IsOutcomeOn classes (fold classes xs) r o.code o.output.items o.change → IfOk made (λ e. IsNextEntry classes xs e)

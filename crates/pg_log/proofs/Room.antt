@@ -1,4 +1,4 @@
--- Room in the index: a list's own requests have it, and it stays.
+-- Room in the index: a list's own requests have it, and it never shrinks.
 use Rattle.std.proofs.Common.{◌≡◌, ℕ, suc, ◌<◌, ◌≤◌, Bool, true, false, cond, ◌==◌, List, [], ◌∷◌, ◌++◌, length, Option, Some, None, refl, ap, sym, ◌∙◌, arith, subst, Vec, Global, IsOk, Result, Ok, Err, is_err, take, drop, ◌+◌, rules}
 use Rattle.std.specs.List.{slice_get}
 use Rattle.std.proofs.lemmas.List.{take-append-drop}
@@ -11,7 +11,7 @@ use Rattle.pg_log.specs.Requests.{ClientRequest}
 use Rattle.pg_log.specs.Places.{standing_from, standing, kept_of, room_of, ArePlaces, HasRoom, RoomStays}
 use Rattle.pg_log.proofs.Lists.{drop_get}
 
--- a request of a client adds to the client's requests
+-- one more request of a client makes the list of its requests longer
 pub more_standing : (client at : ℕ) (xs : List ClientRequest) (r : ClientRequest) (ys : List ClientRequest) → r.client ≡ client →
     length (standing_from client at xs) < length (standing_from client at (xs ++ r ∷ ys))
 more_standing client at [] r ys e =
@@ -61,7 +61,7 @@ room_of-cond true o v h =
     omega (arith, none)
 room_of-cond false o v h = omega arith
 
--- room where a client that had no request comes in
+-- no client has less room after the first requests of another client are put in
 pub room_put : (m n : BTreeMap ℕ (Vec (ℕ × ℕ) Global)) (key : ℕ) (v : Vec (ℕ × ℕ) Global) → tree.Updates nat_cmp m n key (Some v) → None ≡ tree.get nat_cmp m key →
     (client : ℕ) → room_of (tree.get nat_cmp m client) ≤ room_of (tree.get nat_cmp n client)
 room_put m n key v u none client =
@@ -69,7 +69,7 @@ room_put m n key v u none client =
     subst P (sym (u.0 client)) (room_of-cond (is_eq (nat_cmp key client)) (tree.get nat_cmp m client) v
     (λ t. let e : key ≡ client = grind (arith, nat_tests) in ap (λ k. room_of (tree.get nat_cmp m k)) (sym e) ∙ ap (λ o. room_of o) (sym none)))
 
--- the next request of a list adds to its client's requests
+-- the next request of a list makes the list of its client's requests longer
 pub next_standing : (client : ℕ) (xs : List ClientRequest) (k : ℕ) (r : ClientRequest) → slice_get xs k ≡ Some r → r.client ≡ client →
     length (standing client (take k xs)) < length (standing client xs)
 next_standing client xs k r e c =

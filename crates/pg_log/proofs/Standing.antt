@@ -40,14 +40,14 @@ place_of-has (r ∷ rs) client number place e =
           (w.0, ap (slice_get (r ∷ rs)) p.2 ∙ w.1, w.2, w.3)
     ] refl e
 
--- which is in range
+-- that place is in range
 pub place_of-within : (xs : List ClientRequest) (client number place : ℕ) → place_of client number xs ≡ Some place →
     (place < length xs) × (a : ClientRequest) × (slice_get xs place ≡ Some a) × (a.client ≡ client) × (a.number ≡ number)
 place_of-within xs client number place e =
     let w = place_of-has xs client number place e in
     (slice_get_within xs place w.0 w.1, w.0, w.1, w.2, w.3)
 
--- a request that stands in a list has a place
+-- the pair of each request in a list has a place
 pub place_of-there : (xs : List ClientRequest) (i : ℕ) (a : ClientRequest) → slice_get xs i ≡ Some a → (k : ℕ) × (place_of a.client a.number xs ≡ Some k)
 place_of-there [] i a e = absurd (none-some a e)
 place_of-there (x ∷ xs) zero a e = (

@@ -1,4 +1,4 @@
--- Objects by name where one was put.
+-- Objects by name, after one was stored.
 use Rattle.std.proofs.Common.{◌≡◌, ℕ, Bool, true, false, cond, List, Some, None, refl, ap, ◌∙◌}
 use Rattle.std.specs.Ordering.{nat_cmp, is_eq, eq_by_cmp}
 use Rattle.std.specs.declared.cmp.Ordering.{Ordering}
@@ -33,7 +33,7 @@ cond-cond : (b : Bool) (x y z : PlainObject) → cond b x (cond b y z) ≡ cond 
 cond-cond true x y z = refl
 cond-cond false x y z = refl
 
--- to put back what was there restores all
+-- storing an object's old state again restores all objects
 stored-back : (objects : PlainObjects) (name : List ℕ) (o : PlainObject) → stored (stored objects name o) name (fin.get objects name) ≡ objects
 stored-back objects name o =
     fin.same_map nat_list_cmp_total (slice_cmp-IsAntisymmetric nat_cmp-IsAntisymmetric) _ _
@@ -42,7 +42,7 @@ stored-back objects name o =
     ∙ cond-cond (eq_by_cmp (slice_cmp nat_cmp) q name) (fin.get objects name) o (fin.get objects q)
     ∙ tie objects name q)
 
--- what was done to an object is undone
+-- undoing a change gives the objects before it
 pub undone-stored : (objects : PlainObjects) (name : List ℕ) (change : Versions) → change.before ≡ fin.get objects name →
     undone (stored objects name change.after) name change ≡ objects
 undone-stored objects name change h = ap (stored (stored objects name change.after) name) h ∙ stored-back objects name change.after

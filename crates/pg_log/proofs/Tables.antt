@@ -1,4 +1,4 @@
--- What a table with classes added makes of a list.
+-- A legal list by a table with classes added.
 use Rattle.std.proofs.Common.{◌≡◌, ℕ, suc, List, [], ◌∷◌, ◌++◌, take, Option, Some, None, refl, ap, ◌∙◌}
 use Rattle.std.specs.List.{slice_get}
 use Rattle.std.specs.FinMap as map

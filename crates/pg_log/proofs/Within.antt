@@ -21,14 +21,14 @@ within_cond : (b : Bool) (x y : PlainObject) → IsObject x → IsObject y → I
 within_cond true x y h k = h
 within_cond false x y h k = k
 
--- the objects where one within the limits is stored
+-- storing an object within the limits keeps all objects within them
 store_within : (objects : PlainObjects) (name : List ℕ) (o : PlainObject) → AreWithinLimits objects → IsObject o → AreWithinLimits (stored objects name o)
 store_within objects name None h k q =
     subst IsObject (sym (map.get-remove nat_list_cmp_total objects name q)) (within_cond (eq_by_cmp (slice_cmp nat_cmp) q name) None (map.get objects q) k (h q))
 store_within objects name (Some c) h k q =
     subst IsObject (sym (map.get-insert nat_list_cmp_total objects name c q)) (within_cond (eq_by_cmp (slice_cmp nat_cmp) q name) (Some c) (map.get objects q) k (h q))
 
--- what a method leaves
+-- a method leaves its object within the limits
 left_within : CallsAreWithinLimits → (method : Option ClassMethod) (o : PlainObject) (r : ClientRequest) → IsObject o → IsRequest r →
     ((m : ClassMethod) → method ≡ Some m → (length r.input ≤ m.in_cap) × IsMethod m) → IsObject (outcome_of_method method o r).object
 unfolding outcome_of_method
@@ -57,7 +57,7 @@ pub takes_input : (classes : Classes) (r : ClientRequest) → CanRun classes r �
 takes_input classes r can m e =
     subst (λ n. length r.input ≤ n) (same_method (sym can.named ∙ ap (λ c. method_in c r.method) (sym can.loaded) ∙ e)) can.short
 
--- and is within its class's limits
+-- the method of a request is within its class's limits
 pub is_method : (classes : Classes) (r : ClientRequest) → AllByRecursion IsClass classes → CanRun classes r → (m : ClassMethod) → method_of classes r ≡ Some m → IsMethod m
 is_method classes r all can m e =
     method_named-is can.class r.method m (loaded_class classes r.class can.class all can.loaded).methods (ap (λ c. method_in c r.method) (sym can.loaded) ∙ e)

@@ -1,4 +1,5 @@
--- What a log has in common with a list that it is to become, and why it can't become that list.
+-- The common beginning of a log and a list that is to replace it, and the reason why the list
+-- can't.
 use Rattle.std.specs.Prelude.{◌≡◌, ℕ, ◌<◌, ◌≤◌, ◌⊎◌, List, Option, Some, take, drop, length}
 use Rattle.pg_log.specs.declared.log_error.LogError.{LogError}
 use Rattle.pg_log.specs.declared.log_error.LogError.TheVariants.{NoMemory}
@@ -13,18 +14,17 @@ pub record IsCommonBeginning (own list : List ClientRequest) (k : ℕ) : Type 0 
   pub same : take k own ≡ take k list
   pub longest : (n : ℕ) → n ≤ length own → n ≤ length list → take n own ≡ take n list → n ≤ k
 
--- why what a list has from a place on can't be run after what it has before, if it can't
+-- the refusal of a list's requests from place k on, after the first k, if there is one
 abbrev pub rest_refusal : Classes → List ClientRequest → ℕ → Option LogError
 rest_refusal classes list k = first_refusal_from classes (take k list) (drop k list)
 
--- Why a list can't be put in place of a log that has its first requests, this many, in common with
--- it: the refusal of the first of the others that can't follow those before it, or want of memory.
--- That comes only where the list has a request that is logged, or one that can follow those before
--- it.
+-- Why a list can't replace a log that has its first k requests in common with it: the refusal of
+-- the first other request that can't follow those before it, or want of memory. Want of memory
+-- occurs only if the list has a logged request, or one that can follow those before it.
 pub data RestRefuses (classes : Classes) (list : List ClientRequest) (k : ℕ) (e : LogError) : Type 0 where
   Refused : rest_refusal classes list k ≡ Some e → RestRefuses classes list k e
   Short : e ≡ NoMemory → 0 < k ⊎ SomeCanRun classes list → RestRefuses classes list k e
 
--- the same, of a log
+-- the same for a log, with the common beginning that it has with the list
 abbrev pub AdoptRefuses : Classes → List ClientRequest → List ClientRequest → LogError → Type 0
 AdoptRefuses classes own list e = (k : ℕ) × IsCommonBeginning own list k × RestRefuses classes list k e

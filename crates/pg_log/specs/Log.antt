@@ -1,5 +1,5 @@
--- Which lists of requests are legal, and what a list makes: the objects, and the reply of each
--- request.
+-- The lists of requests that are legal, and the effect of a list: the objects that it makes, and
+-- the reply of each request.
 use Rattle.std.specs.Prelude.{◌≡◌, ℕ, ◌<◌, ◌≤◌, List, [], ◌∷◌, Option, Some, None, slice_get, take, length}
 use Rattle.std.specs.FinMap as map
 use Rattle.bpf_decode.specs.Class.{ClassMethod}
@@ -15,8 +15,8 @@ use Rattle.pg_log.specs.Requests.{ClientRequest}
 abbrev pub Classes : Type 0
 Classes = List (List ClassMethod)
 
--- what a request is answered: the code, as a number below 2 ^ 64 that is read as a signed one, and
--- the output
+-- the reply to a request: the code, as a number below 2 ^ 64 that is read as a signed one, and the
+-- output
 pub record Reply : Type 0 where
   pub code : ℕ
   pub output : List ℕ
@@ -34,13 +34,13 @@ abbrev pub NumbersRise : List ClientRequest → Type 0
 NumbersRise list =
     (i j : ℕ) (a b : ClientRequest) → i < j → slice_get list i ≡ Some a → slice_get list j ≡ Some b → a.client ≡ b.client → a.number < b.number
 
--- A legal list: what a log may hold.
+-- A legal list, which a log may hold: it isn't too long, each request can run, and numbers rise.
 pub record Legal (classes : Classes) (list : List ClientRequest) : Type 0 where
   pub limit : length list ≤ LOG_LIMIT
   pub run : (i : ℕ) (r : ClientRequest) → slice_get list i ≡ Some r → CanRun classes r
   pub rise : NumbersRise list
 
--- the method that a request names, where its class is loaded and has it
+-- the method that a request names, if its class is loaded and has it
 abbrev pub method_in : Option (List ClassMethod) → List ℕ → Option ClassMethod
 method_in None name = None
 method_in (Some class) name = method_named class name
@@ -48,8 +48,8 @@ method_in (Some class) name = method_named class name
 abbrev pub method_of : Classes → ClientRequest → Option ClassMethod
 method_of classes r = method_in (slice_get classes r.class) r.method
 
--- the machine's outcome of a request's method on an object; where there is no such method nothing
--- happens
+-- the machine's outcome of a request's method on an object; without such a method the object stays,
+-- with code 0 and no output
 unfoldable pub outcome_of_method : Option ClassMethod → PlainObject → ClientRequest → Outcome
 outcome_of_method None object r = record { code = 0; output = []; object = object }
 outcome_of_method (Some m) object r = call_outcome m object r.client r.input
@@ -66,15 +66,15 @@ abbrev pub fold_from : Classes → PlainObjects → List ClientRequest → Plain
 fold_from classes objects [] = objects
 fold_from classes objects (r ∷ rs) = fold_from classes (after classes objects r) rs
 
--- The objects of a list: from none, after each request in turn.
+-- The objects of a list: none at first, then changed by each request in turn.
 abbrev pub fold : Classes → List ClientRequest → PlainObjects
 fold classes list = fold_from classes map.empty list
 
--- the reply of a request that stands on these objects
+-- the reply of a request that runs on these objects
 abbrev pub reply_to : Classes → PlainObjects → Option ClientRequest → Option Reply
 reply_to classes objects None = None
 reply_to classes objects (Some r) = Some (record { code = (outcome classes objects r).code; output = (outcome classes objects r).output })
 
--- The reply of the request at a place: its outcome on the fold of those before it.
+-- The reply of the request at a place: its outcome on the objects that those before it make.
 abbrev pub reply_at : Classes → List ClientRequest → ℕ → Option Reply
 reply_at classes list k = reply_to classes (fold classes (take k list)) (slice_get list k)

@@ -1,4 +1,4 @@
--- Where a request stands in a list, and why one can't be added to it.
+-- The place of a request in a list, and the reason why one can't be added.
 use Rattle.std.specs.Prelude.{◌≡◌, ℕ, suc, ◌<◌, ◌⊎◌, List, [], ◌∷◌, ◌++◌, Option, Some, None, Result, Ok, Err, Bool, false, if◌then◌else◌, ◌==◌, ◌&&◌, ◌||◌, nat_lt, nat_le, slice_get, length, take, ◌+◌, codes}
 use Rattle.std.specs.Fmt.{decimal}
 use Rattle.bpf_decode.specs.Class.{ClassMethod}
@@ -26,7 +26,7 @@ name_of NoClass = codes "NoClass"
 name_of NoMethod = codes "NoMethod"
 name_of InputTooLong = codes "InputTooLong"
 
--- what a refusal prints: number, blank and name
+-- the text of a refusal: number, blank and name
 abbrev pub log_error_text : LogError → List ℕ
 log_error_text e = decimal (number_of e) ++ codes " " ++ name_of e
 
@@ -34,7 +34,7 @@ abbrev pub one_later : Option ℕ → Option ℕ
 one_later None = None
 one_later (Some k) = Some (suc k)
 
--- whether a request is of this client and has this number
+-- the request is of this client and has this number
 abbrev pub is_pair : ℕ → ℕ → ClientRequest → Bool
 is_pair client number r = (r.client == client) && (r.number == number)
 
@@ -43,16 +43,16 @@ abbrev pub place_of : ℕ → ℕ → List ClientRequest → Option ℕ
 place_of client number [] = None
 place_of client number (r ∷ rs) = if is_pair client number r then Some 0 else one_later (place_of client number rs)
 
--- whether a request is of this client and has this number or a greater one
+-- the request is of this client and has this number or a greater one
 abbrev pub reaches : ℕ → ℕ → ClientRequest → Bool
 reaches client number r = (r.client == client) && nat_le number r.number
 
--- whether a request of this client has this number or a greater one
+-- a request of this client in the list has this number or a greater one
 abbrev pub is_reached : ℕ → ℕ → List ClientRequest → Bool
 is_reached client number [] = false
 is_reached client number (r ∷ rs) = reaches client number r || is_reached client number rs
 
--- why a method can't run, if it can't
+-- the reason why a method can't run, if there is one
 abbrev pub refusal_of_method : Option ClassMethod → ClientRequest → Option LogError
 refusal_of_method None r = Some NoMethod
 refusal_of_method (Some m) r = if nat_lt m.in_cap (length r.input) then Some InputTooLong else None
@@ -61,28 +61,28 @@ abbrev pub refusal_of_class : Option (List ClassMethod) → ClientRequest → Op
 refusal_of_class None r = Some NoClass
 refusal_of_class (Some class) r = refusal_of_method (method_named class r.method) r
 
--- Why a request can't follow a list, if it can't: the first that applies.
+-- The reason why a request can't follow a list, if there is one: the first that applies.
 abbrev pub refusal : Classes → List ClientRequest → ClientRequest → Option LogError
 refusal classes list r =
     if nat_le LOG_LIMIT (length list) then Some LogFull else
     if is_reached r.client r.number list then Some StaleNumber else
     refusal_of_class (slice_get classes r.class) r
 
--- an error is the refusal, or want of memory where there is none
+-- The error is the refusal, or want of memory if there is no refusal.
 abbrev pub Refuses : Option LogError → LogError → Type 0
 Refuses why e = (why ≡ Some e) ⊎ ((e ≡ NoMemory) × (why ≡ None))
 
--- what an append answers: the place of a logged pair, or the refusal, or the new place
+-- the result of an append: the place of a logged pair, or the refusal, or the new place
 abbrev pub answer_of : Option ℕ → Option LogError → ℕ → Result ℕ LogError
 answer_of (Some place) why next = Ok place
 answer_of None (Some why) next = Err why
 answer_of None None next = Ok next
 
--- What an append answers where there is memory.
+-- The result of an append if there is memory.
 abbrev pub append_answer : Classes → List ClientRequest → ClientRequest → Result ℕ LogError
 append_answer classes list r = answer_of (place_of r.client r.number list) (refusal classes list r) (length list)
 
--- what an answered append makes of the list
+-- the list after an append without refusal: unchanged if the pair was logged
 abbrev pub list_after : Option ℕ → List ClientRequest → ClientRequest → List ClientRequest
 list_after (Some place) list r = list
 list_after None list r = list ++ r ∷ []
@@ -99,7 +99,7 @@ first_refusal_from classes before (r ∷ rs) = or_else (refusal classes before r
 abbrev pub first_refusal : Classes → List ClientRequest → Option LogError
 first_refusal classes list = first_refusal_from classes [] list
 
--- Some request of the list may follow those before it, none of which is refused.
+-- Some request of the list may follow those before it, and none of those is refused.
 pub record SomeCanRun (classes : Classes) (list : List ClientRequest) : Type 0 where
   pub place : ℕ
   pub within : place < length list

@@ -1,12 +1,12 @@
--- What a request asks for, as contracts see it.
+-- A client's request, as contracts see it.
 use Rattle.std.specs.Prelude.{ℕ, List, [], Option, Some, None, string_bytes}
 use Rattle.std.specs.Arc.{arc_value}
 use Rattle.std.specs.declared.sync.Arc.{Arc}
 use Rattle.std.specs.declared.vec.Vec.{Vec}
 use Rattle.pg_log.specs.declared.request_parts.RequestParts.{RequestParts}
 
--- Client and number tell requests apart. The object goes by its name's bytes, the class by its id
--- in the table, the method by its name's bytes.
+-- Client and number identify a request. It names the object and the method by their names' bytes,
+-- the class by its id in the table.
 pub record ClientRequest : Type 0 where
   pub client : ℕ
   pub number : ℕ
@@ -15,7 +15,7 @@ pub record ClientRequest : Type 0 where
   pub method : List ℕ
   pub input : List ℕ
 
--- the request of what the code keeps
+-- the request that the code keeps in these parts
 abbrev pub said_by : RequestParts → ClientRequest
 said_by p = record {
   client = p.client;
@@ -26,7 +26,7 @@ said_by p = record {
   input = p.input.items;
 }
 
--- the list behind a pointer that messages share: none where there is no pointer
+-- the list that messages share by a pointer, which is empty if there is no pointer
 abbrev pub listed : {Y Z : Type 0} → Option (Arc (Vec ClientRequest Y) Z) → List ClientRequest
 listed None = []
 listed (Some all) = (arc_value all).items

@@ -1,4 +1,4 @@
--- What a request at a place of a list did: its method's run.
+-- The run of a request's method at the request's place in a list.
 use Rattle.std.specs.Prelude.{◌≡◌, ℕ, ◌+◌, ◌≤◌, List, Some, slice_get, take, length}
 use Rattle.std.specs.List.{AllByRecursion}
 use Rattle.std.specs.FinMap as map
@@ -11,9 +11,10 @@ use Rattle.pg_log.specs.Log.{Classes, Legal, method_of, fold, reply_at}
 use Rattle.pg_log.specs.Entries.{AreSafe}
 use Rattle.pg_log.specs.Within.{IsRequest}
 
--- The request ran: wherever the regions lie, its method's bytes ran on the object that the requests
--- before it left, to this outcome, in at most as many steps as the method has instructions. Code
--- and output are the reply at the place, and the object after is the one that is left.
+-- The request ran: in every layout of the regions its method's bytes ran on the object that the
+-- requests before it left, to this outcome, in at most as many steps as the method has
+-- instructions. Code and output are the reply at the place, and the object after is the one that is
+-- left.
 pub record RanAt (classes : Classes) (list : List ClientRequest) (k : ℕ) (r : ClientRequest) : Type 0 where
   pub method : ClassMethod
   pub named : method_of classes r ≡ Some method
@@ -24,7 +25,7 @@ pub record RanAt (classes : Classes) (list : List ClientRequest) (k : ℕ) (r : 
   pub reply : reply_at classes list k ≡ Some (record { code = outcome.code; output = outcome.output })
   pub left : fold classes (take (k + 1) list) ≡ stored (fold classes (take k list)) r.object outcome.object
 
--- so did each request of a legal list of safe methods
+-- each request of a legal list of safe methods ran at its place
 abbrev pub RepliesRun : Type 0
 RepliesRun =
     (classes : Classes) (list : List ClientRequest) → AllByRecursion IsClass classes → AllByRecursion IsRequest list → Legal classes list → AreSafe classes list →

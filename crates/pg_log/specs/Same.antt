@@ -1,4 +1,4 @@
--- Entries that say the same, wherever they lie in memory.
+-- Entries with the same content, wherever they lie in memory.
 use Rattle.std.specs.Prelude.{◌≡◌}
 use Rattle.pg_log.specs.declared.entry.Entry.{Entry}
 

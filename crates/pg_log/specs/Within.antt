@@ -8,7 +8,7 @@ use Rattle.object_store.specs.Names.{PlainObjects}
 use Rattle.pg_log.specs.Requests.{ClientRequest}
 use Rattle.pg_log.specs.Log.{Classes, Legal, fold}
 
--- a request as its type holds it: a client's number of 32 bits, and an input of bytes
+-- a request within its type's ranges: a client's number of 32 bits, and an input of bytes
 pub record IsRequest (r : ClientRequest) : Type 0 where
   pub client : r.client < 2 ^ 32
   pub bytes : AreBytes r.input
@@ -17,6 +17,6 @@ pub record IsRequest (r : ClientRequest) : Type 0 where
 abbrev pub AreWithinLimits : PlainObjects → Type 0
 AreWithinLimits objects = (name : List ℕ) → IsObject (map.get objects name)
 
--- so are the objects that a legal list makes by classes, each of which is within its own limits
+-- a legal list makes such objects if its classes and requests are within their own limits
 abbrev pub FoldsAreWithinLimits : Type 0
 FoldsAreWithinLimits = (classes : Classes) (list : List ClientRequest) → AllByRecursion IsClass classes → Legal classes list → AllByRecursion IsRequest list → AreWithinLimits (fold classes list)
