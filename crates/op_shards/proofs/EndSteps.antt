@@ -14,7 +14,7 @@ use Rattle.op_shards.specs.declared.rule.Ranked.{Ranked}
 use Rattle.op_shards.specs.Order.{queue_position, sender, taker, of, IsPartOf, AreFirstOf, IsHere, IsNextAfter, KeptWith, WasKept}
 use Rattle.op_shards.specs.Passes.{Spot, spot_of, Queues, queues_of, spots_from, spots, shard_of, Sent, Got, Sender, Taker, ranked, parts_of, at_shard, pushed_at, after_submit, after_take, SenderWasKept, SenderWasKeptAt, TakerWasKept, TakerWasKeptAt}
 
--- where the queue at an index stands
+-- the spot of the queue at an index
 spot_from : (k n s t : ℕ) (qs : List TableId) (i : ℕ) (q : TableId) (d : Spot) → i < length qs → q ≡ get_or qs i q → get_or (spots_from k n s t qs) i d ≡ spot_of q (queue_position (k + i) n s t)
 spot_from k n s t [] i q d lt at = absurd (omega (arith, lt))
 spot_from k n s t (x ∷ qs) zero q d lt at = let z : k ≡ k + 0 = omega arith in λ j. spot_of (sym at j) (queue_position (z j) n s t)
@@ -30,7 +30,7 @@ length-spots k n s t [] = refl
 length-spots k n s t (x ∷ qs) = ap suc (length-spots (suc k) n s t qs)
 
 module _ {A : Type 0} (spot : A → Spot) (s t : ℕ) where
-  -- the queues that these ends are of
+  -- the queues of these ends
   abbrev queues_by : List A → Queues
   queues_by ends = queues_of (map (λ l. (spot l).queue) ends) s t
 
@@ -74,15 +74,15 @@ MatchOption-weaker : {X : Type 0} (o : Option X) {P P' : Type 0} {Q Q' : X → T
 MatchOption-weaker None m f g = f m
 MatchOption-weaker (Some x) m f g = g x m
 
--- the end of a shard that the pass has
+-- the pass has an end of the shard
 pub in_range : {A : Type 0} (n : A → TableId) (ends : List A) (queues : List TableId) (k : ℕ) (q : TableId) → map n ends ≡ queues → slice_get queues k ≡ Some q → k < length ends
 in_range n ends queues k q is has = let e = ap length is in omega (arith, slice_get_within queues k q has, length-map ends n, e)
 
--- and the queue that it is of
+-- that end is of the shard's queue
 pub queue_at : {A : Type 0} (n : A → TableId) (ends : List A) (queues : List TableId) (k : ℕ) (q : TableId) (x : A) → map n ends ≡ queues → slice_get queues k ≡ Some q → x ≡ get_or ends k x → n x ≡ q
 queue_at n ends queues k q x is has at = ap n at ∙ sym (get_or-map' n ends k x) ∙ ap (λ l. get_or l k (n x)) is ∙ get_or_from_slice_get queues k q (n x) has
 
--- what all ends have, the end at an index has
+-- a property of all ends is one of the end at an index
 pub one_of_all : {A B : Type 0} (f : A → B) (b : B) (ends : List A) (k : ℕ) (x : A) → k < length ends → x ≡ get_or ends k x → All (λ l. f l ≡ b) ends → f x ≡ b
 one_of_all f b ends k x lt at all = ap f at ∙ All-get_or (λ l. f l ≡ b) ends k x lt all
 
@@ -111,7 +111,7 @@ module _ {T : Type 0} where
   pub take_place_still : (s t : ℕ) (ends : List (Got T)) (k : ℕ) (x y : Got T) → k < length ends → x ≡ get_or ends k x → y.spot ≡ x.spot → TakeInPlace s t ends → TakeInPlace s t (set ends k y)
   take_place_still s t ends k x y lt at same is = in_place_still (λ (l : Got T). l.spot) s t ends k x y lt at same is
 
-  -- an end's parts stay
+  -- the number of parts stays if a changed end keeps its own
   parts_still : (ends : List (Got T)) (k : ℕ) (x y : Got T) → x ≡ get_or ends k x → y.parts ≡ x.parts → parts_of (set ends k y) ≡ parts_of ends
   parts_still [] k x y at e = refl
   parts_still (l ∷ ls) zero x y at e = e ∙ ap (λ (l : Got T). l.parts) at
@@ -170,7 +170,7 @@ module _ {T : Type 0} (group : T → ℕ) where
         subst (WasKept group) (λ i. taker ((place ∙ ap (λ q. shard_of q k) (sym queues)) i) ((mine ∙ sym parts) i) (at_new acc ends k x lt at y i)) a.3,
       )))
 
-  -- what the queue held when an end looked, it held when the end's pass looked
+  -- the operations that the queue held at an end's look are those at its pass's look
   pub sender_held : (s t p : ℕ) (ends : List (Sent T)) (k : ℕ) (x : Sent T) (n : ℕ) → k < length ends → x ≡ get_or ends k x → SendInPlace s t ends → All (λ (l : Sent T). l.sender ≡ p) ends
       → Held n (KeptWith group (sender x.spot.place x.sender x.accepted)) → (v : Sender T) → send_view s t p ends ≡ v → SenderWasKeptAt group n v k
   sender_held s t p ends k x n lt at placed all held v is =
@@ -187,18 +187,18 @@ module _ {T : Type 0} (group : T → ℕ) where
       let place = take_place s t ends k x lt at placed in
       subst (λ (w : Taker T). TakerWasKeptAt group n w k) is (subst (λ w. Held n (KeptWith group w)) (λ i. taker (place i) (mine i) (old i)) held)
 
--- an element that the loop changes keeps what a list of all says of it
+-- changing an element keeps a list of values if the element keeps its value
 pub same_map : {A B : Type 0} (f : A → B) (xs : List A) (ys : List B) (i : ℕ) (x y : A) → x ≡ get_or xs i x → f y ≡ f x → map f xs ≡ ys → map f (set xs i y) ≡ ys
 same_map f xs ys i x y at e is = map-set_same f xs i y x (e ∙ ap f at) ∙ is
 
--- of two lists that agree in this, the elements at one place do
+-- if two lists have the same values, so have their elements at one place
 pub same_at : {A C B : Type 0} (f : A → B) (g : C → B) (xs : List A) (ys : List C) (i : ℕ) (x : A) (y : C) → i < length ys → map f xs ≡ map g ys → x ≡ get_or xs i x → y ≡ get_or ys i y → f x ≡ g y
 same_at f g xs ys i x y lt same at here = ap f at ∙ sym (get_or-map' f xs i x) ∙ ap (λ l. get_or l i (f x)) same ∙ get_or-map g ys i y (f x) lt ∙ sym (ap g here)
 
 pub length_by : {A C B : Type 0} (f : A → B) (g : C → B) (xs : List A) (ys : List C) → map f xs ≡ map g ys → length xs ≡ length ys
 length_by f g xs ys e = sym (length-map xs f) ∙ ap length e ∙ length-map ys g
 
--- what the ends learned of a shard, of the passes
+-- the ends' knowledge of a shard is that of their passes
 pub part_of_ends : {T : Type 0} (s t p : ℕ) (mine : List (Sent T)) (s' t' : ℕ) (theirs : List (Got T)) (k : ℕ) (x : Sent T) (z : Got T) → k < length mine → k < length theirs → x ≡ get_or mine k x → z ≡ get_or theirs k z
     → All (λ (l : Sent T). l.sender ≡ p) mine → IsPartOf (of x.sender z.taken) x.accepted
     → (v : Sender T) (u : Taker T) → send_view s t p mine ≡ v → take_view s' t' theirs ≡ u

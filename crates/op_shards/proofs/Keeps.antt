@@ -16,7 +16,7 @@ use Rattle.op_shards.specs.Order.{pass_state, unopened, spent, sender, taker, fr
 use Rattle.op_shards.proofs.Operations.{swapped, swapped_here, swapped_else, all_set, all_more, set_here, has_set, has_more, has_rest, has_still, only_one, of_append, of_here, of_else, length_of_more, length_of_sender, ranked_snoc, ranked_at, each_snoc, each_at, each_append, each_so, weigh_append, weigh_ones, total_set, total_add, part_of_total, total_alone, weight_of, weigh_of}
 
 module _ {T : Type 0} (group : T → ℕ) where
-  -- a queue one of whose passes knows its place is in order
+  -- a queue is in order if one of its passes knows the position
   opened : (items : List (Ranked T)) (views : List (PassState T)) (by : ℕ) (v : PassState T) → Rule group items views → get_elem? views by ≡ some v → 0 < v.place.shards → Kept group items views
   opened items views by v rule at some_shards =
       ⊎_elim
@@ -27,7 +27,7 @@ module _ {T : Type 0} (group : T → ℕ) where
       (λ (kept : Kept group items views). kept)
       rule
 
-  -- the passes change, and nothing else
+  -- only the passes change
   changed : (items : List (Ranked T)) (views views' : List (PassState T)) (kept : Kept group items views) (seat' : ℕ → ℕ)
       → ((h : Ranked T → ℕ) → total (λ (v : PassState T). weigh h v.got) views' ≡ total (λ (v : PassState T). weigh h v.got) views)
       → total (λ (v : PassState T). v.parts) views' ≡ total (λ (v : PassState T). v.parts) views
@@ -49,7 +49,7 @@ module _ {T : Type 0} (group : T → ℕ) where
     passes = passes;
   }
 
-  -- a pass without senders, parts or anything taken
+  -- a pass without senders, without parts, and with nothing taken
   fits_idle : (place : QueuePosition) (taken : List (Ranked T)) (sent : ℕ → List (Ranked T)) (seat : ℕ → ℕ) (by : ℕ) (q : QueuePosition) → (0 < q.shard → 0 < q.shards) → (0 < q.shards → q ≡ place) → (k : ℕ) → Fits place taken sent seat by (taker q k [])
   fits_idle place taken sent seat by q known same k = record { opened = known; placed = same; senders = λ p lo hi. absurd (omega arith); past = tt; idle = λ none. refl }
 
@@ -104,7 +104,7 @@ module _ {T : Type 0} (group : T → ℕ) where
       let kept' = puts_keeps items views by p v x first end some_shards lies from rank (opened items views by v rule at some_shards) at in
       (w, inr kept', (refl, (items ++ x ∷ [], record { views = set views by w; by = by; kept = kept'; mine = set_here views by v w at })))
 
-  -- the rank of what comes next
+  -- the rank of the next operation
   next_rank : (x : Ranked T) (items : List (Ranked T)) (views : List (PassState T)) (kept : Kept group (x ∷ items) views) → x.rank ≡ length (of x.sender kept.taken)
   next_rank x items views kept =
       let p = x.sender in

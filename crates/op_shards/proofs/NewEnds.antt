@@ -1,4 +1,4 @@
--- The ends that a new pass has.
+-- The ends of a new pass.
 use Rattle.std.proofs.Common.{◌≡◌, ℕ, zero, suc, ◌+◌, ◌<◌, ◌≤◌, List, [], ◌∷◌, ◌++◌, length, map, set, take, drop, get_or, refl, sym, ap, ◌∙◌, subst, arith}
 use Rattle.std.specs.Prelude.{All}
 use Rattle.std.proofs.lemmas.List.{length-map, map_more, take_all}
@@ -12,7 +12,7 @@ use Rattle.op_shards.specs.Order.{queue_position}
 use Rattle.op_shards.specs.Passes.{name, names, Spot, spot_of, queues_of, spots_from, spots, FreeEndState, free_end_state, Sent, Got, new_send, new_take, parts_of, new_sender, new_taker}
 use Rattle.op_shards.proofs.EndSteps.{spot_at, length-spots, take_view, SendInPlace, TakeInPlace}
 
--- one more of a list that a loop goes over by its index
+-- one more element of a list that a loop goes over by its index
 one_more_from : {A B : Type 0} (f g : A → B) (xs : List A) (i : ℕ) (q : A) (y : B) → i < length xs → y ≡ f (get_or xs i q) → set (map f (take i xs) ++ map g (drop i xs)) i y ≡ map f (take (suc i) xs) ++ map g (drop (suc i) xs)
 one_more_from f g [] i q y lt e = absurd (omega arith)
 one_more_from f g (x ∷ xs) zero q y lt e = ap (λ w. w ∷ map g xs) e
@@ -24,7 +24,7 @@ one_more f g xs ys i q y lt is e =
     let n : suc i ≡ i + 1 = omega arith in
     subst (λ n. set ys i y ≡ map f (take n xs) ++ map g (drop n xs)) n (ap (λ l. set l i y) is ∙ one_more_from f g xs i q y lt e)
 
--- whose turn it is in such a loop
+-- the element at the loop's index isn't changed yet
 pub at_turn : {A B : Type 0} (f g : A → B) (xs : List A) (ys : List B) (i : ℕ) (q : A) (x : B) → i < length xs → ys ≡ map f (take i xs) ++ map g (drop i xs) → q ≡ get_or xs i q → x ≡ get_or ys i x → x ≡ g q
 at_turn {A} {B} f g xs ys i q x lt is here at = at ∙ ap (λ l. get_or l i x) is ∙ turn xs i lt ∙ sym (ap g here)
   where
@@ -51,11 +51,11 @@ split_length f g [] (suc i) = refl
 split_length f g (x ∷ xs) zero = length-map (x ∷ xs) g
 split_length f g (x ∷ xs) (suc i) = ap suc (split_length f g xs i)
 
--- such a loop's list stays as long
+-- the loop keeps the list's length
 pub still_long : {A B : Type 0} (f g : A → B) (xs : List A) (ys : List B) (i : ℕ) → ys ≡ map f (take i xs) ++ map g (drop i xs) → length ys ≡ length xs
 still_long f g xs ys i is = ap length is ∙ split_length f g xs i
 
--- the loop went over all of the list
+-- after the last element all are changed
 pub done : {A B : Type 0} (f g : A → B) (xs : List A) (ys : List B) (i : ℕ) → length xs ≤ i → ys ≡ map f (take i xs) ++ map g (drop i xs) → ys ≡ map f xs
 done f g xs ys i le is = is ∙ all_done f g xs i le
 
@@ -70,7 +70,7 @@ spots_more k n s t (x ∷ qs) q =
     let z : suc k + length qs ≡ k + suc (length qs) = omega arith in
     ap (λ l. spot_of x (queue_position k n s t) ∷ l) (spots_more (suc k) n s t qs q ∙ ap (λ m. spots_from (suc k) n s t qs ++ spot_of q (queue_position m n s t) ∷ []) z)
 
--- the spots of queues, and back
+-- taking the queues from the spots of a list of queues gives the list again
 queues_of_spots : (k n s t : ℕ) (qs : List TableId) → map (λ p. p.queue) (spots_from k n s t qs) ≡ qs
 queues_of_spots k n s t [] = refl
 queues_of_spots k n s t (q ∷ qs) = ap (λ l. q ∷ l) (queues_of_spots (suc k) n s t qs)
@@ -79,7 +79,7 @@ map_same : {A : Type 0} (xs : List A) → map (λ x. x) xs ≡ xs
 map_same [] = refl
 map_same (x ∷ xs) = ap (λ l. x ∷ l) (map_same xs)
 
--- the spot at an index of a list of queues
+-- the spot of the queue at an index
 map_snoc : {A B : Type 0} (f : A → B) (xs : List A) (x : A) → map f (xs ++ x ∷ []) ≡ map f xs ++ f x ∷ []
 map_snoc f [] x = refl
 map_snoc f (y ∷ ys) x = ap (λ l. f y ∷ l) (map_snoc f ys x)
@@ -93,7 +93,7 @@ all_snoc P (y ∷ ys) x all p (suc k) d lt = all_snoc P ys x (λ j u l. all (suc
 pub all_more_of : {X : Type 0} (P : X → Type 0) (xs ys : List X) (x : X) → ys ≡ xs ++ x ∷ [] → All P xs → P x → All P ys
 all_more_of P xs ys x more all p = subst (All P) (sym more) (all_snoc P xs x all p)
 
--- one more queue, and its end that has all senders and takers
+-- one more queue, and its free end with all senders and takers
 pub more_free_ends : {S D Q A : Type 0} (n s t k : ℕ) (queues queues' : List (Slotted S D Q A)) (q : Slotted S D Q A) (ds ds' : List FreeEndState) (d : FreeEndState) → length queues ≡ k → ds ≡ map (free_end_state 0 t) (spots_from 0 n s t (names queues))
     → d ≡ free_end_state 0 t (spot_of (name q) (queue_position k n s t)) → queues' ≡ queues ++ q ∷ [] → ds' ≡ ds ++ d ∷ [] → ds' ≡ map (free_end_state 0 t) (spots_from 0 n s t (names queues'))
 more_free_ends n s t k queues queues' q ds ds' d long is new more more' =
@@ -102,7 +102,7 @@ more_free_ends n s t k queues queues' q ds ds' d long is new more more' =
     let spots' = ap (spots_from 0 n s t) all ∙ spots_more 0 n s t (names queues) (name q) ∙ ap (λ m. spots_from 0 n s t (names queues) ++ spot_of (name q) (queue_position m n s t) ∷ []) at in
     more' ∙ (λ i. is i ++ new i ∷ []) ∙ sym (ap (map (free_end_state 0 t)) spots' ∙ map_snoc (free_end_state 0 t) (spots_from 0 n s t (names queues)) (spot_of (name q) (queue_position k n s t)))
 
--- the spots by the number of queues that there are
+-- the spots, given the number of queues
 pub all_spots : {S D Q A : Type 0} (n s t : ℕ) (queues : List (Slotted S D Q A)) → length queues ≡ n → spots_from 0 n s t (names queues) ≡ spots (queues_of (names queues) s t)
 all_spots n s t queues long = let e : n ≡ length (names queues) = sym (length-map queues (λ q. name q) ∙ long) in ap (λ m. spots_from 0 m s t (names queues)) e
 

@@ -11,7 +11,7 @@ use Rattle.op_shards.specs.declared.rule.Ranked.{Ranked}
 use Rattle.op_shards.specs.declared.rule.PassState.{PassState}
 use Rattle.op_shards.specs.Order.{of, IsRanked, Each, weigh, total, HasSender}
 
--- f, but x at k
+-- the function f, but with x at k
 pub swapped : {A : Type 0} → (ℕ → A) → ℕ → A → ℕ → A
 swapped f k x i = cond (eqb i k) x (f i)
 
@@ -41,14 +41,14 @@ module _ {V : Type 0} where
   set_here (x ∷ xs) zero v w e = refl
   set_here (x ∷ xs) (suc by) v w e = set_here xs by v w e
 
-  -- the place of the one element that a list has
+  -- the place of the only element of a list
   pub only_one : (x v : V) (by : ℕ) → get_elem? (x ∷ []) by ≡ some v → (by ≡ 0) × (v ≡ x)
   only_one x v zero e = (refl, sym (some-injective x v e))
   only_one x v (suc by) e = absurd (some-ne-none v (sym e))
 
 module _ {T : Type 0} where
-  -- who has a sender has it still after a pass changed, if that pass keeps the sender or didn't
-  -- have it
+  -- A pass has a sender also after one pass changed, if the new pass keeps the sender or the old
+  -- one didn't have it.
   has_after : (views : List (PassState T)) (by : ℕ) (v w : PassState T) → get_elem? views by ≡ some v → (j p : ℕ) → (v.first ≤ p → p < v.end → (w.first ≤ p) × (p < w.end)) → HasSender views j p → HasSender (set views by w) j p
   has_after views by v w at j p keeps h =
       dite (ℕ_discrete j by)
@@ -58,19 +58,19 @@ module _ {T : Type 0} where
       (w, ap (get_elem? (set views by w)) e ∙ set_here views by v w at, kept.0, kept.1))
       (λ ne. (h.0, set_else views by j w ne ∙ h.1, h.2, h.3))
 
-  -- so after a pass changed but for its senders
+  -- a change of a pass that keeps its senders
   pub has_set : (views : List (PassState T)) (by : ℕ) (v w : PassState T) → get_elem? views by ≡ some v → w.first ≡ v.first → w.end ≡ v.end → (j p : ℕ) → HasSender views j p → HasSender (set views by w) j p
   has_set views by v w at first end j p = has_after views by v w at j p (λ lo hi. (omega (arith, first, lo), omega (arith, end, hi)))
 
-  -- after a pass gave away another sender
+  -- a pass that gave its first sender away
   pub has_rest : (views : List (PassState T)) (by : ℕ) (v w : PassState T) → get_elem? views by ≡ some v → (j p : ℕ) → (v.first ≤ p → w.first ≤ p) → w.end ≡ v.end → HasSender views j p → HasSender (set views by w) j p
   has_rest views by v w at j p later end = has_after views by v w at j p (λ lo hi. (later lo, omega (arith, end, hi)))
 
-  -- and after a pass without senders changed
+  -- a change of a pass without senders
   pub has_still : (views : List (PassState T)) (by : ℕ) (v w : PassState T) → get_elem? views by ≡ some v → v.end ≡ 0 → (j p : ℕ) → HasSender views j p → HasSender (set views by w) j p
   has_still views by v w at none j p = has_after views by v w at j p (λ lo hi. absurd (omega (arith, none, hi)))
 
-  -- and where another pass comes
+  -- a new pass
   pub has_more : (views : List (PassState T)) (w : PassState T) (j p : ℕ) → HasSender views j p → HasSender (views ++ w ∷ []) j p
   has_more views w j p h = (h.0, at_longer views (w ∷ []) j h.0 h.1, h.2, h.3)
 
@@ -151,7 +151,7 @@ module _ {T : Type 0} where
       let r = nothing f xs rest (λ by u. idle (suc by) u) in
       omega (arith, here, r)
 
-  -- where one pass has all parts, the others add nothing to what the passes with parts have
+  -- if one pass has all parts and those without parts add nothing, the total is that pass's number
   pub total_alone : (f : PassState T → ℕ) (views : List (PassState T)) (by : ℕ) (v : PassState T) → get_elem? views by ≡ some v → total (λ u. u.parts) views ≡ v.parts
       → ((by : ℕ) (u : PassState T) → get_elem? views by ≡ some u → u.parts ≡ 0 → f u ≡ 0) → total f views ≡ f v
   total_alone f [] by v e all idle = absurd (some-ne-none v (sym e))

@@ -1,4 +1,4 @@
--- What a sender's pass has only grows, and what was sent stays sent.
+-- A sender's lists only grow, and an operation that was sent stays sent.
 use Rattle.std.proofs.Common.{◌≡◌, ℕ, zero, suc, ◌<◌, ◌≤◌, List, [], ◌∷◌, ◌++◌, length, map, Result, Ok, Err, Some, refl, sym, ap, ◌∙◌, subst, append_assoc, arith, length-append}
 use Rattle.std.specs.Prelude.{slice_get, MatchResult, OnOk}
 use Rattle.std.proofs.lemmas.List.{append-nil, length-map}
@@ -61,7 +61,7 @@ module _ {T : Type 0} where
   one_there (l ∷ ls) zero x lt = at_end l x
   one_there (l ∷ ls) (suc k) x lt = one_there ls k x (omega (arith, lt))
 
-  -- an accepted operation is one more, and it is there
+  -- an accepted operation makes its shard's list longer, and is its last
   pub submit_grew : (s : Sender T) (shard : ℕ) (op : T) → Grew s (after_submit s shard op)
   submit_grew s shard op = record { begins = λ i. one_more s.accepted shard i (ranked s.sender (next_rank s shard) op) }
 
@@ -75,7 +75,7 @@ module _ {T : Type 0} where
     so = refl;
   }
 
-  -- what the answer of a submit comes to
+  -- the effect of a submit, by its answer
   pub answer_grew : {O : Type 0} (A B : Type 0) (answer : Result O T) (s t : Sender T) (shard : ℕ) (op : T)
       → MatchResult answer (λ _. (t ≡ after_submit s shard op) × A) (λ x. (x ≡ op) × (t ≡ s) × B) → Grew s t
   answer_grew A B (Ok o) s t shard op m = subst (λ (u : Sender T). Grew s u) (sym m.0) (submit_grew s shard op)

@@ -1,4 +1,4 @@
--- What callers see of all queues, and of the passes.
+-- All queues and the passes, as callers see them.
 use Rattle.std.specs.Prelude.{◌≡◌, ℕ, suc, ◌+◌, ◌≤◌, List, [], ◌∷◌, ◌++◌, length, map, Some, slice_get, slice_set, slice_index_or}
 use mathlib.Core.List.{IsPrefix}
 use Rattle.crossbeam_queue.specs.Fifo.{Held}
@@ -8,14 +8,14 @@ use Rattle.op_shards.specs.declared.rule.QueuePosition.{QueuePosition}
 use Rattle.op_shards.specs.declared.rule.Ranked.{Ranked}
 use Rattle.op_shards.specs.Order.{queue_position, sender, taker, KeptWith, WasKept}
 
--- which queue it is
+-- the identity of a queue
 abbrev pub name : {S D Q A : Type 0} → Slotted S D Q A → TableId
 name q = q.table.shared.table_id
 
 abbrev pub names : {S D Q A : Type 0} → List (Slotted S D Q A) → List TableId
 names queues = map (λ q. name q) queues
 
--- a queue and where it stands
+-- a queue and its position
 pub record Spot : Type 0 where
   pub queue : TableId
   pub place : QueuePosition
@@ -23,7 +23,7 @@ pub record Spot : Type 0 where
 abbrev pub spot_of : TableId → QueuePosition → Spot
 spot_of queue place = record { queue = queue; place = place }
 
--- the queues, by shard, and how many senders and takers have passes of them
+-- the queues by shard, and the numbers of senders and takers that have passes of them
 pub record Queues : Type 0 where
   pub names : List TableId
   pub senders : ℕ
@@ -32,7 +32,7 @@ pub record Queues : Type 0 where
 abbrev pub queues_of : List TableId → ℕ → ℕ → Queues
 queues_of names senders takers = record { names = names; senders = senders; takers = takers }
 
--- where each of these queues stands, the first at shard k of all shards
+-- the spots of these queues, the first at shard k of all shards
 abbrev pub spots_from : ℕ → ℕ → ℕ → ℕ → List TableId → List Spot
 spots_from k shards senders takers [] = []
 spots_from k shards senders takers (q ∷ qs) = spot_of q (queue_position k shards senders takers) ∷ spots_from (suc k) shards senders takers qs
@@ -40,7 +40,7 @@ spots_from k shards senders takers (q ∷ qs) = spot_of q (queue_position k shar
 abbrev pub spots : Queues → List Spot
 spots q = spots_from 0 (length q.names) q.senders q.takers q.names
 
--- the queues, and how many operations each holds at most
+-- the queues, and the number of operations that each can hold
 pub record Shards : Type 0 where
   pub queues : Queues
   pub places : ℕ
@@ -54,33 +54,33 @@ pub record FreeEndState : Type 0 where
 abbrev pub free_end_state : ℕ → ℕ → Spot → FreeEndState
 free_end_state next parts spot = record { spot = spot; next = next; parts = parts }
 
--- a sender's end of a queue, and what the queue accepted of this sender, in order
+-- a sender's end of a queue, and the operations that the queue accepted from this sender, in order
 pub record Sent (T : Type 0) : Type 0 where
   pub spot : Spot
   pub sender : ℕ
   pub accepted : List (Ranked T)
 
--- a taker's end of a queue, how many takers' parts are in it, and what they took
+-- a taker's end of a queue, the number of takers' parts in it, and the operations that they took
 pub record Got (T : Type 0) : Type 0 where
   pub spot : Spot
   pub parts : ℕ
   pub taken : List (Ranked T)
 
--- a sender: the queues that its pass came with, its number, and what the queue of each shard
--- accepted of it, in order
+-- a sender: the queues that its pass came with, its number, and the operations that each shard's
+-- queue accepted from it, in order
 pub record Sender (T : Type 0) : Type 0 where
   pub queues : Queues
   pub sender : ℕ
   pub accepted : List (List (Ranked T))
 
--- a taker, or several whose passes were put together: the queues that the passes came with, how
--- many takers they are, and what they took of each shard
+-- a taker, or several whose passes were put together: the queues that the passes came with, the
+-- number of takers, and the operations that they took from each shard
 pub record Taker (T : Type 0) : Type 0 where
   pub queues : Queues
   pub takers : ℕ
   pub taken : List (List (Ranked T))
 
--- where this shard's queue stands
+-- the position of this shard's queue
 abbrev pub shard_of : Queues → ℕ → QueuePosition
 shard_of q shard = queue_position shard (length q.names) q.senders q.takers
 
@@ -95,7 +95,7 @@ module _ {T : Type 0} where
   abbrev pub new_take : Spot → Got T
   new_take spot = record { spot = spot; parts = 1; taken = [] }
 
-  -- the parts of a taker's ends: the same in each
+  -- the parts of a taker's ends, which are the same in each
   abbrev pub parts_of : List (Got T) → ℕ
   parts_of [] = 0
   parts_of (l ∷ ls) = l.parts
@@ -113,11 +113,11 @@ module _ {T : Type 0} where
   abbrev pub at_shard : List (List (Ranked T)) → ℕ → List (Ranked T)
   at_shard lists shard = slice_index_or lists shard []
 
-  -- one more at the end of a shard's list
+  -- the lists with one more operation at the end of a shard's list
   abbrev pub pushed_at : List (List (Ranked T)) → ℕ → Ranked T → List (List (Ranked T))
   pushed_at lists shard x = slice_set lists shard (at_shard lists shard ++ x ∷ [])
 
-  -- of each shard the one list, and then the other
+  -- for each shard, the first list followed by the second
   abbrev pub put_together : List (List (Ranked T)) → List (List (Ranked T)) → List (List (Ranked T))
   put_together [] ys = []
   put_together (x ∷ xs) [] = x ∷ xs
@@ -137,33 +137,32 @@ module _ {T : Type 0} where
   abbrev pub after_gather : Taker T → Taker T → Taker T
   after_gather t u = record { queues = t.queues; takers = t.takers + u.takers; taken = put_together t.taken u.taken }
 
-  -- a pass of these queues, with nothing accepted or taken
+  -- a pass of these queues before anything was accepted or taken
   abbrev pub new_sender : Queues → ℕ → Sender T
   new_sender queues number = record { queues = queues; sender = number; accepted = map (λ _. []) queues.names }
 
   abbrev pub new_taker : Queues → Taker T
   new_taker queues = record { queues = queues; takers = 1; taken = map (λ _. []) queues.names }
 
-  -- there was a moment at which the shard was in order, and this pass one of its passes
+  -- there was a moment at which the shard's queue was in order, and this was one of its passes
   abbrev pub SenderWasKept : (T → ℕ) → Sender T → ℕ → Type 0
   SenderWasKept group s shard = WasKept group (sender (shard_of s.queues shard) s.sender (at_shard s.accepted shard))
 
   abbrev pub TakerWasKept : (T → ℕ) → Taker T → ℕ → Type 0
   TakerWasKept group t shard = WasKept group (taker (shard_of t.queues shard) t.takers (at_shard t.taken shard))
 
-  -- the same, at a moment when the queue held n operations
+  -- the same, at a moment at which the queue held n operations
   abbrev pub SenderWasKeptAt : (T → ℕ) → ℕ → Sender T → ℕ → Type 0
   SenderWasKeptAt group n s shard = Held n (KeptWith group (sender (shard_of s.queues shard) s.sender (at_shard s.accepted shard)))
 
   abbrev pub TakerWasKeptAt : (T → ℕ) → ℕ → Taker T → ℕ → Type 0
   TakerWasKeptAt group n t shard = Held n (KeptWith group (taker (shard_of t.queues shard) t.takers (at_shard t.taken shard)))
 
-  -- what the queue of each shard had accepted of the sender is the beginning of what it accepted
-  -- since
+  -- For each shard, the operations accepted earlier are the beginning of those accepted later.
   pub record Grew (s t : Sender T) : Type 0 where
     pub begins : (shard : ℕ) → IsPrefix (at_shard s.accepted shard) (at_shard t.accepted shard)
 
-  -- from the one state of a pass to the other an operation was accepted of which P holds
+  -- Between the two states of a pass an operation was accepted that has the property P.
   pub record WasSent (s t : Sender T) (P : T → Type 0) : Type 0 where
     pub shard : ℕ
     pub rank : ℕ
