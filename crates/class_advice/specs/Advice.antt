@@ -14,7 +14,7 @@ use Rattle.class_advice.specs.declared.advice.Last.TheVariants as last
 abbrev pub register_text : ℕ → List ℕ
 register_text r = codes "r" ++ decimal r
 
--- a place in a region
+-- an offset in a region
 unfoldable pub place_text : Region → ℕ → List ℕ
 place_text region at = region_text region ++ codes " + " ++ decimal at
 
@@ -22,8 +22,8 @@ place_text region at = region_text region ++ codes " + " ++ decimal at
 unfoldable pub test_text : ℕ → ℕ → List ℕ
 test_text r most = codes " `jgt " ++ register_text r ++ codes ", " ++ decimal most ++ codes ", ..` before it\n"
 
--- why a register is unset: nothing set it, not each way did, ways set it unlike, or a call was the
--- last to change it
+-- why a register is unset: nothing set it; not each path set it; the paths set it to different
+-- kinds; or a call was the last to change it
 abbrev pub unset_text : ℕ → Last → List ℕ
 unset_text r last.Never = codes "  no instruction before it sets " ++ register_text r ++ codes ": set it first\n"
 unset_text r last.Set =
@@ -32,11 +32,11 @@ unset_text r last.Unlike =
     codes "  each way that leads here sets " ++ register_text r ++ codes ", but not alike: one to a number and one to a pointer, or to pointers to two regions\n"
 unset_text r last.Unset = codes "  a call unsets r1 to r5: keep " ++ register_text r ++ codes " in r6 to r9 before it\n"
 
--- where an access may begin at most, if the region is long enough
+-- the greatest offset at which an access may begin, if the region is long enough for one
 unfoldable pub most_text : Region → ℕ → ℕ → List ℕ
 most_text region bytes size = if nat_lt size bytes then codes "too few\n" else codes "from " ++ place_text region (size - bytes) ++ codes " on at most\n"
 
--- what is to be changed: a bound of what moves the pointer, or the place
+-- the change to make: a bound on the number that moves the pointer, or another offset
 unfoldable pub move_text : ℕ → Bool → Region → List ℕ
 move_text r true region = codes "  bound what is added to " ++ register_text r ++ codes ", by `jgt` or `and` before the `add`\n"
 move_text r false Input = codes "  a lower place, or a greater IN\n"
@@ -52,18 +52,18 @@ may_be_text r high = codes "  r" ++ decimal r ++ codes " may be " ++ decimal hig
 unfoldable pub at_most_out_text : ℕ → List ℕ
 at_most_out_text most = codes ": at most OUT, " ++ decimal most ++ codes ";"
 
--- bytes from a place on
+-- the bytes from an offset on
 abbrev pub span_text : Region → ℕ → ℕ → List ℕ
 span_text region at bytes = bytes_text bytes ++ place_text region at
 
--- what the region has, and where they begin at most
+-- the region's size, and the greatest offset at which the bytes may begin
 unfoldable pub room_text : Region → ℕ → ℕ → List ℕ
 room_text region bytes size = codes " on, of " ++ decimal size ++ codes ": " ++ most_text region bytes size
 
 abbrev pub outside_text : OutsideAccess → List ℕ
 outside_text a = span_text a.region a.at a.bytes ++ room_text a.region a.bytes a.size ++ move_text a.register a.is_moved a.region
 
--- a length that is too great from a place on
+-- a length that is too great from an offset on
 abbrev pub length_text : LongRange → List ℕ
 length_text l =
     codes "  " ++ register_text l.register ++ codes " may be " ++ decimal l.high ++ codes ": at most " ++ decimal l.most ++ codes " bytes from " ++ place_text l.region l.at ++ codes ";" ++ test_text l.register l.most

@@ -1,5 +1,5 @@
--- The code that would do in place of the refused code, by the rule, the instruction, what the
--- method declares and what is known before it.
+-- Advice for the refused code, by the rule, the instruction, the method's declaration and the state
+-- that is known before the instruction.
 use Rattle.std.specs.Prelude.{ℕ, ◌+◌, ◌-◌, ◌==◌, ◌&&◌, ◌||◌, not, nat_le, Bool, List, [], ◌∷◌, Option, Some, None, if◌then◌else◌}
 use Rattle.std.specs.Option.{option_map}
 use Rattle.abstract_num.specs.Plain.{Plain}
@@ -32,7 +32,7 @@ use Rattle.class_advice.specs.declared.advice.Last.TheVariants as last
 
 -- ---- a register that is unset
 
--- as a method begins, 1 to 3 and 10 are set
+-- in the first state of a method registers 1 to 3 and 10 are set
 abbrev pub is_set_first : ℕ → Bool
 is_set_first r = (nat_le 1 r && nat_le r 3) || r == 10
 
@@ -42,16 +42,16 @@ at_first r = if is_set_first r then last.Set else last.Never
 abbrev pub changed : Last → Insn → ℕ → Last
 changed before i r = if sets i r then last.Set else (if unsets i r then last.Unset else before)
 
--- what the last of the instructions in the first `left` slots did that changed register r
+-- the last change of register r by an instruction in the first `left` slots
 abbrev pub last_of : List Insn → ℕ → ℕ → Last → Last
 last_of [] left r before = before
 last_of (i ∷ is) left r before = if left == 0 then before else last_of is (left - slot_count i) r (changed before i r)
 
--- why it is unset: a way leads there on which it is, or each way sets it
+-- the reason why it is unset: it is on some path that leads there, or each path sets it
 abbrev pub why_unset : List Insn → ℕ → ℕ → Last
 why_unset is slot r = if is_missed is slot slot r (not (is_set_first r)) [] then last_of is slot r (at_first r) else last.Unlike
 
--- an unset register that is read, and else a slot
+-- for an unset register that is read; if there is none, for a slot
 abbrev pub unset_advice : List Insn → ℕ → Option ℕ → Advice
 unset_advice is slot None = advice.StoreWhole
 unset_advice is slot (Some r) = advice.Unset r (why_unset is slot r)
@@ -67,7 +67,7 @@ access_advice caps r (Num n) distance w = Some (advice.NoPlace r)
 access_advice caps r (Ptr region at) distance w =
     option_map (λ place. advice.Outside (record { register = r; is_moved = moves at; region = region; at = place.high; bytes = w; size = size caps region })) (last_place at distance)
 
--- a range that begins within the region is too long, one that doesn't begins too late
+-- a range that begins within the region is too long; another one begins too late
 abbrev pub range_outside : ℕ → Region → Plain → Plain → ℕ → Advice
 range_outside r region at len size =
     if nat_le at.high size then advice.Length (record { register = r + 1; high = len.high; most = size - at.high; region = region; at = at.high })
@@ -80,7 +80,7 @@ range_advice caps r (Ptr region at) Unset = None
 range_advice caps r (Ptr region at) (Ptr q l) = None
 range_advice caps r (Ptr region at) (Num len) = if range_fits at len (size caps region) then None else Some (range_outside r region at len (size caps region))
 
--- ---- a helper's argument, which is taken from register r on
+-- ---- a helper's argument, in the registers from r on
 
 abbrev pub bounds_advice : Caps → PlainFrame → Argument → ℕ → Option Advice
 bounds_advice caps f Number r = None
@@ -121,7 +121,7 @@ abbrev pub or_else : Option Advice → Option Advice → Option Advice
 or_else None b = b
 or_else (Some a) b = Some a
 
--- of the first argument that is at fault
+-- for the first argument that is at fault
 abbrev pub arguments_advice : Rule → Caps → PlainFrame → List Argument → ℕ → Option Advice
 arguments_advice why caps f [] r = None
 arguments_advice why caps f (a ∷ more) r = or_else (argument_advice why caps f a r) (arguments_advice why caps f more (r + register_count a))
@@ -161,7 +161,7 @@ abbrev pub stored_by : RuleSet → Advice
 stored_by One = advice.TakeRules
 stored_by Two = advice.AtMultiple
 
--- rules 5 and up, by what is known before instruction i at a slot of the instructions
+-- rules 5 and up, by the state before instruction i at a slot of the instructions
 abbrev pub known_advice : RuleSet → Rule → List Insn → ℕ → Caps → PlainFrame → Insn → Option Advice
 known_advice rules rule.UnsetRead is slot caps f i = Some (unset_advice is slot (first_read content.Nothing i f 0 11))
 known_advice rules rule.WritesR10 is slot caps f i = Some advice.CopyOfR10

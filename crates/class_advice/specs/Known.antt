@@ -1,4 +1,4 @@
--- The text of what is known of a register.
+-- The text of a register's known kind.
 use Rattle.std.specs.Prelude.{ℕ, pos, negsuc, ◌+◌, ◌%◌, ◌^◌, ◌==◌, ◌&&◌, ◌||◌, not, nat_le, int_lt, bit_and, Bool, true, false, List, [], ◌++◌, codes, if◌then◌else◌}
 use Rattle.std.specs.Fmt.{decimal, signed_decimal}
 use Rattle.abstract_num.specs.Plain.{Plain}
@@ -6,13 +6,13 @@ use Rattle.abstract_regs.specs.Kind.{PlainKind, Unset, Num, Ptr}
 use Rattle.bpf_decode.specs.declared.region.Region.{Region}
 use Rattle.bpf_decode.specs.declared.region.Region.TheVariants.{Input, Output, Stack}
 
--- the unsigned range: one number, every number, or from the least to the greatest
+-- the unsigned range: one number, any number, or from the least to the greatest
 abbrev pub range_text : Plain → List ℕ
 range_text n =
     if n.low == n.high then decimal n.low
     else (if n.low == 0 && n.high == 18446744073709551615 then codes "any number" else decimal n.low ++ codes ".." ++ decimal n.high)
 
--- the signed range says more: a number may be negative, and not every signed number is left
+-- the signed range says more: a number may be negative, and some signed numbers are excluded
 abbrev pub says_signed : Plain → Bool
 says_signed n =
     nat_le 9223372036854775808 n.high && (int_lt (negsuc 9223372036854775807) n.least || int_lt n.greatest (pos 9223372036854775807))
@@ -20,7 +20,7 @@ says_signed n =
 abbrev pub signed_text : Plain → List ℕ
 signed_text n = if says_signed n then codes ", signed " ++ signed_decimal n.least ++ codes ".." ++ signed_decimal n.greatest else []
 
--- the known bits say more: those that are not known are not simply the lowest ones
+-- the known bits say more: the unknown bits aren't simply the lowest ones
 unfoldable pub says_bits : Plain → Bool
 says_bits n = not (bit_and n.unknown ((n.unknown + 1) % 2 ^ 64) == 0)
 
@@ -28,7 +28,7 @@ says_bits n = not (bit_and n.unknown ((n.unknown + 1) % 2 ^ 64) == 0)
 unfoldable pub ones_text : ℕ → List ℕ
 ones_text value = codes ", bits " ++ decimal value
 
--- those that may be 1 besides
+-- the other bits, which may be 1
 unfoldable pub others_text : ℕ → List ℕ
 others_text unknown = codes " and any of " ++ decimal unknown
 

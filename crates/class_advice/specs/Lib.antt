@@ -1,7 +1,7 @@
--- A reader must believe Note (the lines of a refusal), Known (what is known of a register), Read
--- (which registers an instruction reads), Touched (which slots of the stack), Advice (how advice
--- prints), Advise (what would do), Ways (on which a register stays unset) and Source (the line of an
--- instruction).
+-- A reader must believe Note (the lines of a refusal), Known (the text of a register's kind), Read
+-- (the registers that an instruction reads), Touched (the stack slots that it may touch), Advice
+-- (the text of advice), Advise (the choice of advice), Ways (the paths on which a register stays
+-- unset) and Source (the line of an instruction).
 pub mod Advice
 pub mod Advise
 pub mod Known

@@ -27,7 +27,7 @@ register_line r kind = codes "  r" ++ decimal r ++ codes " = " ++ kind_text kind
 abbrev pub line_if_read : Insn → PlainFrame → ℕ → List ℕ
 line_if_read i f r = if is_read i r then register_line r (kind_at f r) else []
 
--- of the n registers from r on
+-- the lines of the n registers from r on
 abbrev pub registers_text : Insn → PlainFrame → ℕ → ℕ → List ℕ
 registers_text i f r zero = []
 registers_text i f r (suc n) = line_if_read i f r ++ registers_text i f (r + 1) n
@@ -36,7 +36,7 @@ abbrev pub known_text : Insn → Option PlainFrame → List ℕ
 known_text i None = codes "  nothing leads here\n"
 known_text i (Some f) = registers_text i f 0 11
 
--- ---- what a rule wants
+-- ---- the code that a rule wants
 abbrev pub wanted : Rule → List ℕ
 wanted Backward = codes "a jump forward: the distance is at least 0"
 wanted Target = codes "a jump to a slot at which an instruction begins"
@@ -60,12 +60,12 @@ wanted PointerBytes = codes "a stored pointer loaded whole, 8 bytes from its pla
 abbrev pub head_text : ClassMethod → List ℕ
 head_text m = codes "  method " ++ m.name ++ codes ", IN " ++ decimal m.in_cap ++ codes ", OUT " ++ decimal m.out_cap ++ codes "\n  "
 
--- what the rule wants, and the page
+-- the code that the rule wants, and the page
 abbrev pub wanted_text : Rule → List ℕ
 wanted_text rule = codes "  wanted: " ++ wanted rule ++ codes "\n  see docs/VERIFIER.md, " ++ rule_text rule ++ codes "\n"
 
--- the method, the instruction, what is known of the registers that it reads, what the rule wants,
--- the page, the slots of the stack that it may touch, and what would do
+-- the method, the instruction, the known kinds of the registers that it reads, the code that the
+-- rule wants, the page, the slots of the stack that it may touch, and the advice
 abbrev pub slot_text : RuleSet → ClassMethod → ℕ → Rule → Insn → Option PlainFrame → List ℕ
 slot_text rules m slot rule i known =
     head_text m ++ canonical_text (i ∷ []) ++ known_text i known ++ wanted_text rule

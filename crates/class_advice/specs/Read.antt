@@ -1,4 +1,4 @@
--- Which registers an instruction reads, and which it sets.
+-- The registers that an instruction reads, and those that it sets.
 use Rattle.std.specs.Prelude.{ℕ, zero, suc, ◌+◌, ◌==◌, ◌&&◌, ◌||◌, nat_le, nat_lt, Bool, false, List, [], ◌∷◌, Option, Some, None, if◌then◌else◌}
 use Rattle.abstract_regs.specs.Frame.{PlainFrame, kind_at}
 use Rattle.abstract_regs.specs.Slots.{has}
@@ -20,7 +20,7 @@ abbrev pub is_source : Operand → ℕ → Bool
 is_source (Immediate imm) r = false
 is_source (Register src) r = src == r
 
--- the arguments that are taken from register k on are taken from register r too
+-- r is one of the registers that arguments take from register k on
 abbrev pub take_register : List Argument → ℕ → ℕ → Bool
 take_register [] k r = false
 take_register (a ∷ more) k r = (nat_le k r && nat_lt r (k + register_count a)) || take_register more (k + register_count a) r
@@ -43,7 +43,7 @@ is_taken callee.Local r = false
 abbrev pub is_read : Insn → ℕ → Bool
 is_read i r = is_among (reads_of i) r || is_taken (callee_of i) r
 
--- the lowest of the n registers from r on that is read and has it: is unset, or a pointer
+-- the lowest of the n registers from r on that is read and has that content: is unset, or a pointer
 abbrev pub first_read : Content → Insn → PlainFrame → ℕ → ℕ → Option ℕ
 first_read content i f r zero = None
 first_read content i f r (suc n) = if is_read i r && has content (kind_at f r) then Some r else first_read content i f (r + 1) n
@@ -61,7 +61,7 @@ is_answer callee.Local r = false
 abbrev pub sets : Insn → ℕ → Bool
 sets i r = is_written (writes_of i) r || is_answer (callee_of i) r
 
--- a call unsets 1 to 5
+-- a call unsets registers 1 to 5
 abbrev pub is_unset_by : Callee → ℕ → Bool
 is_unset_by callee.Nothing r = false
 is_unset_by (callee.Helper helper) r = nat_le 1 r && nat_le r 5

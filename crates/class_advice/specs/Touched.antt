@@ -26,7 +26,7 @@ use Rattle.class_advice.specs.Known.{kind_text}
 abbrev pub access_touches : PlainKind → ℕ → ℕ → ℕ → Bool
 access_touches x distance w j = touches (access_span (stack_place x distance) w) j
 
--- a range that is taken from register k on may
+-- a range that arguments take from register k on may touch slot j
 abbrev pub argument_touches : PlainFrame → Argument → ℕ → ℕ → Bool
 argument_touches f Number k j = false
 argument_touches f OutputLength k j = false
@@ -54,7 +54,7 @@ helper_touches f callee.Local j = false
 abbrev pub insn_touches : PlainFrame → Insn → ℕ → Bool
 insn_touches f i j = memory_touches f (touches_of i) j || helper_touches f (callee_of i) j
 
--- a slot by its place below register 10, and what is known of it; nothing in rule set 1
+-- a slot by its distance below register 10, and its known kind; nothing in rule set 1
 abbrev pub slot_line : ℕ → Option PlainKind → List ℕ
 slot_line j None = []
 slot_line j (Some x) = codes "  [r10-" ++ decimal (512 - 8 * j) ++ codes "] = " ++ kind_text x ++ codes "\n"
@@ -62,12 +62,12 @@ slot_line j (Some x) = codes "  [r10-" ++ decimal (512 - 8 * j) ++ codes "] = " 
 unfoldable pub line_if_touched : Insn → PlainFrame → ℕ → List ℕ
 line_if_touched i f j = if insn_touches f i j then slot_line j (kept_kind f (Ptr Stack (constant (8 * j))) 0 8) else []
 
--- of the n slots from j on
+-- the lines of the n slots from j on
 abbrev pub slots_text : Insn → PlainFrame → ℕ → ℕ → List ℕ
 slots_text i f j zero = []
 slots_text i f j (suc n) = line_if_touched i f j ++ slots_text i f (j + 1) n
 
--- the rules that look at slots
+-- the rules about slots
 abbrev pub is_of_slots : Rule → Bool
 is_of_slots UnsetRead = true
 is_of_slots PointerStored = true

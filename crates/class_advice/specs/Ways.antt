@@ -1,5 +1,6 @@
--- A register is missed at a slot if a way through the method leads there on which it is unset: from
--- the method's beginning, or from a call that unsets it, past no instruction that sets it.
+-- A way is a path through a method's instructions. A register is missed at a slot if a way reaches
+-- it with the register unset: from the method's beginning, or from a call that unsets it, past no
+-- instruction that sets it.
 use Rattle.std.specs.Prelude.{ℕ, ◌-◌, ◌==◌, ◌&&◌, ◌||◌, not, Bool, true, false, List, [], ◌∷◌, ◌++◌, if◌then◌else◌}
 use Rattle.std.specs.List.{list_any}
 use Rattle.abstract_regs.specs.Flow.{target}
@@ -11,19 +12,19 @@ use Rattle.verifier.specs.Rules.{falls}
 use Rattle.verifier.specs.declared.facets.Goes.{Goes}
 use Rattle.verifier.specs.declared.facets.Goes.TheVariants as goes
 
--- such a way leads to a slot: from the instruction before it, or by a jump to one of these slots
+-- such a way reaches a slot: from the instruction before it, or by a jump to one of these slots
 abbrev pub arrives : Bool → List ℕ → ℕ → Bool
 arrives falls targets at = falls || list_any (λ t. t == at) targets
 
--- it goes on past an instruction with the register unset
+-- the way goes on past an instruction with the register unset
 abbrev pub stays_unset : Bool → Insn → ℕ → Bool
 stays_unset before i r = not (sets i r) && (before || unsets i r)
 
--- to the instruction after it
+-- the way goes on to the instruction after it
 abbrev pub falls_on : Insn → Bool
 falls_on i = falls (goes_of i)
 
--- to where the instruction at a slot jumps
+-- the slots to which the instruction at a slot jumps
 abbrev pub jumps_from : Goes → ℕ → List ℕ
 jumps_from goes.On at = []
 jumps_from (goes.To distance) at = target at distance ∷ []
@@ -37,7 +38,7 @@ abbrev pub jumps_if : Bool → Insn → ℕ → List ℕ
 jumps_if false i at = []
 jumps_if true i at = jumps_of i at
 
--- from the instruction that begins `left` slots before a slot
+-- the register is missed at a slot; the list of instructions begins `left` slots before it
 abbrev pub is_missed : List Insn → ℕ → ℕ → ℕ → Bool → List ℕ → Bool
 is_missed [] left slot r falls targets = arrives falls targets slot
 is_missed (i ∷ is) left slot r falls targets =
