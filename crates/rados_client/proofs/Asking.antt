@@ -1,4 +1,4 @@
--- How what one try says adds up over a call.
+-- The result of a call, from the results of its tries.
 use Rattle.std.proofs.Common.{◌≡◌, ◌⊎◌, ℕ, zero, suc, ◌≤◌, ◌<◌, List, [], ◌∷◌, ◌++◌, length, Bool, true, false, Some, Result, Ok, Err, refl, sym, ap, ◌∙◌, subst, inl, inr, append_assoc, arith, length-append}
 use Rattle.std.specs.Prelude.{slice_get, All, IfErr, IsTrue, IsFalse, MatchBool}
 use Rattle.std.proofs.lemmas.Bool.{cases_lt}
@@ -39,11 +39,11 @@ module _ {A : Type 0} where
   prefix_get : (xs ys : List A) (k : ℕ) (x : A) → IsPrefix xs ys → slice_get xs k ≡ Some x → slice_get ys k ≡ Some x
   prefix_get xs ys k x p e = subst (λ (l : List A). slice_get l k ≡ Some x) p.1 (still_there xs p.0 k x e)
 
-  -- nothing stands past a list's end
+  -- a list has no element past its end
   past : (xs : List A) (k : ℕ) (x : A) → length xs ≤ k → slice_get xs k ≡ Some x → ⊥
   past xs k x le e = cc (e, slice_get_past xs k le)
 
-  -- what stands in a list that goes on stands before the end that it had, or in the rest
+  -- an element of a longer list, at a place before the old end, is one of the old list
   before : (xs rest : List A) (k : ℕ) (x : A) → k < length xs → slice_get (xs ++ rest) k ≡ Some x → slice_get xs k ≡ Some x
   before [] rest k x lt e = absurd (omega (arith, lt))
   before (y ∷ ys) rest zero x lt e = e
@@ -69,7 +69,7 @@ grew_self s = record { begins = λ i. prefix_self (at_shard s.accepted i) }
 pub grew_more : (s t u : Sender Operation) → Grew s t → Grew t u → Grew s u
 grew_more s t u p q = record { begins = λ i. prefix_trans (at_shard s.accepted i) (at_shard t.accepted i) (at_shard u.accepted i) (p.begins i) (q.begins i) }
 
--- what a queue took in a part of the call it took in the call
+-- a request that a queue took in a part of the call was taken in the call
 pub asked_in : (r s t u : Sender Operation) (q : ClientRequest) → Grew r s → WasAsked s t q → Grew t u → WasAsked r u q
 asked_in r s t u q before w after =
     let shorter = prefix_length (at_shard r.accepted w.shard) (at_shard s.accepted w.shard) (before.begins w.shard) in record {
@@ -81,7 +81,7 @@ asked_in r s t u q before w after =
       so = w.so;
     }
 
--- what no queue took in either part of the call, none took in the call
+-- a request that no queue took in either part of the call wasn't taken in the call
 not_asked_at : (s t u : Sender Operation) (r : ClientRequest) → NotAsked s t r → NotAsked t u r → Grew t u → (w : WasAsked s u r)
     → (w.rank < length (at_shard t.accepted w.shard)) ⊎ (length (at_shard t.accepted w.shard) ≤ w.rank) → ⊥
 not_asked_at s t u r f g h w (inl lt) =
@@ -102,13 +102,13 @@ not_asked_same s t r e = subst (λ (u : Sender Operation). NotAsked s u r) (sym 
 no_request : (group : ℕ) (op : Operation) (r : ClientRequest) → IsInternalTo group op → op.carried ≡ Plain (ARequest r) → ⊥
 no_request group op r h e = subst IsNoRequest e h.1
 
--- what a nudge submits is no request of a client
+-- a nudge submits no request of a client
 pub internal_not_asked : (group : ℕ) (s t : Sender Operation) (r : ClientRequest) → OnlySent s t (IsInternalTo group) → NotAsked s t r
 internal_not_asked group s t r o w =
     let there = subst (λ (l : List (Ranked Operation)). slice_get l w.rank ≡ Some w.x) (sym (o.kept w.shard)) w.there in
     no_request group w.x.op r (rest_has (λ (x : Ranked Operation). IsInternalTo group x.op) (at_shard s.accepted w.shard) (o.since w.shard) w.rank w.x w.new there (o.each w.shard)) w.so
 
--- a node's refusal says the same, whatever the queues took
+-- a node's refusal means the same, whatever the queues took
 says_anyway : (classes : Classes) (r : ClientRequest) (A B : Type 0) (e : ExecError) → Says classes r ⊥ ⊥ e → Says classes r A B e
 says_anyway classes r A B exec.NotPrimary s = s
 says_anyway classes r A B exec.Peering s = s
@@ -127,7 +127,7 @@ err_anyway : (classes : Classes) (r : ClientRequest) (A B : Type 0) (result : Re
 err_anyway classes r A B (Ok reply) k = tt
 err_anyway classes r A B (Err e) k = says_anyway classes r A B e k
 
--- what a look found the call answers
+-- an answer that a look found is the call's answer
 pub is_asked : (classes : Classes) (old mid new : Contact) (r : ClientRequest) (result : Result PlacedReply ExecError) → KnowsMore old.seen mid.seen → KnowsMore mid.seen new.seen
     → Grew old.sends mid.sends → Grew mid.sends new.sends → IsAnswer classes new.seen r result → IsAsked classes old new r result
 is_asked classes old mid new r result known now grew more a = record {
@@ -137,7 +137,7 @@ is_asked classes old mid new r result known now grew more a = record {
   err = err_anyway classes r (WasAsked old.sends new.sends r) (NotAsked old.sends new.sends r) result a.err;
 }
 
--- whether a queue took the request before a try, or in it
+-- a queue took the request before a try, or in it
 taken_or : (old mid new : Sender Operation) (r : ClientRequest) (before : Bool) → (IsTrue before → WasAsked old mid r) → Grew old mid → Grew mid new → IsTrue before ⊎ WasAsked mid new r → WasAsked old new r
 taken_or old mid new r before f g h (inl b) = asked_in old old mid new r (grew_self old) (f b) h
 taken_or old mid new r before f g h (inr w) = asked_in old mid new new r g w (grew_self new)
@@ -150,7 +150,7 @@ pub untaken_in : (old mid new : Sender Operation) (r : ClientRequest) (before no
     → (IsFalse now → IsFalse before × NotAsked mid new r) → IsFalse now → NotAsked old new r
 untaken_in old mid new r before now f h t is = not_asked_in old mid new r (f (t is).0) (t is).1 h
 
--- the end of the tries says whether a queue took the request
+-- after the last try the refusal says that a queue took the request, or that none did
 end_says : (classes : Classes) (r : ClientRequest) (Taken Untaken : Type 0) (taken : Bool) (e : ExecError) → MatchBool taken (e ≡ exec.Unanswered) (e ≡ exec.NotTaken)
     → (IsTrue taken → Taken) → (IsFalse taken → Untaken) → Says classes r Taken Untaken e
 end_says classes r Taken Untaken true e m f g = subst (λ x. Says classes r Taken Untaken x) (sym m) (f refl)
@@ -166,7 +166,7 @@ ends classes old new r taken e known grew f g m = record {
   err = end_says classes r (WasAsked old.sends new.sends r) (NotAsked old.sends new.sends r) taken e m f g;
 }
 
--- a reply whose note a session has heard is true by what the session knows
+-- a reply whose note a session has heard is true by the lists that the session knows
 pub is_answered : (classes : Classes) (heard seen lists : List (List ClientRequest)) (row : ℕ) (r : ClientRequest) (place at : ℕ) (answer given : Answer) (reply : PlacedReply)
     → KnowsMore heard seen → heard ≡ lists → Stands classes (list_at lists row) at r given → place ≡ at → answer ≡ given → reply ≡ record { place = place; answer = answer }
     → IsAnswered classes seen r reply

@@ -1,4 +1,4 @@
--- What a call of a new request promises, from what asking for it promises.
+-- The promise of a call with a new request follows from that of asking for the request.
 use Rattle.std.proofs.Common.{◌≡◌, ◌⊎◌, List, [], ◌++◌, ◌-◌, ◌^◌, ◌<◌, ℕ, suc, Result, Ok, Err, Some, refl, sym, ap, ◌∙◌, subst, inl, inr, arith}
 use Rattle.std.specs.Prelude.{IfOk, IfErr, ◌↔◌}
 use Rattle.pg_log.specs.Requests.{ClientRequest}
@@ -36,7 +36,7 @@ module _ (classes : Classes) (old new : SessionState) (r : ClientRequest) where
   number_of (Ok reply) u a = tt
   number_of (Err e) u a = number_at classes old new r (WasAsked old.contact.sends new.contact.sends r) (NotAsked old.contact.sends new.contact.sends r) e u a.err
 
-  -- no answer to a request says that all numbers are used up
+  -- no answer to a request is that all numbers are used up
   not_used_up : (result : Result PlacedReply ExecError) → IsAsked classes old.contact new.contact r result → result ≡ Err exec.NumbersUsedUp → ⊥
   not_used_up (Ok reply) a e = cc e
   not_used_up (Err why) a e =

@@ -1,5 +1,5 @@
--- A session may go to another thread: its parts one by one, since a search of all of them at once
--- is too long.
+-- A session may go to another thread. Each part is proved by itself, since one search over all of
+-- them is too long.
 use denote.Ref.{NamedLft}
 use denote.Param.Send.{IsSend, IsSync, AllSend, sendable, view_send, recorded_send, struct_send}
 use denote.RattleType.{RattleType}

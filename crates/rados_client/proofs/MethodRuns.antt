@@ -1,4 +1,4 @@
--- Of verified classes, an answer is its method's run.
+-- With verified classes an answer is that of its method's run.
 use Rattle.std.proofs.Common.{◌≡◌, ℕ, zero, suc, cond, true, false, List, [], ◌∷◌, Some, sym, ◌∙◌, subst}
 use Rattle.std.specs.List.{AllByRecursion, slice_get}
 use Rattle.std.specs.Str.{bytes_eq}
@@ -12,7 +12,7 @@ use Rattle.pg_log.specs.Entries.{AreSafe}
 use Rattle.pg_log.specs.Runs.{RanAt, RepliesRun}
 use Rattle.rados_client.specs.Promise.{AnswersHaveRun}
 
--- a method of verified classes is safe
+-- verified classes are within the limits, and a method of theirs is safe
 are_classes : (classes : Classes) → AllByRecursion IsVerifiedClass classes → AllByRecursion IsClass classes
 are_classes [] all = tt
 are_classes (c ∷ cs) all = (all.0.class, are_classes cs all.1)

@@ -1,4 +1,4 @@
--- What a call answers that puts its output into a buffer.
+-- The answer of a call that puts its output into a buffer.
 use Rattle.std.specs.Prelude.{◌≡◌, ℕ, ◌++◌, ◌^◌, List, length, drop, nat_lt, nat_le, ◌==◌, if◌then◌else◌, Result, Ok, Err, ℤ, pos, negsuc}
 use Rattle.std.specs.Int.{w64, cast_signed}
 use Rattle.pg_log.specs.Requests.{ClientRequest}
@@ -7,8 +7,8 @@ use Rattle.rados_client.specs.declared.exec_error.ExecError.{ExecError}
 use Rattle.rados_client.specs.Session.{SessionState, PlacedReply}
 use Rattle.rados_client.specs.Promise.{IsCall}
 
--- the code where it is negative; else -34 where the output is longer than the buffer; else the
--- output's length where it isn't 0; else the code
+-- the code if it is negative; else -34 if the output is longer than the buffer; else the output's
+-- length if it isn't 0; else the code
 abbrev pub into_code : Answer → List ℕ → ℤ
 into_code a buffer =
     if nat_le (2 ^ 63) a.code then cast_signed w64 a.code else
@@ -16,7 +16,7 @@ into_code a buffer =
     if length a.output == 0 then cast_signed w64 a.code else
     pos (length a.output)
 
--- the output, and what stood after it in the buffer; the buffer where the output isn't put there
+-- the output and then the rest of the buffer; the buffer unchanged if the output isn't put there
 abbrev pub filled : Answer → List ℕ → List ℕ
 filled a buffer =
     if nat_le (2 ^ 63) a.code then buffer else
@@ -31,7 +31,8 @@ abbrev pub into_buffer : List ℕ → Result PlacedReply ExecError → List ℕ
 into_buffer buffer (Ok reply) = filled reply.answer buffer
 into_buffer buffer (Err e) = buffer
 
--- There is an answer of the call, which keeps its promise. What comes out is made of that answer.
+-- The call has an answer, which keeps the call's promise. Result and buffer are made from that
+-- answer.
 pub record IsInto (classes : Classes) (old new : SessionState) (r : ClientRequest) (before after : List ℕ) (result : Result ℤ ExecError) : Type 0 where
   pub answer : Result PlacedReply ExecError
   pub call : IsCall classes old new r answer

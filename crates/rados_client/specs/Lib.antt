@@ -1,5 +1,5 @@
--- A reader must believe Session, Promise, Refusals, Into and ObjectCalls (what a call answers), and
--- Loading (which classes a cluster has). Found and Stages are what the code keeps.
+-- A reader must believe Session, Promise, Refusals, Into and ObjectCalls (the answers of calls),
+-- and Loading (the classes of a cluster). Found and Stages belong to the code.
 pub mod Refusals
 pub mod Session
 pub mod Promise

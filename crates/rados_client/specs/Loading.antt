@@ -1,4 +1,4 @@
--- The classes of a cluster that hasn't run, and why a class isn't loaded.
+-- The classes of a cluster that hasn't run, and the reason why a class isn't loaded.
 use Rattle.std.specs.Prelude.{◌≡◌, ℕ, suc, List, [], ◌∷◌, ◌++◌, length, ◌==◌, Option, Some, None, Result, Ok, Err, Bool, true, false}
 use Rattle.bpf_decode.specs.Class.{ClassMethod, Class}
 use Rattle.bpf_decode.specs.ImageReading.{image_of}
@@ -14,32 +14,32 @@ use Rattle.osd.specs.declared.config.Config.{Config}
 use Rattle.rados_client.specs.declared.load_error.LoadError.{LoadError}
 use Rattle.rados_client.specs.declared.load_error.LoadError.TheVariants as load
 
--- a cluster: how many classes are loaded; what it is made of, and which classes, by id, where it
--- hasn't run
+-- a cluster: the number of its loaded classes; and, if it hasn't run, its configuration and its
+-- classes by id
 pub record ClusterState : Type 0 where
   pub count : ℕ
   pub config : Option Config
   pub classes : Option Classes
 
--- `lock` and `obj`, in this order
+-- the built-in classes: `lock` and `obj`, in this order
 abbrev pub IsBuiltIn : Classes → Type 0
 IsBuiltIn classes = AreLoaded LOCK.now OBJ.now classes
 
--- the cluster is made of that, and has these two classes
+-- The cluster has this configuration, and these two classes.
 pub record HasBuiltIn (config : Config) (s : ClusterState) : Type 0 where
   pub table : Classes
   pub is : s ≡ record { count = 2; config = Some config; classes = Some table }
   pub built_in : IsBuiltIn table
 
--- the methods are those of the image's class, which is accepted
+-- The methods are those of the image's class, which is accepted.
 pub record IsVerified (image : List ℕ) (class : List ClassMethod) : Type 0 where
   pub written : Class
   pub read : image_of image ≡ Ok written
   pub methods : class ≡ written.methods
   pub accepted : class_verdict written ≡ None
 
--- the image's class, which is accepted, is one more at the end, and its id is that place; what the
--- cluster is made of stays
+-- The image's class, which is accepted, is added at the end, and its id is that place. The
+-- cluster's configuration stays.
 pub record IsAdded (image : List ℕ) (old new : ClusterState) (id : ℕ) : Type 0 where
   pub class : List ClassMethod
   pub verified : IsVerified image class
@@ -56,7 +56,7 @@ abbrev pub refusal_of_read : Result Class ImageError → Option LoadError
 refusal_of_read (Ok class) = verdict_refusal (class_verdict class)
 refusal_of_read (Err e) = Some (load.Image e)
 
--- why an image gives no class, if it gives none: it is no image, else a method isn't safe
+-- the reason why an image gives no class, if there is one: it is no image, else a method isn't safe
 abbrev pub class_refusal : List ℕ → Option LoadError
 class_refusal image = refusal_of_read (image_of image)
 
@@ -72,7 +72,7 @@ abbrev pub first_of : Option LoadError → Option LoadError → Option LoadError
 first_of None later = later
 first_of (Some e) later = Some e
 
--- Why a class isn't loaded, memory aside: by its image, else for want of room, else since the
--- cluster has run.
+-- The reason why a class isn't loaded, except want of memory: its image, else want of room, else
+-- that the cluster has run.
 abbrev pub load_refusal : List ℕ → ClusterState → Option LoadError
 load_refusal image s = first_of (class_refusal image) (refusal_of_room (s.count == CLASS_LIMIT) (refusal_of_start s.classes))

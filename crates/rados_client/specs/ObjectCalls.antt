@@ -1,4 +1,4 @@
--- What the class `obj` reads of its input.
+-- The form of an input of the class `obj`.
 use Rattle.std.specs.Prelude.{ℕ, ◌++◌, ◌∷◌, List, length, min}
 
 -- a byte with the name's length, at most 255, the name and the value

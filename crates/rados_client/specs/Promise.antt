@@ -1,4 +1,4 @@
--- What a call promises of its reply or its refusal.
+-- The promises of a call about its reply or its refusal.
 use Rattle.std.specs.Prelude.{◌≡◌, ◌⊎◌, ◌↔◌, ⊤, ℕ, suc, ◌-◌, ◌^◌, List, Option, Some, None, Result, Err, IfOk, IfErr, slice_get}
 use Rattle.std.specs.List.{AllByRecursion}
 use mathlib.Core.List.{IsPrefix}
@@ -19,44 +19,44 @@ use Rattle.rados_client.specs.declared.exec_error.ExecError.{ExecError}
 use Rattle.rados_client.specs.declared.exec_error.ExecError.TheVariants as exec
 use Rattle.rados_client.specs.Session.{Contact, SessionState, PlacedReply, KnowsMore}
 
--- The lists that are known have one, of some row, with a legal beginning in which the whole request
--- stands once, at the reply's place, and is answered there as the reply says.
+-- One of the known lists, the list of some row, has a legal beginning that has the whole request
+-- once, at the reply's place, with the reply's answer.
 pub record IsAnswered (classes : Classes) (lists : List (List ClientRequest)) (r : ClientRequest) (reply : PlacedReply) : Type 0 where
   pub row : ℕ
   pub begun : List ClientRequest
   pub begins : IsPrefix begun (list_at lists row)
   pub stands : Stands classes begun reply.place r reply.answer
 
--- The same, whoever knows it: some legal list has the whole request once, at the reply's place,
--- answered there as the reply says.
+-- The same without known lists: some legal list has the whole request once, at the reply's place,
+-- with the reply's answer.
 pub record IsAnswerIn (classes : Classes) (r : ClientRequest) (reply : PlacedReply) : Type 0 where
   pub list : List ClientRequest
   pub stands : Stands classes list reply.place r reply.answer
 
--- The whole request ran at the reply's place of a list: wherever its memory lies, its method's
--- bytes end so on the object that the requests before it left, in at most as many steps as the
--- method has instructions; code and output are the answer's.
+-- The whole request ran at the reply's place of a list: in every memory layout its method's bytes
+-- ran on the object that the requests before it left, in at most as many steps as the method has
+-- instructions. Code and output are the answer's.
 pub record HasRun (classes : Classes) (list : List ClientRequest) (r : ClientRequest) (reply : PlacedReply) : Type 0 where
   pub ran : RanAt classes list reply.place r
   pub answered : reply.answer ≡ record { code = ran.outcome.code; output = ran.outcome.output }
 
--- So it did of verified classes, where the requests of the answer's list are as their type holds
--- them.
+-- With verified classes an answered request has run, if the requests of the answer's list are
+-- within their type's ranges.
 abbrev pub AnswersHaveRun : Type 0
 AnswersHaveRun =
     (classes : Classes) (lists : List (List ClientRequest)) (r : ClientRequest) (reply : PlacedReply) → AllByRecursion IsVerifiedClass classes → (answer : IsAnswered classes lists r reply) →
     AllByRecursion IsRequest answer.begun → HasRun classes answer.begun r reply
 
--- from the one state of a pass to the other a queue took the whole request
+-- between the two states of a pass a queue took the whole request
 abbrev pub WasAsked : Sender Operation → Sender Operation → ClientRequest → Type 0
 WasAsked old new r = WasSent old new (λ op. op.carried ≡ Plain (ARequest r))
 
--- from the one state of a pass to the other no queue took the whole request
+-- between the two states of a pass no queue took the whole request
 abbrev pub NotAsked : Sender Operation → Sender Operation → ClientRequest → Type 0
 NotAsked old new r = WasAsked old new r → ⊥
 
--- What a refusal says: of the request, by the loaded classes, and of the queues that it was
--- submitted to. Taken says that one took it in this call, Untaken that none did.
+-- The meaning of a refusal: of the request, by the loaded classes, and of the queues that it was
+-- submitted to. Taken says that a queue took it in this call, Untaken that none did.
 abbrev pub Says : Classes → ClientRequest → Type 0 → Type 0 → ExecError → Type 0
 Says classes r Taken Untaken exec.NotPrimary = ⊥
 Says classes r Taken Untaken exec.Peering = ⊥
@@ -71,7 +71,7 @@ Says classes r Taken Untaken exec.NothingSent = ⊥
 Says classes r Taken Untaken exec.NumbersUsedUp = ⊥
 Says classes r Taken Untaken exec.NotTaken = Untaken
 
--- The whole of what asking for a request promises, of what the session shares with the cluster.
+-- The whole promise of asking for a request, about the session's contact with the cluster.
 pub record IsAsked (classes : Classes) (old new : Contact) (r : ClientRequest) (result : Result PlacedReply ExecError) : Type 0 where
   pub seen : KnowsMore old.seen new.seen
   pub grew : Grew old.sends new.sends
@@ -82,8 +82,8 @@ pub record IsAsked (classes : Classes) (old new : Contact) (r : ClientRequest) (
 abbrev pub IsUsed : SessionState → SessionState → ClientRequest → Type 0
 IsUsed old new r = (new.used ≡ suc old.used) × (new.last ≡ Some r)
 
--- What becomes of the number where a call is refused. Where none is left, and where memory was
--- refused before the request was sent, the session is as it was.
+-- The request's number after a refused call: it is used up. The session is unchanged if no number
+-- was left, and also if memory was refused before the request was sent.
 abbrev pub NumberAt : SessionState → SessionState → ClientRequest → ExecError → Type 0
 NumberAt old new r exec.NotPrimary = ⊥
 NumberAt old new r exec.Peering = ⊥
@@ -98,38 +98,38 @@ NumberAt old new r exec.NothingSent = ⊥
 NumberAt old new r exec.NumbersUsedUp = new ≡ old
 NumberAt old new r exec.NotTaken = IsUsed old new r
 
--- what a new request's refusal says: there is no number for it, or as above
+-- the meaning of a new request's refusal: no number is left for it, or as above
 abbrev pub SaysNew : Classes → SessionState → SessionState → ClientRequest → ExecError → Type 0
 SaysNew classes old new r e =
     ((e ≡ exec.NumbersUsedUp) × (old.used ≡ 2 ^ 32 - 1))
     ⊎ Says classes r (WasAsked old.contact.sends new.contact.sends r) (NotAsked old.contact.sends new.contact.sends r) e
 
--- What a call of a new request promises.
+-- The promise of a call with a new request.
 pub record IsCall (classes : Classes) (old new : SessionState) (r : ClientRequest) (result : Result PlacedReply ExecError) : Type 0 where
   -- the client stays
   pub client : new.client ≡ old.client
-  -- nothing is forgotten that was seen or told
+  -- each list that was known before is a beginning of the one known after
   pub seen : KnowsMore old.contact.seen new.contact.seen
-  -- a reply is true, by what is known then
+  -- a reply is true, by the lists known after
   pub ok : IfOk result (IsAnswered classes new.contact.seen r)
   -- a refusal is true
   pub err : IfErr result (SaysNew classes old new r)
   -- a number is used once
   pub used : IfOk result (λ _. IsUsed old new r)
   pub number : IfErr result (NumberAt old new r)
-  -- exactly where all are used up
+  -- this refusal comes exactly if all numbers are used up
   pub used_up : (result ≡ Err exec.NumbersUsedUp) ↔ (old.used ≡ 2 ^ 32 - 1)
 
--- what asking again for the request that was sent last promises, where there is one
+-- the promise of asking again for the request that was sent last, if there is one
 abbrev pub IsAskedAgain : Classes → SessionState → SessionState → Option ClientRequest → Result PlacedReply ExecError → Type 0
 IsAskedAgain classes old new None result = (result ≡ Err exec.NothingSent) × (new ≡ old)
 IsAskedAgain classes old new (Some r) result = IsAsked classes old.contact new.contact r result
 
--- What a call of the request that was sent last promises.
+-- The promise of a call with the request that was sent last.
 pub record IsRepeat (classes : Classes) (old new : SessionState) (result : Result PlacedReply ExecError) : Type 0 where
   -- client, number and request stay
   pub client : new.client ≡ old.client
   pub used : new.used ≡ old.used
   pub last : new.last ≡ old.last
-  -- nothing is forgotten that was seen or told, and the answer is true
+  -- the known lists only grow, and the answer is true
   pub asked : IsAskedAgain classes old new old.last result

@@ -1,4 +1,4 @@
--- The refusals by number and name, and how they print.
+-- The refusals by number and name, and their texts.
 use Rattle.std.specs.Prelude.{ℕ, List, ◌++◌, codes, Option, Some, None}
 use Rattle.std.specs.Fmt.{decimal}
 use Rattle.group_world.specs.declared.handle_error.HandleError.{HandleError}
@@ -43,11 +43,11 @@ exec_error_name exec.NothingSent = codes "NothingSent"
 exec_error_name exec.NumbersUsedUp = codes "NumbersUsedUp"
 exec_error_name exec.NotTaken = codes "NotTaken"
 
--- number, blank and name
+-- the text of a refusal: number, blank and name
 abbrev pub exec_error_text : ExecError → List ℕ
 exec_error_text e = decimal (exec_error_number e) ++ codes " " ++ exec_error_name e
 
--- a node's refusal as a session answers it, none where it asks again
+-- a node's refusal as a session answers it; none if the session asks again
 abbrev pub refusal_of_node : HandleError → Option ExecError
 refusal_of_node node.NotPrimary = None
 refusal_of_node node.Peering = None

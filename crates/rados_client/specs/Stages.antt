@@ -1,4 +1,4 @@
--- What a cluster's stage is to a contract.
+-- The stage of a cluster, as contracts see it.
 use Rattle.std.specs.Prelude.{length, Some, None}
 use Rattle.rados_client.specs.declared.cluster.Stage.{Stage}
 use Rattle.rados_client.specs.declared.cluster.Stage.TheVariants.{Idle, Started}
