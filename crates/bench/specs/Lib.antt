@@ -1,2 +1,2 @@
--- What is measured beside the methods; no promise rests on it.
+-- A value for one of the measured calls that aren't methods; no promise rests on it.
 pub mod Subject
