@@ -1,4 +1,5 @@
--- What is measured and printed; of times nothing is promised but how they print.
+-- The measured methods and calls, and the text of their table. Times are measured, and only their
+-- text is promised.
 pub mod Figure
 pub mod Measure
 pub mod Mode

@@ -1,4 +1,4 @@
--- The calls beside objects that are measured.
+-- The measured calls on objects, which are no methods.
 use Rattle.std.specs.Prelude.{ℕ, List, codes}
 use Rattle.bench_table.specs.declared.subject.Subject.{Subject}
 use Rattle.bench_table.specs.declared.subject.Subject.TheVariants.{WriteShort, WriteLong, SetFew, SetMany, ReadNone, ReadFull}

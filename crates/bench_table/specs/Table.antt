@@ -1,4 +1,4 @@
--- What the table says, and what it prints.
+-- The table's content and its text.
 use Rattle.std.specs.Prelude.{◌≡◌, ⊤, ℕ, ◌-◌, ◌*◌, ◌/◌, ◌%◌, ◌^◌, List, [], ◌∷◌, ◌++◌, Option, Some, None, codes, map}
 use Rattle.std.specs.Fmt.{format_spec, styled_decimal, styled_text}
 use Rattle.std.specs.List.{flat_map}
@@ -18,9 +18,9 @@ use Rattle.bench_table.specs.declared.table.Table.{Table}
 use Rattle.bench_table.specs.declared.workload.Ready.{Ready}
 use Rattle.bench_table.specs.declared.workload.Workload.{Workload}
 
--- ---- what it prints
+-- ---- text
 
--- a number of that many characters at least, with spaces before it
+-- a number with spaces before it, at least `width` characters long
 abbrev pub right : ℕ → ℕ → List ℕ
 right width n = styled_decimal (format_spec 32 3 0 width (2 ^ 64 - 1)) n
 
@@ -28,7 +28,7 @@ right width n = styled_decimal (format_spec 32 3 0 width (2 ^ 64 - 1)) n
 abbrev pub zeros : ℕ → ℕ → List ℕ
 zeros width n = styled_decimal (format_spec 32 0 4 width (2 ^ 64 - 1)) n
 
--- a text of that many characters at least, with spaces after it
+-- a text with spaces after it, at least `width` characters long
 abbrev pub left : ℕ → List ℕ → List ℕ
 left width text = styled_text (format_spec 32 1 0 width (2 ^ 64 - 1)) text
 
@@ -39,7 +39,7 @@ nanos_text n = right 8 (n.picos / 1000) ++ codes "." ++ zeros 2 (n.picos % 1000 
 abbrev pub times_text : Times → List ℕ
 times_text t = nanos_text t.call ++ nanos_text t.step ++ nanos_text t.slot
 
--- times where they were taken
+-- the times, if they were taken
 abbrev pub some_times_text : Option Times → List ℕ
 some_times_text None = []
 some_times_text (Some t) = times_text t
@@ -71,14 +71,14 @@ heading Timed = codes "method     slots  steps    ns/call    ns/step    ns/slot\
 abbrev pub table_text : Table → List ℕ
 table_text table = heading table.mode ++ body_text table.lines.items table.calls.items ++ some_appends_text table.appends
 
--- ---- what it says
+-- ---- content
 
--- times are there where they are taken
+-- there are times exactly if they are taken
 abbrev pub AreTimes : Mode → Option Times → Type 0
 AreTimes Dry times = times ≡ None
 AreTimes Timed times = (t : Times) × (times ≡ Some t)
 
--- the line has the method's name, its instructions, and the steps of its run on the flat machine
+-- a line has the method's name, its instructions, and the steps of its run on the flat machine
 pub record IsLine (mode : Mode) (w : Workload) (line : Line) : Type 0 where
   pub ready : Ready
   pub is_ready : IsReady w ready
@@ -94,12 +94,12 @@ AreLines mode (w ∷ ws) (line ∷ lines) = IsLine mode w line × AreLines mode 
 AreLines mode [] (line ∷ lines) = ⊥
 AreLines mode (w ∷ ws) [] = ⊥
 
--- `append` is measured after 100 entries and after 60,000, where times are taken
+-- `append` is measured after 100 entries and after 60,000, if times are taken
 abbrev pub AreAppends : Mode → Option AppendLines → Type 0
 AreAppends Dry lines = lines ≡ None
 AreAppends Timed lines = (l : AppendLines) × (lines ≡ Some l) × (l.short.behind ≡ 100) × (l.long.behind ≡ 60000)
 
--- the calls beside objects, where times are taken
+-- the measured calls on objects, if times are taken
 abbrev pub subjects_of : Mode → List Subject
 subjects_of Dry = []
 subjects_of Timed = WriteShort ∷ WriteLong ∷ SetFew ∷ SetMany ∷ ReadNone ∷ ReadFull ∷ []
@@ -107,7 +107,7 @@ subjects_of Timed = WriteShort ∷ WriteLong ∷ SetFew ∷ SetMany ∷ ReadNone
 abbrev pub subject_of : CallLine → Subject
 subject_of line = line.subject
 
--- a table of those methods
+-- a table of these methods
 pub record IsTable (mode : Mode) (ws : List Workload) (table : Table) : Type 0 where
   pub kind : table.mode ≡ mode
   pub lines : AreLines mode ws table.lines.items

@@ -1,4 +1,4 @@
--- The methods that are measured, and what a run of one is.
+-- The measured methods, and the run of one.
 use Rattle.std.specs.Prelude.{◌≡◌, ℕ, List, [], ◌∷◌, ◌++◌, None, Some, codes, length}
 use Rattle.std.specs.List.{flat_map, repeat}
 use Rattle.bpf_decode.specs.Class.{Class, ClassMethod}
@@ -13,11 +13,11 @@ use Rattle.bench_table.specs.declared.workload.Ready.{Ready}
 abbrev pub exit : List ℕ
 exit = 0x95 ∷ 0 ∷ 0 ∷ 0 ∷ 0 ∷ 0 ∷ 0 ∷ 0 ∷ []
 
--- the head, the cycle that many times, and `exit`
+-- the head, the cycle `rounds` times, and `exit`
 abbrev pub code_bytes : Workload → List ℕ
 code_bytes w = flat_map (λ x. x) w.head ++ repeat w.rounds (flat_map (λ x. x) w.cycle) ++ exit
 
--- a class of one method `f`, that gives no output, with that rule set, code, flags and in_cap
+-- a class of one method `f`, which gives no output, with that rule set, code, flags and in_cap
 pub record IsClassOf (rules : RuleSet) (code : List ℕ) (flags in_cap : ℕ) (class : Class) : Type 0 where
   pub set : class.rules ≡ rules
   pub method : ClassMethod
@@ -28,13 +28,13 @@ pub record IsClassOf (rules : RuleSet) (code : List ℕ) (flags in_cap : ℕ) (c
   pub out_cap : method.out_cap ≡ 0
   pub spelled : IsCode code method.instructions
 
--- how many instructions the first method has
+-- the count of the first method's instructions
 abbrev pub first_length : List ClassMethod → ℕ
 first_length [] = 0
 first_length (m ∷ ms) = length m.instructions
 
--- the run of the method `f` beside no object, for client 1 and on no input has that many steps on
--- the flat machine
+-- The run of the method `f` on an absent object, for client 1 and an empty input, has that many
+-- steps on the flat machine.
 pub record RunsIn (class : List ClassMethod) (steps : ℕ) : Type 0 where
   pub method : ClassMethod
   pub named : method_named class (codes "f") ≡ Some method
