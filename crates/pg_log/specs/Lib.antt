@@ -1,5 +1,5 @@
--- A reader of the contracts must believe Requests, Log, Refusals, Entries, Same, Laws, Within and
--- Runs. Places is the index that the code keeps.
+-- A reader of the contracts must believe Requests, Log, Refusals, Entries, Adopting, Same, Laws,
+-- Within and Runs. Places is the index that the code keeps.
 pub mod Requests
 pub mod Log
 pub mod Refusals
