@@ -232,7 +232,7 @@ impl<C: Classes> GroupNode<C> {
             MessageKind::Install(map, list)            => self.install(table, sender, map, list),
             MessageKind::Installed(interval)           => self.note_installed(sender, interval),
             MessageKind::Activated(interval)           => self.activate(interval),
-            MessageKind::Rep(interval, place, request) => { let epoch = interval.get(); self.replicate(table, sender, Rep { epoch, place, request }) }
+            MessageKind::Rep(epoch, place, request)    => self.replicate(table, sender, Rep { epoch, place, request }),
             MessageKind::Ack(interval, length)         => self.take_ack(table, sender, interval, length),
             // These two are for the monitor and for clients.
             MessageKind::AskActivate(_)                => Ok(Vec::new(self.alloc)),
@@ -253,12 +253,11 @@ impl<C: Classes> GroupNode<C> {
         ensures refused { OnErr result (self.new ≡ self.old) }
         ensures why { IfErr result (λ e. e ≡ HandleError.NoMemory) }
     {
-        let epoch = interval.get();
         match sender {
             Party::Node(sender) => self.acknowledge(
                 table,
                 Ack {
-                    epoch,
+                    epoch: interval,
                     sender,
                     length,
                 },

@@ -10,7 +10,7 @@ ghost use Rattle.peering.specs.inner.Arriving.{acks_if, sent_with, grown};
 
 use crate::node::GroupNode;
 use crate::node::lead::is_memory;
-use group_world::{Epoch, HandleError, MessageKind, Packet, Party, Place, Status};
+use group_world::{HandleError, MessageKind, Packet, Party, Place, Status};
 use peering_messages::{packet, rep_to_others, replies, replies_with, reply_again};
 use pg_log::{
     ClassTable, Classes, Entry, Request, Requests, classes_added, legal_lists, pairs, refusals,
@@ -234,7 +234,7 @@ impl<C: Classes> GroupNode<C> {
         ensures err { OnErr result (self.new ≡ self.old) }
         ensures why { IfErr result (λ e. e ≡ HandleError.NoMemory) }
     {
-        if !self.is_at(Epoch::new(rep.epoch), Status::Installed) {
+        if !self.is_at(rep.epoch, Status::Installed) {
             return Ok(None);
         }
         // The log may grow, and by the invariant a list that is kept equals it.
@@ -261,7 +261,7 @@ impl<C: Classes> GroupNode<C> {
         ensures err { OnErr result (self.new ≡ self.old) }
         ensures why { IfErr result (λ e. e ≡ HandleError.NoMemory) }
     {
-        if !self.is_at(Epoch::new(ack.epoch), Status::Active) {
+        if !self.is_at(ack.epoch, Status::Active) {
             return Ok(Vec::new(self.alloc));
         }
         let acting = self.members.acting();
