@@ -6,6 +6,7 @@ ghost use Rattle.group_world.specs.Rules.{acknowledge, local_step, receive};
 ghost use Rattle.peering_messages.specs.Sending.{IsLegalBy};
 ghost use Rattle.peering.specs.Numbered.{IsDone, IsRefusal};
 
+mod arrival;
 mod lead;
 mod moves;
 mod resend;
