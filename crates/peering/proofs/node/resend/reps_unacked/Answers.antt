@@ -9,6 +9,7 @@ use Rattle.peering.proofs.Lists.{drop_requests}
 use Rattle.peering.proofs.Raising.{reps_step, reps_end}
 use Rattle.peering.proofs.node.resend.reps_unacked.Goals as goal
 
+-- turned by resend_makes_up_a_rep
 pub loop-place-preserved : goal.loop-place-preserved
 loop-place-preserved c =
     let n : ℕ = c.args.number in
