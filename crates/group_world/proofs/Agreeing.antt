@@ -1,4 +1,4 @@
--- What the invariant says of a world: it is agreed.
+-- A world for which the invariant holds is agreed.
 use Rattle.std.proofs.Common.{◌≡◌, ℕ, ◌<◌, ◌≤◌, true, List, [], length, take, Some, inl, inr, sym, ◌∙◌, subst, arith}
 use Rattle.std.specs.List.{slice_get, Contains, AllByRecursion}
 use Rattle.std.proofs.lemmas.List.Elements.{All-from_recursion, All-contains}
@@ -38,7 +38,7 @@ reply_longer w t xs ys (Activated e) p h = tt
 reply_longer w t xs ys (Rep e k r) p h = tt
 reply_longer w t xs ys (Ack e k) p h = tt
 
--- a list that all that is chosen is a beginning of
+-- a list that begins with all that is chosen
 pub record Whole (past : List WorldEvent) (v : View) : Type 0 where
   pub list : List ClientRequest
   pub is_legal : Legal v.classes list
@@ -83,7 +83,7 @@ reply_in w past v from to (Activated e) h o = tt
 reply_in w past v from to (Rep e k r) h o = tt
 reply_in w past v from to (Ack e k) h o = tt
 
--- what a node has committed begins a list that is covered below its interval
+-- a list that is covered below an interval begins with what was chosen before it
 pub begun_by : (v : View) (e : ℕ) (front xs : List ClientRequest) → ((a : ℕ) → v.active a ≡ true → a < e → Covered v a xs) → ChosenBefore v e front → IsPrefix front xs
 begun_by v e front xs c h = elim h [
   | inl z ↦ subst (λ x. IsPrefix x xs) (sym z) (prefix_nil xs)

@@ -32,7 +32,7 @@ use Rattle.group_world.proofs.Leading.{least_of_le, slice_get_mid, slice_get_tak
 abbrev AllTrue : Classes → List ClientRequest → List Packet → Type 0
 AllTrue cl xs ps = AllByRecursion (λ p. IsTrueOf cl xs p.message.kind) ps
 
--- and of every list, as those that are no Reply
+-- each of these messages is true of every list, as one that is no Reply
 abbrev NoReply : Classes → List Packet → Type 0
 NoReply cl ps = AllByRecursion (λ p. (xs : List ClientRequest) → IsTrueOf cl xs p.message.kind) ps
 
@@ -80,7 +80,7 @@ move_no_reply cl n s m =
 arrive_no_reply : (cl : Classes) (n : ℕ) (s : NodeState) (m : GroupMap) → NoReply cl (arrive n s m).sent
 arrive_no_reply cl n s m = cond_both (ltb s.interval m.interval) (move_to n s m) (nothing s) (λ (o : Outcome). NoReply cl o.sent) (λ t. move_no_reply cl n s m) (λ t. tt)
 
--- the replies of these requests, which stand at the end of a beginning of the log
+-- the replies to these requests, which are at the end of a beginning of the log
 replies_true : LogLaws → (cl : Classes) (n : ℕ) (log front before rest : List ClientRequest) (k : ℕ) → IsPrefix front log → k ≡ length before → front ≡ before ++ rest
     → AllTrue cl front (replies_from cl n log k rest)
 replies_true w cl n log front before [] k p ke fe = tt

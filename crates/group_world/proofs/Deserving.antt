@@ -1,4 +1,4 @@
--- What a refusal by class, method or input says of the request is so.
+-- What a refusal by class, method or input says about the request is true.
 use Rattle.std.proofs.Common.{◌≡◌, ℕ, ◌||◌, Bool, true, false, cond, nat_le, nat_lt, List, Option, Some, None, sym, ◌∙◌, refl, subst}
 use Rattle.std.specs.List.{slice_get}
 use Rattle.std.specs.Prelude.{length}
@@ -27,7 +27,7 @@ refused-by_class classes r true reached why full stale h = absurd (full (cc))
 refused-by_class classes r false true why full stale h = absurd (stale (cc))
 refused-by_class classes r false false why full stale h = h
 
--- what is refused for the log's reason is deserved
+-- a refusal with the log's reason is deserved
 deserved-of_log : (classes : Classes) (xs : List ClientRequest) (r : ClientRequest) (why : LogError) → refusal classes xs r ≡ Some why → IsDeserved classes r (of_log why)
 deserved-of_log classes xs r log.LogFull h = record { class = λ e. absurd (cc); method = λ e. absurd (cc); input = λ e. absurd (cc) }
 deserved-of_log classes xs r log.StaleNumber h = record { class = λ e. absurd (cc); method = λ e. absurd (cc); input = λ e. absurd (cc) }

@@ -23,7 +23,7 @@ use Rattle.group_world.proofs.Holding.{hold_view, Holds, hold_later, hold_sound}
 use Rattle.group_world.proofs.Nodes.{Brought, HeldLong, MapOk, IsFirst, IsFollower, StatusOk, ChosenBefore, CommittedOk, NodeOk, ToNode, LogOk, InstallOk, RepOk, AllHold, PacketOk, chosen_before_later, Kept, later_refl, only_refl, kept_nothing}
 use Rattle.group_world.proofs.Steps.{installed_is, installing_is, asking_is, Usable, usable_true, usable_legal, usable_push, all_packets_append, to_others_ok, hold_only, hold_node, hold_held, hold_base}
 
--- an order by a node that may adopt
+-- the node may adopt the list
 pub record MayAdopt (v : View) (n : ℕ) (s : NodeState) (xs : List ClientRequest) : Type 0 where
   pub at : s.interval ≡ v.at n
   pub one : 1 ≤ s.interval
@@ -116,7 +116,7 @@ kept_log v n s interval xs d k h =
     }))
     (λ t. kept_nothing v n s d k)
 
--- what holds of the members that have joined, with one more
+-- what holds of the members that have joined also holds with one more
 pub joined_more : (v : View) (s : NodeState) (m interval : ℕ) → interval ≡ s.interval → ((j : ℕ) → has j s.joined ≡ true → HeldFrom v s.interval j []) → HeldFrom v interval m []
     → (j : ℕ) → has j (s.joined ++ m ∷ []) ≡ true → HeldFrom v s.interval j []
 joined_more v s m interval e all h j t =

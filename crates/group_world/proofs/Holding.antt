@@ -1,4 +1,4 @@
--- A node holds a new list in its interval: what is known stays sound, and nothing is lost.
+-- A node holds a new list in its interval: the view stays sound, and nothing is lost.
 use Rattle.std.proofs.Common.{◌≡◌, ℕ, ◌<◌, ◌≤◌, true, cond, ◌&&◌, eqb, List, [], Some, ◌⊎◌, inl, inr, sym, ◌∙◌, refl, ap, subst, arith}
 use Rattle.std.proofs.lemmas.Option.{same_Some}
 use mathlib.Core.List.{IsPrefix}

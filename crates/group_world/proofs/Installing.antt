@@ -58,7 +58,7 @@ install_holds v n s m xs d k so e io le =
       proper = record { is_legal = le; brought = brought_prefix v xs t.list xf pr.brought };
     }
 
--- a list that a node may take it may take with the same log and committed length
+-- a list that a node may take is one that a node with the same log and committed length may take
 pub usable_at : (s t : NodeState) (xs : List ClientRequest) → t.committed ≡ s.committed → t.log ≡ s.log → Usable s xs → Usable t xs
 usable_at s t xs e f u =
     let w : s.committed ≤ length xs = u.within in

@@ -27,7 +27,7 @@ use Rattle.group_world.proofs.Nodes.{HeldLong, IsFirst, StatusOk, CommittedOk, N
 use Rattle.group_world.proofs.Steps.{active_is, all_packets_append, to_others_ok, hold_only, hold_node, hold_held}
 use Rattle.group_world.proofs.Following.{brought_push}
 
--- a node that leads its interval, whose every member holds what it acknowledged
+-- a node leads its interval, and each member holds what it acknowledged
 pub record Leads (v : View) (n : ℕ) (s : NodeState) : Type 0 where
   pub own : v.held s.interval n ≡ Some s.log
   pub first : IsFirst v n s
@@ -40,7 +40,7 @@ pub least_of_le : (top : ℕ) (ks : List ℕ) → least_of top ks ≤ top
 least_of_le top [] = omega arith
 least_of_le top (k ∷ ks) = let h : least_of (min top k) ks ≤ min top k = least_of_le (min top k) ks in omega arith
 
--- each member holds the least of the acknowledged lengths, at least
+-- each member holds at least the least acknowledged length
 pub least_held : (v : View) (e top : ℕ) (ns ks : List ℕ) → AllZip (λ m k. HeldLong v e k m) ns ks → (m : ℕ) → has m ns ≡ true → HeldLong v e (least_of top ks) m
 least_held v e top [] [] h m a = absurd (false≢true a)
 least_held v e top [] (k ∷ ks) h m a = absurd h
@@ -71,7 +71,7 @@ replies_ok w v e n log front before (r ∷ rs) k c p ke fe =
       replies_ok w v e n log front (before ++ r ∷ []) rs (suc k) c p (omega arith) (fe ∙ sym (append_assoc before (r ∷ []) rs)),
     )
 
--- what a step that changes no view leaves
+-- what holds after a step that doesn't change the view
 pub record Stays (v : View) (n : ℕ) (o : Outcome) : Type 0 where
   pub node : NodeOk v n o.node
   pub sent : AllByRecursion (PacketOk v) o.sent

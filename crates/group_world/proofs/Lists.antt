@@ -83,7 +83,7 @@ prefix_length xs ys p = let e : length (xs ++ p.0) ≡ length ys = ap length p.1
 pub prefix_cons : (x y : ClientRequest) (xs ys : List ClientRequest) → IsPrefix (x ∷ xs) (y ∷ ys) → (x ≡ y) × IsPrefix xs ys
 prefix_cons x y xs ys p = let e : x ∷ (xs ++ p.0) ≡ y ∷ ys = p.1 in (cc, (p.0, cc))
 
--- of two beginnings of one list the shorter one is a beginning of the other
+-- two beginnings of one list: the shorter is a beginning of the longer
 pub prefix_either : (xs ys zs : List ClientRequest) → IsPrefix xs zs → IsPrefix ys zs → length xs ≤ length ys → IsPrefix xs ys
 prefix_either [] ys zs p q l = prefix_nil ys
 prefix_either (x ∷ xs) [] zs p q l = absurd (omega arith)
@@ -130,7 +130,7 @@ begins_true (x ∷ xs) (y ∷ ys) h =
 pub take_prefix : (n : ℕ) (xs : List ClientRequest) → IsPrefix (take n xs) xs
 take_prefix n xs = (drop n xs, take-append-drop n xs)
 
--- a list that begins with what is committed keeps it
+-- a list that begins with the committed list keeps it
 pub take_kept : (n : ℕ) (xs ys : List ClientRequest) → n ≤ length xs → IsPrefix (take n xs) ys → take n ys ≡ take n xs
 take_kept n xs ys l p =
     let k : length (take n xs) ≡ n = length-take-le n xs l in

@@ -18,7 +18,7 @@ use Rattle.group_world.proofs.Nodes.{MapOk, ActedOk, AllHold, map_ok_later, acte
 use Rattle.group_world.proofs.Steps.{all_packets_append}
 use Rattle.group_world.proofs.Reach.{Inv}
 
--- what isn't refused is as it was asked to be
+-- a request to the monitor that isn't refused meets its conditions
 pub none_if : (b : Bool) (x : MonitorError) → is_none (cond b None (Some x)) ≡ true → b ≡ true
 none_if true x h = refl
 none_if false x h = absurd (false≢true h)
@@ -86,7 +86,7 @@ pub acting_first : (ns : List ℕ) → is_acting ns ≡ true → has (first_of n
 acting_first [] h = absurd (false≢true h)
 acting_first (n ∷ ns) h = has_head n ns
 
--- a kept interval's map says of it what the newest map says
+-- a map that keeps the interval says the same about it as the newest map
 pub kept_interval : (v : View) (m : GroupMap) (ns : List ℕ) → m.acting ≡ ns → MapOk v m → MapOk v (record { epoch = suc m.epoch; interval = m.interval; acting = ns; prev = m.prev; prev_acting = m.prev_acting })
 kept_interval v m ns e ok = record {
   one = ok.one;
@@ -94,7 +94,7 @@ kept_interval v m ns e ok = record {
   is = sym (λ i. record { epoch = 0; interval = m.interval; acting = e i; prev = m.prev; prev_acting = m.prev_acting }) ∙ ok.is;
 }
 
--- the world with a map more
+-- the world with one more map
 abbrev pub world_with : World → GroupMap → World
 world_with w m = record { classes = w.classes; maps = w.maps ++ m ∷ []; monitor = record { newest = m; activated = w.monitor.activated }; nodes = w.nodes; sent = w.sent }
 

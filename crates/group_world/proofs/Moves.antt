@@ -1,4 +1,4 @@
--- What may happen to a view keeps it sound, and loses nothing.
+-- Each change of a view keeps it sound, and loses nothing.
 use Rattle.std.proofs.Common.{◌≡◌, ℕ, ◌<◌, ◌≤◌, true, cond, eqb, leb, List, [], ◌∷◌, ◌++◌, Some, ◌⊎◌, inl, inr, sym, ◌∙◌, refl, ap, subst, arith}
 use Rattle.std.specs.List.{Contains, AllByRecursion}
 use Rattle.std.proofs.lemmas.List.Elements.{Contains-append_left}
@@ -36,7 +36,7 @@ made_later v w e l n m =
           ap (λ (x : GroupMap). x.prev_acting) g ∙ m.prev_acting (subst (λ k. 1 ≤ k) p one) ∙ sym (ap (λ (x : GroupMap). x.acting) (ap w.map_at p ∙ q));
     }
 
--- a change that leaves what is held
+-- a change that leaves the held lists as they are
 pub record Steady (v w : View) : Type 0 where
   pub held : (e n : ℕ) → w.held e n ≡ v.held e n
   pub base : (e : ℕ) → w.base e ≡ v.base e
@@ -139,8 +139,7 @@ move_sound v n e s lt new =
       newly_held = λ a m h _ acts. held_from_later v (move_view v n e) a m [] l (s.active_held a m h acts);
     })
 
--- the monitor begins an interval; the intervals that were passed over count as made with the same
--- map
+-- the monitor begins an interval; the skipped intervals count as made with the same map
 abbrev pub map_view : View → GroupMap → View
 map_view v m = record {
   classes = v.classes;

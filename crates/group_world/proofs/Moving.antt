@@ -32,7 +32,7 @@ held_is_log v n s Installed xs h e = same_Some _ _ (sym e ∙ h.0)
 held_is_log v n s Installing xs h e = same_Some _ _ (sym e ∙ h.0)
 held_is_log v n s Active xs h e = same_Some _ _ (sym e ∙ h.0)
 
--- what is committed when a node leaves an interval was chosen before the next
+-- the committed list of a node that leaves an interval was chosen before the next interval
 pub leaves_chosen : (v : View) (s : NodeState) (st : Status) (e : ℕ) → s.interval < e → CommittedOk v s st → ChosenBefore v e (take s.committed s.log)
 leaves_chosen v s Active e lt h = inr (s.interval, lt, h)
 leaves_chosen v s Out e lt h = elim h [ inl z ↦ inl z | inr p ↦ inr (p.0, (let q : p.0 < s.interval = p.1 in omega arith), p.2) ]
@@ -41,7 +41,7 @@ leaves_chosen v s Installed e lt h = elim h [ inl z ↦ inl z | inr p ↦ inr (p
 leaves_chosen v s Asking e lt h = elim h [ inl z ↦ inl z | inr p ↦ inr (p.0, (let q : p.0 < s.interval = p.1 in omega arith), p.2) ]
 leaves_chosen v s Installing e lt h = elim h [ inl z ↦ inl z | inr p ↦ inr (p.0, (let q : p.0 < s.interval = p.1 in omega arith), p.2) ]
 
--- a move to a map of a higher interval: what the node then knows
+-- what holds of a node after a move to a map of a higher interval
 pub record Moved (v : View) (n : ℕ) (s : NodeState) (m : GroupMap) : Type 0 where
   pub lt : s.interval < m.interval
   pub ok : MapOk v m
@@ -89,7 +89,7 @@ moved_covered v n s m d k h a act acts lt =
           record { member = n; acts = acts; left = omega arith; from_held = (g.list, g.held, subst (λ x. IsPrefix g.list x) same (prefix_refl g.list)) })
     ]
 
--- the node after the move, in a status that fits
+-- the node after the move, with a status that fits
 pub moved_node : (v : View) (n : ℕ) (s : NodeState) (m : GroupMap) (st : Status) → Sound v → NodeOk v n s → (h : Moved v n s m)
     → StatusOk (move_view v n m.interval) n (at_map s m st) st → CommittedOk (move_view v n m.interval) (at_map s m st) st → NodeOk (move_view v n m.interval) n (at_map s m st)
 moved_node v n s m st d k h so co =
@@ -106,7 +106,7 @@ moved_node v n s m st d k h so co =
       proper = proper_later v (move_view v n m.interval) s.log l k.proper;
     }
 
--- where the other conditions hold, the last one decides
+-- if the other conditions hold, the last one decides
 pub last_decides : (a b c f : Bool) → a ≡ true → b ≡ true → c ≡ true → (a && (b && (c && f))) ≡ f
 last_decides true true true f p q r = refl
 last_decides false b c f p q r = absurd (false≢true p)
@@ -204,8 +204,8 @@ pub kept_learn_map : (v : View) (n : ℕ) (s : NodeState) (m : GroupMap) → Sou
 kept_learn_map v n s m d k ok =
     cond_both (would_forget n s m) (nothing s) _ (λ o. Kept v n o) (λ t. kept_nothing v n s d k) (λ t. kept_arrive v n s m d k ok t)
 
--- where the node is after it learned the map of a message that it doesn't ignore
--- a move keeps what is committed, and the log of a node that waits after it
+-- The node after it learned the map of a message that it doesn't ignore: a move keeps the committed
+-- length, and the log of a node that waits after it.
 pub arrive_committed : (n : ℕ) (s : NodeState) (m : GroupMap) → (arrive n s m).node.committed ≡ s.committed
 arrive_committed n s m =
     let P : Outcome → Type 0 = λ o. o.node.committed ≡ s.committed in

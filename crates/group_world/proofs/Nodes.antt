@@ -32,7 +32,7 @@ pub record MapOk (v : View) (m : GroupMap) : Type 0 where
   pub made : m.interval ≤ v.newest
   pub is : of_interval m ≡ v.map_at m.interval
 
--- an interval is one of which a map was made, and who acts in it is as that map says
+-- a map of the interval was made, and its acting nodes are those of that map
 pub record ActedOk (v : View) (a : ActingInterval) : Type 0 where
   pub made : a.interval ≤ v.newest
   pub is : a.acting ≡ acting v a.interval
@@ -60,7 +60,7 @@ StatusOk v n s Asking = (v.held s.interval n ≡ None) × IsFirst v n s × (1 �
 StatusOk v n s Installing = (v.held s.interval n ≡ Some s.log) × IsFirst v n s × (v.base s.interval ≡ s.log) × ((m : ℕ) → has m s.joined ≡ true → HeldFrom v s.interval m [])
 StatusOk v n s Active = (v.held s.interval n ≡ Some s.log) × IsFirst v n s × (v.active s.interval ≡ true) × AllZip (λ m k. HeldLong v s.interval k m) (acting v s.interval) s.acked
 
--- what is committed was chosen in an earlier interval
+-- the list is empty, or was chosen in an earlier interval
 abbrev pub ChosenBefore : View → ℕ → List ClientRequest → Type 0
 ChosenBefore v e xs = (xs ≡ []) ⊎ ((a : ℕ) × (a < e) × Chosen v a xs)
 
@@ -81,7 +81,7 @@ pub record NodeOk (v : View) (n : ℕ) (s : NodeState) : Type 0 where
   pub committed : CommittedOk v s s.status
   pub proper : Proper v s.log
 
--- it is a node, of which this holds
+-- it is a node, and this holds of it
 abbrev pub ToNode : Party → (ℕ → Type 0) → Type 0
 ToNode (ANode n) P = P n
 ToNode TheMonitor P = ⊥
@@ -208,7 +208,7 @@ pub packets_later : (v w : View) (ps : List Packet) → Sound v → Later v w �
 packets_later v w [] s l h = h
 packets_later v w (p ∷ ps) s l h = (message_later v w p.message.sender p.receiver p.message.kind s l h.0, packets_later v w ps s l h.1)
 
--- nothing changes but what node n does
+-- nothing changes except for node n
 pub record Only (v w : View) (n : ℕ) : Type 0 where
   pub newest : w.newest ≡ v.newest
   pub maps : (e : ℕ) → w.map_at e ≡ v.map_at e
@@ -289,7 +289,7 @@ node_later v w n s d l e h k =
       proper = proper_later v w s.log l k.proper;
     }
 
--- what a step of node n leaves
+-- what holds after a step of node n
 pub record Kept (v : View) (n : ℕ) (o : Outcome) : Type 0 where
   pub after : View
   pub sound : Sound after

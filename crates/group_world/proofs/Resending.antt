@@ -1,4 +1,4 @@
--- What a node has not been answered was sent.
+-- The unanswered messages of a node were sent.
 use Rattle.std.proofs.Common.{◌≡◌, ℕ, zero, suc, ◌+◌, Bool, true, ◌||◌, eqb, List, [], ◌∷◌, ◌++◌, drop, Option, Some, None, inl, inr, sym, ◌∙◌, refl, ap, subst, arith}
 use Rattle.std.specs.Prelude.{is_none}
 use Rattle.std.specs.List.{slice_get, Contains, AllByRecursion, AllZip}
@@ -65,7 +65,7 @@ pub all_sent_run : (es : List WorldEvent) (w : World) → AllSent w → AllSent 
 all_sent_run [] w h = h
 all_sent_run (e ∷ es) w h = all_sent_run es (happens w e) (all_sent_step w e h)
 
--- from what holds by status to the list
+-- from what holds for each status to the list of messages
 pub all_contained_append : (sent ps qs : List Packet) → AllByRecursion (Contains sent) ps → AllByRecursion (Contains sent) qs → AllByRecursion (Contains sent) (ps ++ qs)
 all_contained_append sent [] qs a b = b
 all_contained_append sent (p ∷ ps) qs a b = (a.0, all_contained_append sent ps qs a.1 b)

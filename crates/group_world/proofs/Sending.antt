@@ -1,4 +1,4 @@
--- What each event of a node leaves of the messages that it has not been answered: they were sent.
+-- After each event of a node, its unanswered messages were sent before.
 use Rattle.std.proofs.Common.{◌≡◌, ℕ, zero, suc, ◌<◌, ◌≤◌, Bool, true, ◌&&◌, ◌||◌, not, eqb, ltb, List, [], ◌∷◌, ◌++◌, length, Option, Some, None, ◌⊎◌, inl, inr, sym, ◌∙◌, refl, ap, subst, arith, max, append_assoc}
 use Rattle.std.specs.Prelude.{is_none}
 use Rattle.std.specs.List.{slice_get, Contains, AllZip}

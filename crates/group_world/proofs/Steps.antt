@@ -1,4 +1,4 @@
--- What handlers share: a list that takes another's place, the same message to many, and two steps
+-- What the rules share: a list that replaces another, the same message to many nodes, and two steps
 -- of one node.
 use Rattle.std.proofs.Common.{◌≡◌, ℕ, ◌+◌, ◌≤◌, true, eqb, List, [], ◌∷◌, ◌++◌, length, take, Some, inl, inr, ◌∙◌, refl, ap, arith}
 use Rattle.std.specs.Prelude.{is_none}
@@ -117,7 +117,7 @@ only_trans u v w n k l = record {
   held = λ e m h. l.held e m h ∙ k.held e m h;
 }
 
--- what comes after a step of the view
+-- what holds after a step of the view
 pub kept_then : (u v : View) (n : ℕ) (o : Outcome) → Sound u → Later u v → Only u v n → Kept v n o → Kept u n o
 kept_then u v n o s l y k = record {
   after = k.after;

@@ -1,5 +1,5 @@
--- What is known for good of a run: the maps, the activated intervals, each node's interval, and the
--- last list that each node held in each interval.
+-- A view is what a run never loses: the maps, the activated intervals, each node's interval, and
+-- the last list that each node held in each interval.
 use Rattle.std.proofs.Common.{◌≡◌, ℕ, ◌<◌, ◌≤◌, Bool, true, List, [], Option, Some, ◌⊎◌, inl, inr, sym, ◌∙◌, ap, subst, arith}
 use Rattle.std.specs.List.{Contains, AllByRecursion}
 use Rattle.std.proofs.lemmas.Option.{same_Some}
@@ -26,7 +26,7 @@ pub record View : Type 0 where
   pub base : ℕ → List ClientRequest
   pub asked : List ClientRequest
 
--- the map of an interval, whichever epoch it was made in
+-- the map of an interval, without its epoch
 abbrev pub of_interval : GroupMap → GroupMap
 of_interval m = record m { epoch = 0 }
 
@@ -39,20 +39,20 @@ prev v e = (v.map_at e).prev
 abbrev pub first : View → ℕ → ℕ
 first v e = primary (v.map_at e)
 
--- the node holds in the interval a list that begins so
+-- the node holds a list in the interval that begins with this one
 pub record HeldFrom (v : View) (e n : ℕ) (front : List ClientRequest) : Type 0 where
   pub list : List ClientRequest
   pub held : v.held e n ≡ Some list
   pub begins : IsPrefix front list
 
--- a member of an interval has left it, and the list goes on from what it held then
+-- a member of the interval has left it, and the list begins with what it held there
 pub record Covered (v : View) (a : ℕ) (xs : List ClientRequest) : Type 0 where
   pub member : ℕ
   pub acts : has member (acting v a) ≡ true
   pub left : a < v.at member
   pub from_held : (last : List ClientRequest) × (v.held a member ≡ Some last) × IsPrefix last xs
 
--- every member of an activated interval holds a list that begins so
+-- every member of an activated interval holds a list that begins with this one
 pub record Chosen (v : View) (a : ℕ) (front : List ClientRequest) : Type 0 where
   pub active : v.active a ≡ true
   pub by_all : (m : ℕ) → has m (acting v a) ≡ true → HeldFrom v a m front
@@ -66,7 +66,7 @@ pub record IsMade (v : View) (e : ℕ) : Type 0 where
   pub prev_last : (a : ℕ) → v.active a ≡ true → a < e → a ≤ prev v e
   pub prev_acting : 1 ≤ prev v e → (v.map_at e).prev_acting ≡ acting v (prev v e)
 
--- a list that is held lies between what the primary adopted and what it holds
+-- a held list begins with what the primary adopted, and begins what the primary holds
 pub record Within (v : View) (e : ℕ) (xs : List ClientRequest) : Type 0 where
   pub firsts : List ClientRequest
   pub held : v.held e (first v e) ≡ Some firsts
@@ -107,7 +107,7 @@ pub record Later (v w : View) : Type 0 where
   pub base : (e : ℕ) (xs : List ClientRequest) → v.held e (first v e) ≡ Some xs → w.base e ≡ v.base e
   pub asked : (r : ClientRequest) → Contains v.asked r → Contains w.asked r
 
--- what is covered stays so
+-- a covered list stays covered
 pub covered_longer : (v : View) (a : ℕ) (xs ys : List ClientRequest) → Covered v a xs → IsPrefix xs ys → Covered v a ys
 covered_longer v a xs ys c p = record {
   member = c.member;
@@ -149,7 +149,7 @@ chosen_later v w a front s l c =
 pub chosen_shorter : (v : View) (a : ℕ) (xs ys : List ClientRequest) → IsPrefix xs ys → Chosen v a ys → Chosen v a xs
 chosen_shorter v a xs ys p c = record { active = c.active; by_all = λ m h. held_from_shorter v a m xs ys p (c.by_all m h) }
 
--- what is chosen is in all that is covered
+-- a covered list begins with what is chosen
 pub chosen_covered : (v : View) (a : ℕ) (front xs : List ClientRequest) → Chosen v a front → Covered v a xs → IsPrefix front xs
 chosen_covered v a front xs c d =
     let h : HeldFrom v a d.member front = c.by_all d.member d.acts in
@@ -162,11 +162,11 @@ first_holds v a s h =
     let made : (1 ≤ a) × (a ≤ v.newest) = s.active_made a h in
     s.active_held a (first v a) h (s.made a made.0 made.1).first_acts
 
--- what is chosen in an interval is in what each later interval's primary adopted
+-- what each later interval's primary adopted begins with what is chosen in an interval
 pub chosen_in_base : (v : View) (a e : ℕ) (front xs : List ClientRequest) → Sound v → Chosen v a front → a < e → v.held e (first v e) ≡ Some xs → IsPrefix front (v.base e)
 chosen_in_base v a e front xs s c l h = chosen_covered v a front (v.base e) c (s.covered a e xs c.active l h)
 
--- all that is chosen is in what the primary of the last activated interval holds
+-- what the primary of the last activated interval holds begins with all that is chosen
 pub chosen_in_last : (v : View) (a b : ℕ) (front : List ClientRequest) (s : Sound v) → Chosen v a front → (hb : v.active b ≡ true) → a ≤ b → IsPrefix front (first_holds v b s hb).list
 chosen_in_last v a b front s c hb l =
     let made : (1 ≤ b) × (b ≤ v.newest) = s.active_made b hb in
@@ -181,8 +181,8 @@ chosen_in_last v a b front s c hb l =
     prefix_trans _ _ _ (chosen_in_base v a b front top.list s c lt top.held) within.above in
     let r : goal = elim (cases_order a b) [ inl e ↦ same e | inr (inl lt) ↦ below lt | inr (inr gt) ↦ absurd (omega arith) ] in r
 
--- a list is covered for all intervals below e, where it is for those of which the node is a member,
--- the last activated one among them
+-- A list is covered for all intervals below e, if it is covered for those that have the node as a
+-- member, and the last activated one is one of them.
 pub covered_below : (v : View) (e n : ℕ) (xs : List ClientRequest) → Sound v → 1 ≤ e → e ≤ v.newest → has n (acting v (prev v e)) ≡ true
     → ((a : ℕ) → v.active a ≡ true → has n (acting v a) ≡ true → a < e → Covered v a xs)
     → (a : ℕ) → v.active a ≡ true → a < e → Covered v a xs

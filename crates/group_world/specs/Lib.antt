@@ -1,5 +1,5 @@
--- From the theorem down: World, Rules, Unanswered, Monitor, Node, Maps. Refusal has what refusals
--- print.
+-- Read from the theorem down: World, Rules, Unanswered, Monitor, Node, Maps. Refusal has what
+-- refusals print.
 pub mod Maps
 pub mod Refusal
 pub mod Node

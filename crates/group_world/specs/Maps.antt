@@ -4,23 +4,23 @@ use Rattle.placement.specs.Placement.{has}
 
 pub record GroupMap : Type 0 where
   pub epoch : ℕ
-  -- the epoch since which the acting list is the same
+  -- the first epoch of the run of maps with this acting list
   pub interval : ℕ
   pub acting : List ℕ
-  -- the interval that was activated last when this one began, 0 where none was
+  -- the interval that was activated last when this one began, 0 if there was none
   pub prev : ℕ
   pub prev_acting : List ℕ
 
--- stands for a map where there is none
+-- what a node or the monitor has before its first map
 abbrev pub no_map : GroupMap
 no_map = record { epoch = 0; interval = 0; acting = []; prev = 0; prev_acting = [] }
 
--- an interval, and who acts in it
+-- an interval and its acting nodes
 pub record ActingInterval : Type 0 where
   pub interval : ℕ
   pub acting : List ℕ
 
--- stands for an interval where there is none
+-- what the monitor has before an interval was activated
 abbrev pub no_interval : ActingInterval
 no_interval = record { interval = 0; acting = [] }
 
@@ -35,7 +35,7 @@ is_first n (m ∷ ms) = n == m
 abbrev pub is_primary : ℕ → GroupMap → Bool
 is_primary n m = is_first n m.acting
 
--- each of the first nodes is among the second
+-- each node of the first list is in the second
 abbrev pub all_among : List ℕ → List ℕ → Bool
 all_among [] ms = true
 all_among (n ∷ ns) ms = has n ms && all_among ns ms

@@ -15,14 +15,14 @@ pub record MonitorState : Type 0 where
 abbrev pub no_maps : MonitorState
 no_maps = record { newest = no_map; activated = no_interval }
 
--- why the monitor makes no map of this acting list, if it doesn't
+-- why the monitor refuses to make a map of this acting list, if it does
 abbrev pub map_refusal : MonitorState → List ℕ → Option MonitorError
 map_refusal m acting = if not (is_acting acting) then Some BadActing else
     if nat_le (2 ^ 32 - 1) m.newest.epoch then Some EpochsUsedUp else None
 
--- The next map. Where its acting list is that of the newest map, in the same order, it keeps that
--- map's interval and what was before it. Else an interval begins, and before it was the last
--- activated one.
+-- The next map. If its acting list is that of the newest map, in the same order, it keeps that
+-- map's interval and previous interval. Else a new interval begins, and its previous interval is
+-- the one activated last.
 abbrev pub next_map : MonitorState → List ℕ → GroupMap
 next_map m acting = if is_same_list m.newest.acting acting
     then record { epoch = suc m.newest.epoch; interval = m.newest.interval; acting = acting; prev = m.newest.prev; prev_acting = m.newest.prev_acting }

@@ -1,4 +1,4 @@
--- A node of a group, and what an event makes of it and sends.
+-- A node of a group, and the outcome of an event.
 use Rattle.std.specs.Prelude.{ℕ, List, [], ◌∷◌, Bool, true, false, if◌then◌else◌, ◌==◌, Option, Some, None, take, ◌++◌}
 use Rattle.pg_log.specs.Requests.{ClientRequest}
 use Rattle.group_world.specs.Maps.{GroupMap, no_map}
@@ -13,13 +13,13 @@ use Rattle.group_world.specs.declared.handle_error.HandleError.{HandleError}
 pub record NodeState : Type 0 where
   -- the interval that it is in, 0 before the first
   pub interval : ℕ
-  -- the map by which it came there
+  -- the map with which it entered that interval
   pub members : GroupMap
   pub status : Status
   pub log : List ClientRequest
-  -- how long the committed list is
+  -- the length of the committed list
   pub committed : ℕ
-  -- who has installed, while it is installing
+  -- the members that have installed, while it is installing
   pub joined : List ℕ
   -- the acknowledged length of each acting member, in acting order, while it is active
   pub acked : List ℕ
@@ -32,8 +32,8 @@ fresh = record { interval = 0; members = no_map; status = Out; log = []; committ
 abbrev pub committed_list : NodeState → List ClientRequest
 committed_list s = take s.committed s.log
 
--- What an event makes of a node: its state, the messages that it sends in their order, and the
--- refusal if it is one.
+-- The outcome of an event: the node's state after it, the messages that it sends in their order,
+-- and the refusal, if it refuses.
 pub record Outcome : Type 0 where
   pub node : NodeState
   pub sent : List Packet
@@ -46,7 +46,7 @@ nothing s = record { node = s; sent = []; refusal = None }
 abbrev pub refused : NodeState → HandleError → Outcome
 refused s why = record { node = s; sent = []; refusal = Some why }
 
--- one message more at the end
+-- the outcome with one more message at the end
 abbrev pub and_sends : Outcome → Packet → Outcome
 and_sends o p = record { node = o.node; sent = o.sent ++ p ∷ []; refusal = None }
 
@@ -59,7 +59,7 @@ abbrev pub to_all : ℕ → List ℕ → MessageKind → List Packet
 to_all n [] kind = []
 to_all n (m ∷ ms) kind = packet n (ANode m) kind ∷ to_all n ms kind
 
--- the same message to each of these nodes but the sender
+-- the same message to each of these nodes except the sender
 abbrev pub to_others : ℕ → List ℕ → MessageKind → List Packet
 to_others n [] kind = []
 to_others n (m ∷ ms) kind = if m == n then to_others n ms kind else packet n (ANode m) kind ∷ to_others n ms kind

@@ -29,11 +29,11 @@ handle_error_name node.NoMethod = codes "NoMethod"
 handle_error_name node.InputTooLong = codes "InputTooLong"
 handle_error_name node.NoMemory = codes "NoMemory"
 
--- what a node's refusal prints: number, blank and name
+-- what a node's refusal prints: number, space and name
 abbrev pub handle_error_text : HandleError → List ℕ
 handle_error_text e = decimal (handle_error_number e) ++ codes " " ++ handle_error_name e
 
--- the log's refusals as a node gives them
+-- a refusal of the log as the node's refusal
 abbrev pub of_log : LogError → HandleError
 of_log log.LogFull = node.LogFull
 of_log log.StaleNumber = node.StaleNumber
@@ -55,6 +55,6 @@ monitor_error_name monitor.NotNewest = codes "NotNewest"
 monitor_error_name monitor.EpochsUsedUp = codes "EpochsUsedUp"
 monitor_error_name monitor.NoMemory = codes "NoMemory"
 
--- what a refusal of the monitor prints: number, blank and name
+-- what a refusal of the monitor prints: number, space and name
 abbrev pub monitor_error_text : MonitorError → List ℕ
 monitor_error_text e = decimal (monitor_error_number e) ++ codes " " ++ monitor_error_name e

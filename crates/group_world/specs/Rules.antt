@@ -1,4 +1,4 @@
--- What a node does at an event, a definition for each rule. A node is its number and its state.
+-- What a node does at an event, one definition for each rule. A node has a number and a state.
 use Rattle.std.specs.Prelude.{ℕ, suc, List, [], ◌∷◌, ◌++◌, length, take, drop, min, max, Bool, true, false, not, ◌&&◌, ◌||◌, ◌==◌, nat_lt, if◌then◌else◌, Option, Some, None, is_none}
 use Rattle.placement.specs.Placement.{has}
 use Rattle.pg_log.specs.Requests.{ClientRequest}
@@ -21,7 +21,7 @@ use Rattle.group_world.specs.declared.handle_error.HandleError.TheVariants.{NotP
 
 -- RECEIVED LISTS
 
--- the requests are equal, in each part
+-- the requests are equal in each part
 abbrev pub is_same_request : ClientRequest → ClientRequest → Bool
 is_same_request a b = (a.client == b.client) && ((a.number == b.number) && (is_same_list a.object b.object
     && ((a.class == b.class) && (is_same_list a.method b.method && is_same_list a.input b.input))))
@@ -37,7 +37,7 @@ abbrev pub is_usable : Classes → NodeState → List ClientRequest → Bool
 is_usable classes s list = is_none (first_refusal classes list) && begins (committed_list s) list
 
 -- ADOPT A LIST. The primary takes it as its log and has the other members install it. It counts as
--- installed itself, and asks the monitor at once where it acts alone.
+-- installed itself. If it acts alone it asks the monitor at once.
 abbrev pub ask_if : ℕ → NodeState → Bool → List Packet
 ask_if n s all = if all then packet n TheMonitor (AskActivate s.interval) ∷ [] else []
 
@@ -48,10 +48,10 @@ adopt n s list = record {
   refusal = None;
 }
 
--- LEARN A MAP. A node moves to a map of a higher interval: it is out where it doesn't act, and
--- waits where it acts and isn't the primary. A primary asks the members of the interval before for
--- their lists; where there is none it adopts the empty list. A map that would have a node that has
--- committed do so isn't learned. Other maps change nothing.
+-- LEARN A MAP. A node moves to a map of a higher interval. If it doesn't act there it is out; if it
+-- acts and isn't the primary it waits. A primary asks the members of the previous interval for
+-- their lists; if there is no previous interval it adopts the empty list. A node that has committed
+-- something ignores a map by which it would adopt the empty list. Other maps change nothing.
 abbrev pub at_map : NodeState → GroupMap → Status → NodeState
 at_map s m status = record { interval = m.interval; members = m; status = status; log = s.log; committed = s.committed; joined = []; acked = [] }
 
@@ -72,7 +72,7 @@ would_forget n s m = nat_lt s.interval m.interval && (is_primary n m && ((m.prev
 abbrev pub learn_map : ℕ → NodeState → GroupMap → Outcome
 learn_map n s m = if would_forget n s m then nothing s else arrive n s m
 
--- a message that carries such a map, or one of a lower interval, is ignored whole
+-- a message with such a map, or with a map of a lower interval, is ignored
 abbrev pub ignores : ℕ → NodeState → GroupMap → Bool
 ignores n s m = nat_lt m.interval s.interval || would_forget n s m
 
@@ -86,13 +86,13 @@ abbrev pub adopt_log : Classes → ℕ → NodeState → ℕ → List ClientRequ
 adopt_log classes n s interval list =
     if (interval == s.interval) && (is_asking s.status && is_usable classes s list) then adopt n s list else nothing s
 
--- INSTALL. A list that the node can't use is ignored whole, and so is the move. Else it first moves
--- to the map: where it waits then it takes the list as its log and says so, and where it has
--- installed already it only says so again.
+-- INSTALL. If the node can't use the list it ignores the message, and doesn't move. Else it first
+-- moves to the map. If it then waits, it takes the list as its log and answers Installed. If it has
+-- installed already, it only answers Installed again.
 abbrev pub says_installed : ℕ → Party → NodeState → Packet
 says_installed n receiver s = packet n receiver (InstalledIn s.interval)
 
--- o is what the move made of the node
+-- o is the outcome of the move
 abbrev pub install_after : ℕ → Party → List ClientRequest → Outcome → Outcome
 install_after n sender list o =
     if is_waiting o.node.status
@@ -103,8 +103,8 @@ abbrev pub install : Classes → ℕ → NodeState → Party → GroupMap → Li
 install classes n s sender m list = if ignores n s m then nothing s else
     if is_usable classes s list then install_after n sender list (arrive n s m) else nothing s
 
--- NOTE AN INSTALLED. An installing primary notes each other member of its interval once; with the
--- last it asks the monitor.
+-- NOTE AN INSTALLED. An installing primary notes each other member of its interval once. After the
+-- last one it asks the monitor.
 abbrev pub note_installed : ℕ → NodeState → Party → ℕ → Outcome
 note_installed n s (ANode m) interval =
     if (interval == s.interval) && (is_installing s.status && (has m s.members.acting && not (has m s.joined)))
@@ -112,8 +112,8 @@ note_installed n s (ANode m) interval =
     else nothing s
 note_installed n s _ interval = nothing s
 
--- ACTIVATE. An installing primary becomes active: the whole list that it adopted is committed, and
--- counts as acknowledged.
+-- ACTIVATE. An installing primary becomes active. The whole list that it adopted is committed, and
+-- counts as acknowledged by each member.
 abbrev pub each_at : List ℕ → ℕ → List ℕ
 each_at [] k = []
 each_at (n ∷ ns) k = k ∷ each_at ns k
@@ -129,7 +129,7 @@ abbrev pub least_of : ℕ → List ℕ → ℕ
 least_of k [] = k
 least_of k (a ∷ acked) = least_of (min k a) acked
 
--- the answer at a place of a list; past its end there is none, and the empty one stands for it
+-- the answer at a place of a list, or an empty one if the place is past the end
 abbrev pub or_empty : Option Reply → Reply
 or_empty None = record { code = 0; output = [] }
 or_empty (Some reply) = reply
@@ -137,7 +137,7 @@ or_empty (Some reply) = reply
 abbrev pub reply_packet : Classes → ℕ → List ClientRequest → ℕ → ClientRequest → Packet
 reply_packet classes n log place r = packet n (AClient r.client) (ReplyTo r.client r.number place (or_empty (reply_at classes log place)))
 
--- to these requests, which stand in the log from a place on
+-- the replies to these requests, which are in the log from a place on
 abbrev pub replies_from : Classes → ℕ → List ClientRequest → ℕ → List ClientRequest → List Packet
 replies_from classes n log place [] = []
 replies_from classes n log place (r ∷ rs) = reply_packet classes n log place r ∷ replies_from classes n log (suc place) rs
@@ -149,15 +149,15 @@ commit classes n s = let point = max s.committed (least_of (length s.log) s.acke
   refusal = None;
 }
 
--- a member's acknowledged length rises to k where it is lower
+-- a member's acknowledged length rises to k if it is lower
 abbrev pub raised : ℕ → ℕ → List ℕ → List ℕ → List ℕ
 raised m k [] acked = acked
 raised m k (n ∷ ns) [] = []
 raised m k (n ∷ ns) (a ∷ acked) = (if n == m then max a k else a) ∷ raised m k ns acked
 
--- REQUEST. An active primary answers a committed request again, and is silent of one that is logged
--- and isn't committed. A new one that may follow the log is appended and sent to the other members,
--- and where the primary acts alone it is committed at once. Else it is refused.
+-- REQUEST. An active primary answers a committed request again, and doesn't answer one that is
+-- logged and not committed. A new request that may follow the log is appended and sent to the other
+-- members; if the primary acts alone it is committed at once. Any other request is refused.
 abbrev pub append_new : Classes → ℕ → NodeState → ClientRequest → Outcome
 append_new classes n s r =
     let o = commit classes n (record s { log = s.log ++ r ∷ []; acked = raised n (length (s.log ++ r ∷ [])) s.members.acting s.acked }) in
@@ -167,7 +167,7 @@ abbrev pub append_unless : Classes → ℕ → NodeState → ClientRequest → O
 append_unless classes n s r None = append_new classes n s r
 append_unless classes n s r (Some why) = refused s (of_log why)
 
--- where the request's client and number stand in the log, if they do
+-- the last argument is the place in the log of the request's client and number, if it has them
 abbrev pub request_at : Classes → ℕ → NodeState → ClientRequest → Option ℕ → Outcome
 request_at classes n s r (Some place) =
     if nat_lt place s.committed then and_sends (nothing s) (reply_packet classes n s.log place r) else nothing s
@@ -177,8 +177,8 @@ abbrev pub request : Classes → ℕ → NodeState → ClientRequest → Outcome
 request classes n s r = if is_active s.status then request_at classes n s r (place_of r.client r.number s.log) else
     if is_asking s.status || is_installing s.status then refused s Peering else refused s NotPrimary
 
--- REPLICATE. A member that has installed appends the request of the next place, where it may follow
--- the log, and acknowledges its length; at a lower place it only acknowledges.
+-- REPLICATE. A member that has installed appends the request of the next place, if the request may
+-- follow the log, and acknowledges its length. At a lower place it only acknowledges.
 abbrev pub says_ack : ℕ → Party → NodeState → Packet
 says_ack n receiver s = packet n receiver (Ack s.interval (length s.log))
 
@@ -192,7 +192,7 @@ replicate classes n s sender interval place r =
     if (place == length s.log) && is_none (refusal classes s.log r) then and_acks n sender (record s { log = s.log ++ r ∷ [] }) else nothing s)
     else nothing s
 
--- ACKNOWLEDGE. It raises the member's length at an active primary, and then the commit point.
+-- ACKNOWLEDGE. An active primary raises the member's length, and then the commit point.
 abbrev pub acknowledge : Classes → ℕ → NodeState → Party → ℕ → ℕ → Outcome
 acknowledge classes n s (ANode m) interval k = if (interval == s.interval) && is_active s.status
     then commit classes n (record s { acked = raised m k s.members.acting s.acked }) else nothing s
@@ -210,7 +210,7 @@ receive classes n s sender (Rep interval place r) = replicate classes n s sender
 receive classes n s sender (Ack interval k) = acknowledge classes n s sender interval k
 receive classes n s sender (ReplyTo client number place answer) = nothing s
 
--- What node n in state s does at an event, where memory isn't refused.
+-- What node n in state s does at an event, if memory isn't refused.
 abbrev pub local_step : Classes → ℕ → NodeState → Event → Outcome
 local_step classes n s (ARequest r) = request classes n s r
 local_step classes n s (AMap m) = learn_map n s m

@@ -1,5 +1,5 @@
--- Worked runs of the rules, message by message. The calls are of a class with the methods `lock`
--- and `unlock`; a line leaves out what a call answers.
+-- Worked runs of the rules, message by message. The requests call a class with the methods `lock`
+-- and `unlock`. A line leaves out the answer of a call.
 use Rattle.std.specs.Prelude.{◌≡◌, ℕ, ◌-◌, List, [], ◌∷◌, ◌++◌, length, map, codes}
 use Rattle.bpf_decode.specs.Class.{ClassMethod}
 use Rattle.pg_log.specs.Requests.{ClientRequest}
@@ -15,8 +15,8 @@ use Rattle.group_world.specs.declared.message.MessageKind.{MessageKind}
 use Rattle.group_world.specs.declared.message.MessageKind.TheVariants.{Query, Log as LogOf, Install, Installed as InstalledIn, AskActivate, Activated, Rep, Ack, Reply as ReplyTo}
 use Rattle.group_world.specs.declared.message.Packet.{Packet}
 
--- A message in short: sender, receiver, kind, its interval (of a reply the request's number), and a
--- list's length, a place or an acknowledged length.
+-- A message in short: sender, receiver, kind, its interval (a reply has the request's number
+-- instead), and a list's length, a place or an acknowledged length.
 abbrev pub Line : Type 0
 Line = Party × Party × List ℕ × ℕ × ℕ
 
@@ -48,7 +48,7 @@ call client number name = record { client = client; number = number; object = co
 abbrev pub after : List WorldEvent → World
 after events = run events (opening locks)
 
--- every message that they sent, the first one first
+-- every message that was sent, in order
 abbrev pub lines : List WorldEvent → List Line
 lines events = map line (after events).sent
 
@@ -59,7 +59,7 @@ Standing = ℕ × Status × ℕ × ℕ
 abbrev pub standing : List WorldEvent → ℕ → Standing
 standing events n = let s = (after events).nodes n in (s.interval, s.status, length s.log, s.committed)
 
--- node n sees the map of an epoch, and message m is delivered, both counted from 1
+-- node n sees the map of an epoch; message m is delivered; both are counted from 1
 abbrev pub sees : ℕ → ℕ → WorldEvent
 sees n epoch = MapSeen n (epoch - 1)
 
@@ -101,15 +101,15 @@ both_have = three_nodes ++ RequestAt 1 (call 1 7 (codes "lock")) ∷ delivers 7 
 abbrev pub both_lines : List Line
 both_lines = three_lines ++ from_to 1 2 (codes "Rep") 1 0 ∷ from_to 1 3 (codes "Rep") 1 0 ∷ from_to 2 1 (codes "Ack") 1 1 ∷ from_to 3 1 (codes "Ack") 1 1 ∷ []
 
--- A REPEATED REQUEST gets the same reply, and stands once.
+-- A REPEATED REQUEST gets the same reply, and is in the log once.
 abbrev pub request_repeated : List WorldEvent
 request_repeated = both_have ++ delivers 9 ∷ delivers 10 ∷ RequestAt 1 (call 1 7 (codes "lock")) ∷ []
 
 abbrev pub RepeatedRequest : Type 0
 RepeatedRequest = (lines request_repeated ≡ both_lines ++ reply 1 1 7 0 ∷ reply 1 1 7 0 ∷ []) × (standing request_repeated 1 ≡ (1, Active, 1, 1))
 
--- LOST ACKNOWLEDGEMENTS: the primary stops before it hears them. The next one finds the request,
--- and both answer alike.
+-- LOST ACKNOWLEDGEMENTS: the primary stops before it receives them. The next primary has the
+-- request, and both give the same answer.
 abbrev pub lost_acknowledgements : List WorldEvent
 lost_acknowledgements = both_have ++ MapMade (2 ∷ 3 ∷ []) ∷ sees 2 2 ∷ delivers 13 ∷ delivers 14 ∷ delivers 15 ∷ delivers 16 ∷ delivers 17 ∷ delivers 18
     ∷ RequestAt 2 (call 1 7 (codes "lock")) ∷ delivers 9 ∷ delivers 10 ∷ []
@@ -128,7 +128,7 @@ RepeatedInstall = (lines (repeated_install ++ delivers 9 ∷ []) ≡ three_lines
     ∷ from_to 1 3 (codes "Rep") 1 1 ∷ from_to 2 1 (codes "Ack") 1 1 ∷ from_to 2 1 (codes "Installed") 1 0 ∷ from_to 2 1 (codes "Ack") 1 2 ∷ [])
     × (standing repeated_install 2 ≡ (1, Installed, 1, 0))
 
--- ALL MEMBERS STOPPED: the next primary asks them, and goes on asking.
+-- ALL MEMBERS STOPPED: the next primary asks them, and keeps asking.
 abbrev pub all_stopped : List WorldEvent
 all_stopped = three_nodes ++ MapMade (4 ∷ 5 ∷ []) ∷ sees 4 2 ∷ RequestAt 4 (call 1 8 (codes "lock")) ∷ RequestAt 5 (call 1 8 (codes "lock")) ∷ []
 
@@ -136,8 +136,8 @@ abbrev pub AllStopped : Type 0
 AllStopped = (lines all_stopped ≡ three_lines ++ from_to 4 1 (codes "Query") 2 0 ∷ from_to 4 2 (codes "Query") 2 0 ∷ from_to 4 3 (codes "Query") 2 0 ∷ [])
     × (standing all_stopped 4 ≡ (2, Asking, 0, 0))
 
--- A DIVERGENT END: the old primary has a request that no other has, and gives it up for what the
--- others chose.
+-- A DIVERGENT END: the old primary has a request that no other node has, and drops it for the list
+-- that the others chose.
 abbrev pub divergent_end : List WorldEvent
 divergent_end = both_have ++ delivers 9 ∷ delivers 10 ∷ RequestAt 1 (call 1 8 (codes "unlock")) ∷ MapMade (2 ∷ 3 ∷ []) ∷ sees 2 2 ∷ delivers 16 ∷ delivers 17 ∷ delivers 18 ∷ delivers 19
     ∷ delivers 20 ∷ delivers 21 ∷ RequestAt 2 (call 2 1 (codes "lock")) ∷ delivers 22 ∷ delivers 23 ∷ MapMade (1 ∷ 2 ∷ []) ∷ sees 1 3 ∷ delivers 26 ∷ delivers 27 ∷ []
@@ -153,8 +153,8 @@ DivergentEnd = (standing divergent_end 1 ≡ (3, Installing, 2, 1))
     ∷ from_to 1 2 (codes "Query") 3 0 ∷ from_to 1 3 (codes "Query") 3 0 ∷ from_to 3 1 (codes "Log") 3 2 ∷ from_to 1 2 (codes "Install") 3 2
     ∷ from_to 2 1 (codes "Installed") 3 0 ∷ to_monitor 1 3 ∷ from_monitor 1 3 ∷ from_to 1 2 (codes "Rep") 3 2 ∷ from_to 2 1 (codes "Ack") 3 3 ∷ reply 1 1 8 2 ∷ [])
 
--- WHAT IS UNANSWERED is what the primary sends again: first to both members, and then to the one
--- that is silent.
+-- UNANSWERED MESSAGES are what the primary sends again: first to both members, then to the one that
+-- hasn't answered.
 abbrev pub one_silent : List WorldEvent
 one_silent = three_nodes ++ RequestAt 1 (call 1 7 (codes "lock")) ∷ []
 

@@ -1,4 +1,4 @@
--- What the messages and the refusals of one step say is so.
+-- What the messages and the refusals of one step say is true.
 use Rattle.std.specs.Prelude.{◌≡◌, ℕ, ◌≤◌, length, Some, slice_get}
 use Rattle.std.specs.List.{Contains}
 use Rattle.pg_log.specs.Requests.{ClientRequest}
@@ -19,8 +19,8 @@ abbrev pub RepliesAreCommitted : Type 0
 RepliesAreCommitted = (classes : Classes) (n : ℕ) (s : NodeState) (event : Event) → s.committed ≤ length s.log →
     (p : Packet) → Contains (local_step classes n s event).sent p → IsTrueOf classes (committed_list (local_step classes n s event).node) p.message.kind
 
--- What a refusal by class, method or input says of the request is so by the loaded classes. Of
--- other refusals nothing is said.
+-- What a refusal by class, method or input says about the request is true of the loaded classes.
+-- Nothing is said about other refusals.
 pub record IsDeserved (classes : Classes) (request : ClientRequest) (why : HandleError) : Type 0 where
   pub class : why ≡ node.NoClass → refusal_of_class (slice_get classes request.class) request ≡ Some log.NoClass
   pub method : why ≡ node.NoMethod → refusal_of_class (slice_get classes request.class) request ≡ Some log.NoMethod

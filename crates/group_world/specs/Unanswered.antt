@@ -1,4 +1,4 @@
--- What a node sent in its interval and no answer covers.
+-- The messages that a node sent in its interval and that no answer covers.
 use Rattle.std.specs.Prelude.{ℕ, suc, List, [], ◌∷◌, ◌++◌, drop, ◌||◌, ◌==◌, if◌then◌else◌}
 use Rattle.placement.specs.Placement.{has}
 use Rattle.pg_log.specs.Requests.{ClientRequest}
@@ -17,12 +17,12 @@ abbrev pub to_missing : ℕ → List ℕ → List ℕ → MessageKind → List P
 to_missing n joined [] kind = []
 to_missing n joined (m ∷ ms) kind = if has m joined || m == n then to_missing n joined ms kind else packet n (ANode m) kind ∷ to_missing n joined ms kind
 
--- to one member, of these requests, which stand in the log from a place on
+-- a Rep to one member of each of these requests, which are in the log from a place on
 abbrev pub reps_from : ℕ → ℕ → ℕ → ℕ → List ClientRequest → List Packet
 reps_from n m interval place [] = []
 reps_from n m interval place (r ∷ rs) = packet n (ANode m) (Rep interval place r) ∷ reps_from n m interval (suc place) rs
 
--- to each of these members but the sender, of the places past its acknowledged length
+-- a Rep to each of these members except the sender, of each place past its acknowledged length
 abbrev pub reps_unacked : ℕ → NodeState → List ℕ → List ℕ → List Packet
 reps_unacked n s [] acked = []
 reps_unacked n s (m ∷ ms) [] = []
@@ -37,7 +37,7 @@ unanswered_in n s Asking = to_all n s.members.prev_acting (Query s.members)
 unanswered_in n s Installing = to_missing n s.joined s.members.acting (Install s.members s.log) ++ ask_if n s (all_among s.members.acting s.joined)
 unanswered_in n s Active = reps_unacked n s s.members.acting s.acked
 
--- The unanswered messages of a node, members in acting order (of Query that of the map before),
--- places rising.
+-- The unanswered messages of a node: members in acting order (for a Query that of the previous
+-- interval), places rising.
 abbrev pub unanswered : ℕ → NodeState → List Packet
 unanswered n s = unanswered_in n s s.status

@@ -1,5 +1,5 @@
--- From the world of one group to the agreed world. What a node does at an event is in Rules, the
--- monitor in Monitor.
+-- From the world of one group to the agreed world. Rules has what a node does at an event, Monitor
+-- what the monitor does.
 use Rattle.std.specs.Prelude.{◌≡◌, ℕ, List, [], ◌∷◌, ◌++◌, ◌≤◌, length, ◌==◌, if◌then◌else◌, is_none, Option, Some, None, slice_get}
 use Rattle.std.specs.List.{Contains, AllByRecursion}
 use mathlib.Core.List.{IsPrefix}
@@ -20,8 +20,8 @@ use Rattle.group_world.specs.declared.message.Packet.{Packet}
 use Rattle.group_world.specs.declared.event.Event.{Event}
 use Rattle.group_world.specs.declared.event.Event.TheVariants.{Request as ARequest, Map as AMap, Message as AMessage}
 
--- A WORLD is the loaded classes, every map made, the monitor, each node by its number, and every
--- message ever sent.
+-- A WORLD has the loaded classes, every map that was made, the monitor, each node by its number,
+-- and every message that was ever sent.
 pub record World : Type 0 where
   pub classes : Classes
   pub maps : List GroupMap
@@ -33,10 +33,10 @@ pub record World : Type 0 where
 abbrev pub opening : Classes → World
 opening classes = record { classes = classes; maps = []; monitor = no_maps; nodes = λ n. fresh; sent = [] }
 
--- WHAT MAY HAPPEN. A request comes to a node. The monitor makes a map of an acting list. A node
--- sees a map, by its place among all that were made. A message is delivered, by its place among all
--- that were ever sent: so it may come late, again, out of order or never. An event meets want of
--- memory.
+-- WHAT MAY HAPPEN. A node gets a request. The monitor makes a map of an acting list. A node sees a
+-- map, named by its place among all that were made. A message is delivered, named by its place
+-- among all that were ever sent: so it may arrive late, again, out of order or never. Memory is
+-- refused to an event.
 pub data WorldEvent : Type 0 where
   RequestAt : (node : ℕ) → ClientRequest → WorldEvent
   MapMade : (acting : List ℕ) → WorldEvent
@@ -46,7 +46,7 @@ pub data WorldEvent : Type 0 where
 
 -- STEPS.
 
--- the nodes where one is in another state
+-- the nodes, with one of them in another state
 abbrev pub with_node : (ℕ → NodeState) → ℕ → NodeState → ℕ → NodeState
 with_node nodes n s m = if m == n then s else nodes m
 
@@ -61,7 +61,7 @@ make_map w acting = if is_none (map_refusal w.monitor acting)
     then record { classes = w.classes; maps = w.maps ++ next_map w.monitor acting ∷ []; monitor = with_map w.monitor acting; nodes = w.nodes; sent = w.sent }
     else w
 
--- the monitor activates an interval and says so to who asked, each time, unless it refuses
+-- the monitor activates an interval and says so to the sender, each time, unless it refuses
 abbrev pub activated_for : Party → ℕ → Packet
 activated_for asker interval = record { receiver = asker; message = record { sender = TheMonitor; kind = Activated interval } }
 
@@ -75,7 +75,7 @@ abbrev pub at_monitor : World → Party → MessageKind → World
 at_monitor w sender (AskActivate interval) = activate_for w sender interval
 at_monitor w sender _ = w
 
--- a message comes to its receiver
+-- a message arrives at its receiver
 abbrev pub deliver_to : World → Party → Message → World
 deliver_to w (ANode n) m = at_node w n (AMessage m)
 deliver_to w TheMonitor m = at_monitor w m.sender m.kind
@@ -102,7 +102,7 @@ abbrev pub run : List WorldEvent → World → World
 run [] w = w
 run (event ∷ events) w = run events (happens w event)
 
--- WHAT WAS BROUGHT: the requests of the request events.
+-- BROUGHT REQUESTS are those of the request events.
 abbrev pub brought_by : WorldEvent → List ClientRequest
 brought_by (RequestAt n r) = r ∷ []
 brought_by _ = []
@@ -111,15 +111,15 @@ abbrev pub brought : List WorldEvent → List ClientRequest
 brought [] = []
 brought (event ∷ events) = brought_by event ++ brought events
 
--- a request of that client and number stands at the place
+-- a request of that client and number is at the place
 pub record StandsAt (list : List ClientRequest) (client number place : ℕ) : Type 0 where
   pub request : ClientRequest
   pub stands : slice_get list place ≡ Some request
   pub of_client : request.client ≡ client
   pub of_number : request.number ≡ number
 
--- A reply names a place of the list at which a request of that client and number stands, and
--- carries what is answered there.
+-- A reply names a place of the list that has a request of that client and number, and carries the
+-- answer there.
 abbrev pub IsTrueOf : Classes → List ClientRequest → MessageKind → Type 0
 IsTrueOf classes list (ReplyTo client number place answer) =
     StandsAt list client number place × (reply_at classes list place ≡ Some answer)
@@ -132,9 +132,9 @@ KeepsCommitted s (Install m list) = m.interval ≡ s.interval → s.status ≡ W
 KeepsCommitted s _ = Unit {0}
 
 -- AN AGREED WORLD, after these events: there is one legal list such that each node's committed list
--- is a beginning of it, each of its requests was brought, and each reply ever sent is its
--- request's; and what a node would send again was sent before, and what it would take keeps what it
--- has committed.
+-- is a beginning of it, each of its requests was brought, and each reply ever sent is the answer to
+-- its request in the list. Whatever a node would send again was sent before, and a list that it
+-- would take begins with its committed list.
 pub record IsAgreed (events : List WorldEvent) (w : World) : Type 0 where
   pub list : List ClientRequest
   pub legal : Legal w.classes list
@@ -148,17 +148,17 @@ pub record IsAgreed (events : List WorldEvent) (w : World) : Type 0 where
 abbrev pub AllAgree : Type 0
 AllAgree = (classes : Classes) (events : List WorldEvent) → IsAgreed events (run events (opening classes))
 
--- no node's committed list is cut between two worlds
+-- each node's committed list in the first world begins that in the second
 abbrev pub IsUncut : World → World → Type 0
 IsUncut w v = (n : ℕ) → IsPrefix (committed_list (w.nodes n)) (committed_list (v.nodes n))
 
--- And a further event cuts none.
+-- A further event cuts no committed list.
 abbrev pub NoneIsCut : Type 0
 NoneIsCut = (classes : Classes) (events : List WorldEvent) (event : WorldEvent) →
     IsUncut (run events (opening classes)) (happens (run events (opening classes)) event)
 
--- Of one node: an event keeps the committed length within the log, and cuts the committed list
--- nowhere.
+-- For one node: an event keeps the committed length within the log, and doesn't cut the committed
+-- list.
 abbrev pub StepsCutNothing : Type 0
 StepsCutNothing = (classes : Classes) (n : ℕ) (s : NodeState) (event : Event) → s.committed ≤ length s.log →
     ((local_step classes n s event).node.committed ≤ length (local_step classes n s event).node.log)

@@ -2,10 +2,10 @@
 ghost use Rattle.std.specs.Prelude.{◌≡◌, IfOk};
 
 use crate::answer::CallReply;
-use crate::epoch::Epoch;
 use crate::group_map::GroupMap;
 use crate::message::{MessageKind, Place};
 use pg_log::{ClientId, Request, RequestNumber, Requests};
+use placement::Epoch;
 use std::alloc::{AllocError, Global};
 
 /// The same request.

@@ -1,7 +1,6 @@
 ghost use Rattle.std.specs.Prelude.{◌≡◌, IfOk};
 
-use crate::epoch::Epoch;
-use placement::NodeId;
+use placement::{Epoch, NodeId};
 use std::alloc::{AllocError, Global};
 use std::marker::Model;
 

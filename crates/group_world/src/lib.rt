@@ -8,7 +8,6 @@
 mod answer;
 mod copies;
 mod crossing;
-mod epoch;
 mod event;
 mod group_map;
 mod handle_error;
@@ -22,7 +21,6 @@ mod status;
 
 pub use answer::CallReply;
 pub use crossing::{event_crosses, map_crosses, message_crosses};
-pub use epoch::Epoch;
 pub use event::Event;
 pub use group_map::GroupMap;
 pub use handle_error::HandleError;
@@ -34,5 +32,6 @@ pub use messages::Messages;
 pub use monitor_error::MonitorError;
 pub use party::Party;
 pub use pg_log::Requests;
+pub use placement::Epoch;
 pub use runs::worked_runs;
 pub use status::Status;

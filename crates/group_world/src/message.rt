@@ -2,10 +2,10 @@ ghost use Rattle.std.specs.Prelude.{◌≡◌, IfOk};
 
 use crate::answer::CallReply;
 use crate::copies::copy_kind;
-use crate::epoch::Epoch;
 use crate::group_map::GroupMap;
 use crate::party::Party;
 use pg_log::{ClientId, Request, RequestNumber, Requests};
+use placement::Epoch;
 use std::alloc::{AllocError, Global};
 
 /// A place in a log, from 0 on, as `pg_log` counts them.

@@ -15,7 +15,7 @@ pub newest_stays : {T E : Type 0} (r : Result T E) (old new : MonitorState) → 
 newest_stays (Ok t) old new ok err = ap (λ (m : MonitorState). m.newest) ok
 newest_stays (Err e) old new ok err = ap (λ (m : MonitorState). m.newest) err
 
--- a fact in place of another, where a call is answered
+-- a fact that replaces another, if a call is answered
 pub on_ok : {T E : Type 0} (r : Result T E) (P Q : Type 0) → (P → Q) → OnOk r P → OnOk r Q
 on_ok (Ok t) P Q f p = f p
 on_ok (Err e) P Q f p = p
@@ -38,13 +38,13 @@ changed_book nodes replicas epoch ms k x b same = record {
   one_epoch = all_have (λ m. m.newest.epoch ≡ epoch) ms k x same b.one_epoch;
 }
 
--- the monitor at a place is the only one there
+-- a place has one monitor
 pub is_the_one : (ms : List MonitorState) (k : ℕ) (d m : MonitorState) → k < length ms → d ≡ get_or ms k d → slice_get ms k ≡ Some m → d ≡ m
 is_the_one ms k d m low is at = is ∙ ap (λ (o : Option MonitorState). unwrap_or o m) (sym (slice_get-get_or ms k d low) ∙ at)
 
--- A MAP MORE
+-- ONE MORE MAP
 
--- the next map, where the interval is kept and where one begins
+-- the next map, if it keeps the interval and if it begins one
 abbrev kept : MonitorState → List ℕ → GroupMap
 kept m acting = record { epoch = suc m.newest.epoch; interval = m.newest.interval; acting = acting; prev = m.newest.prev; prev_acting = m.newest.prev_acting }
 
@@ -89,7 +89,7 @@ moved_book nodes replicas epoch up ms b = record {
   one_epoch = moved_epochs 0 replicas up epoch ms b.one_epoch;
 }
 
--- each new map may act where each acting list may
+-- the lists of the new maps may act, if each acting list may
 pub maps_act : (group replicas : ℕ) (up : List ℕ) (ms : List MonitorState) → ((i : ℕ) → i < length ms → is_acting (acting_list replicas up (group + i)) ≡ true)
     → (k : ℕ) (d : NewMap) → k < length (maps_from group replicas up ms) → is_acting (slice_index_or (maps_from group replicas up ms) k d).map.acting ≡ true
 maps_act group replicas up [] each k d low = absurd (omega (arith, low))

@@ -1,11 +1,11 @@
--- Monitors and their maps, one group more.
+-- Monitors and their maps, with one more group.
 use Rattle.std.proofs.Common.{◌≡◌, ℕ, ◌+◌, ◌<◌, ◌≤◌, List, [], ◌∷◌, ◌++◌, length, drop, get_or, refl, sym, ap, ◌∙◌}
 use Rattle.std.proofs.lemmas.List.{append_assoc, append-nil, drop_more, at_drop_all}
 use Rattle.group_world.specs.Monitor.{MonitorState, with_map, next_map}
 use Rattle.map_book.specs.Book.{acting_list, moved_from, maps_from, new_after}
 use Rattle.map_book.specs.declared.new_map.NewMap.{NewMap}
 
--- a map on a list from a place on: what is made so far, and what the rest makes, are the whole
+-- a map over a list: what is made up to a place, and what is made from there on, are the whole
 module _ {A : Type 0} where
   more : (F : ℕ → List MonitorState → List A) (f : ℕ → MonitorState → A) → ((k : ℕ) (m : MonitorState) (ms : List MonitorState) → F k (m ∷ ms) ≡ f k m ∷ F (k + 1) ms)
       → (ms : List MonitorState) (k : ℕ) (d : MonitorState) (done : List A) → k < length ms → done ++ F k (drop k ms) ≡ F 0 ms

@@ -1,5 +1,5 @@
--- The refusals of placement and monitor, as the book passes them on. Of these the book meets want
--- of memory alone.
+-- The refusals of placement and of the monitor, as the book passes them on. Only NoMemory occurs in
+-- the book.
 use Rattle.placement.specs.declared.placement_error.PlacementError.{PlacementError}
 use Rattle.placement.specs.declared.placement_error.PlacementError.TheVariants as placement
 use Rattle.group_world.specs.declared.monitor_error.MonitorError.{MonitorError}

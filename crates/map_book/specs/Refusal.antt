@@ -1,9 +1,9 @@
--- The refusals of new maps, as they print.
+-- How a refusal of new maps is printed.
 use Rattle.std.specs.Prelude.{ℕ, List, codes}
 use Rattle.map_book.specs.declared.map_error.MapError.{MapError}
 use Rattle.map_book.specs.declared.map_error.MapError.TheVariants.{NoneUp, Limit, EpochsUsedUp, NoMemory}
 
--- number, blank and name
+-- number, space and name
 abbrev pub map_error_text : MapError → List ℕ
 map_error_text NoneUp = codes "1 NoneUp"
 map_error_text Limit = codes "2 Limit"

@@ -1,5 +1,5 @@
--- A node may go to another thread: its parts one by one, since a search of all of them at once is
--- too long.
+-- A node may go to another thread. Its parts are proved one by one, since a search of all of them
+-- at once takes too long.
 use denote.Param.Send.{IsSend, AllSend, sendable, view_send, recorded_send, struct_send}
 use denote.RattleType.{RattleType}
 use denote.Struct.Declared.{shape}

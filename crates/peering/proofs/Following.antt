@@ -1,4 +1,4 @@
--- What follows a log that is legal by the table.
+-- What may follow a log that is legal by the table.
 use Rattle.std.proofs.Common.{◌≡◌, ℕ, List, [], ◌∷◌, ◌++◌, length, Some, None, true, false, cond, nat_lt, ap, sym, ◌∙◌, subst, refl}
 use Rattle.std.specs.Int.{w64, cast_unsigned}
 use mathlib.Core.List.{IsPrefix}
@@ -19,7 +19,7 @@ pub beginning_runs : BeginningsAreLegal → ListsAreExact → (classes : Classes
 beginning_runs beginnings exact classes list log p l =
     (exact classes list).1 (beginnings classes list p.0 (subst (λ xs. Legal classes xs) (sym p.1) l))
 
--- the replies of a list that is legal by the table are the same by all classes
+-- a list that is legal by the table has the same replies by all classes
 same_reply : ClassesAdded → (classes all : Classes) (log : List ClientRequest) (k : ℕ) → IsPrefix classes all → Legal classes log → reply_at all log k ≡ reply_at classes log k
 same_reply added classes all log k p l =
     ap (λ w. reply_at w log k) (sym p.1) ∙ (added classes p.0 log l).same_replies k
@@ -42,7 +42,7 @@ new_is classes n s r h = ap (append_unless classes n s r) (sym h)
 pub new_unrefused : (classes : Classes) (n : ℕ) (s : NodeState) (r : ClientRequest) → refusal classes s.log r ≡ None → (request_at classes n s r None).refusal ≡ None
 new_unrefused classes n s r h = ap (λ w. (append_unless classes n s r w).refusal) h
 
--- and an answer again is no refusal
+-- and a repeated answer is no refusal
 pub again_unrefused : (classes : Classes) (n : ℕ) (s : NodeState) (r : ClientRequest) (place : ℕ) → (request_at classes n s r (Some place)).refusal ≡ None
 again_unrefused classes n s r place =
     elim (nat_lt place s.committed) as (λ b. (cond b (and_sends (nothing s) (reply_packet classes n s.log place r)) (nothing s)).refusal ≡ None) [

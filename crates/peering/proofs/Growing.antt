@@ -1,4 +1,4 @@
--- A primary's log with one request more.
+-- A primary's log with one more request.
 use Rattle.std.proofs.Common.{◌≡◌, ◌≤◌, ℕ, ◌+◌, ◌++◌, ◌∷◌, [], List, length, length-append, max, ap, arith, false, sym, ◌∙◌}
 use Rattle.std.specs.Prelude.{None, Result, Ok, Err, IfOk, is_err}
 use Rattle.std.proofs.lemmas.Bool.{false≢true}
@@ -10,7 +10,7 @@ use Rattle.group_world.specs.Rules.{append_new, least_of, raised}
 use Rattle.peering.specs.declared.node.serve.Commit.{Commit}
 use Rattle.peering.specs.inner.Arriving.{sent_with, grown}
 
--- what is acknowledged, committed and sent with one request more is what the rule says
+-- the acknowledged lengths, the commit point and the messages with one more request are the rule's
 pub grown_is : (classes : Classes) (n k : ℕ) (s : NodeState) (r : ClientRequest) (w : Commit) → k ≡ length s.log + 1 →
     w.acked.items ≡ raised n k s.members.acting s.acked → w.point ≡ max s.committed (least_of k w.acked.items) → w.sent.items ≡ sent_with classes n s r w.point → grown s r w ≡ append_new classes n s r
 grown_is classes n k s r w e a p q =
@@ -22,7 +22,7 @@ grown_is classes n k s r w e a p q =
     q ∙ ap (sent_with classes n s r) o in
     λ i. record { node = record s { log = s.log ++ r ∷ []; committed = o i; acked = b i }; sent = t i; refusal = None }
 
--- what isn't an error was kept, and the log is longer by one
+-- if it isn't an error the entry was kept, and the log is longer by one
 pub longer_by_one : (r : Result ℕ LogError) (log new : List ClientRequest) (q : ClientRequest) → false ≡ is_err r →
     IfOk r (λ place. (place ≡ length log) × (new ≡ log ++ q ∷ [])) → length new ≡ length log + 1
 longer_by_one (Ok place) log new q e h = ap (λ (w : List ClientRequest). length w) h.1 ∙ length-append log (q ∷ [])

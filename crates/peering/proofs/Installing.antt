@@ -1,4 +1,4 @@
--- An Install, once the move is known.
+-- An Install, after the move is decided.
 use Rattle.std.proofs.Common.{◌≡◌, ℕ, ◌≤◌, ◌&&◌, ◌||◌, eqb, nat_lt, length, arith, Bool, true, false, cond, List, [], ◌∷◌, ◌++◌, Option, Some, None, Result, Ok, Err, IfOk, ap, sym, ◌∙◌, refl, subst}
 use Rattle.std.specs.Option.{unwrap_or}
 use Rattle.std.proofs.lemmas.Bool.{false≢true}
@@ -21,7 +21,7 @@ use Rattle.group_world.specs.declared.party.Party.{Party}
 use Rattle.group_world.specs.declared.message.MessageKind.TheVariants.{Query, Log as LogOf, Installed as InstalledIn}
 use Rattle.group_world.specs.declared.message.Packet.{Packet}
 use Rattle.group_world.specs.declared.handle_error.HandleError.{HandleError}
-use Rattle.peering.specs.declared.node.moves.Arrival.{Arrival}
+use Rattle.peering.specs.declared.node.arrival.Arrival.{Arrival}
 use Rattle.peering.specs.inner.Arriving.{after_move, interval_after, log_after, Makes, install_first, install_again, with_log, is_memory}
 use Rattle.peering.specs.Numbered.{NumberedNode}
 
@@ -33,16 +33,16 @@ waits Asking h = absurd (false≢true h)
 waits Installing h = absurd (false≢true h)
 waits Active h = absurd (false≢true h)
 
--- what an Install that the node doesn't ignore makes of it, where o is what the move made of it
+-- the outcome of an Install that the node doesn't ignore, if o is the outcome of the move
 abbrev pub install_at : Classes → ℕ → NodeState → Party → List ClientRequest → Outcome → Outcome
 install_at classes n s sender list o = cond (is_usable classes s list) (install_after n sender list o) (nothing s)
 
--- of a node that waits
+-- for a node that waits
 abbrev taken : Classes → ℕ → NodeState → Party → List ClientRequest → NodeState → List Packet → Outcome
 taken classes n s sender list node sent =
     cond (is_usable classes s list) (and_sends (record { node = record node { status = Installed; log = list }; sent = sent; refusal = None }) (says_installed n sender node)) (nothing s)
 
--- and of one that doesn't
+-- and for one that doesn't
 abbrev said : ℕ → Party → NodeState → List Packet → Option HandleError → Outcome
 said n sender node sent refusal =
     cond (is_installed node.status) (record { node = node; sent = sent ++ says_installed n sender node ∷ []; refusal = None }) (record { node = node; sent = sent; refusal = refusal })
@@ -88,7 +88,7 @@ waiting_is : (s : NodeState) (m : GroupMap) (status : Option Status) (joined : L
 waiting_is s m None joined = refl
 waiting_is s m (Some st) joined = refl
 
--- the first Install, where the node waits
+-- the first Install: the node waits
 pub first_install : (classes : Classes) (n : ℕ) (s : NodeState) (sender : Party) (m : GroupMap) (list : List ClientRequest) (a : Arrival) (o : Outcome) →
     Makes s m a o → is_waiting (unwrap_or a.status s.status) ≡ true →
     install_first classes n s sender m list a ≡ install_at classes n s sender list o
@@ -102,7 +102,7 @@ again_is : (n : ℕ) (s : NodeState) (sender : Party) (m : GroupMap) (status : O
 again_is n s sender m None joined sent = refl
 again_is n s sender m (Some st) joined sent = refl
 
--- a further one, where it doesn't
+-- a further Install: the node doesn't wait
 pub other_install : (classes : Classes) (n : ℕ) (s : NodeState) (sender : Party) (m : GroupMap) (list : List ClientRequest) (a : Arrival) (o : Outcome) →
     Makes s m a o → is_usable classes s list ≡ true → is_waiting (unwrap_or a.status s.status) ≡ false →
     install_again n s sender m a ≡ install_at classes n s sender list o
@@ -111,7 +111,7 @@ other_install classes n s sender m list a o h u st =
     let e : said n sender (after_move s m a.status a.joined.items) a.sent.items None ≡ said n sender o.node o.sent o.refusal = λ i. said n sender (h.node i) (h.sent i) (sym h.unrefused i) in
     again_is n s sender m a.status a.joined.items a.sent.items ∙ e ∙ sym (after_other classes n s sender list o u w)
 
--- a log that becomes a list shows that the list is legal
+-- if the log becomes the list, the list is legal
 pub adopted : AdoptingIsReplaying → (classes : Classes) (own list : List ClientRequest) (k : ℕ) → Legal classes own → IsCommonBeginning own list k →
     rest_refusal classes list k ≡ None → first_refusal classes list ≡ None
 adopted law classes own list k l b r = sym (law classes own list k l b).same ∙ r
@@ -120,7 +120,7 @@ rest_refused : (classes : Classes) (list : List ClientRequest) (k : ℕ) (e : Lo
 rest_refused classes list k e h (Refused r) = r
 rest_refused classes list k e h (Short m some) = absurd (false≢true (sym h ∙ ap is_memory m))
 
--- and one that is refused shows that it isn't
+-- and if the list is refused, it isn't
 pub not_adopted : AdoptingIsReplaying → (classes : Classes) (own list : List ClientRequest) (e : LogError) → Legal classes own → is_memory e ≡ false →
     AdoptRefuses classes own list e → first_refusal classes list ≡ Some e
 not_adopted law classes own list e l h a = sym (law classes own list a.0 l a.1).same ∙ rest_refused classes list a.0 e h a.2
@@ -168,7 +168,7 @@ interval_is : (s : NodeState) (m : GroupMap) (status : Option Status) (joined : 
 interval_is s m None joined = refl
 interval_is s m (Some st) joined = refl
 
--- the list that goes to the asker is that of the node once it has moved
+-- the list that goes to the asker is the node's after the move
 pub answer_is : (n : ℕ) (s : NodeState) (asker : Party) (m : GroupMap) (a : Arrival) (sent : List Packet) (o : Outcome) →
     Makes s m a o → sent ≡ a.sent.items ++ packet n asker (LogOf (interval_after s m a.status) (log_after s a.status)) ∷ [] →
     sent ≡ o.sent ++ packet n asker (LogOf o.node.interval o.node.log) ∷ []

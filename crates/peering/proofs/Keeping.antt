@@ -1,4 +1,4 @@
--- Each rule leaves a legal log, and none but the one of requests refuses.
+-- Each rule keeps the log legal, and only the rule of requests refuses.
 use Rattle.std.proofs.Common.{◌≡◌, ℕ, Bool, true, false, cond, ◌&&◌, ◌||◌, not, eqb, nat_lt, List, [], ◌∷◌, ◌++◌, length, Option, Some, None, is_none, Result, Ok, Err, IfErr, inr, refl}
 use Rattle.std.proofs.lemmas.Bool.{and_parts, false≢true}
 use Rattle.placement.specs.Placement.{has}
@@ -162,7 +162,7 @@ step_legal laws classes n s (ARequest r) l = request_legal laws classes n s r l
 step_legal laws classes n s (AMap m) l = (learn_kept laws classes n s m l).1
 step_legal laws classes n s (AMessage m) l = (receive_kept laws classes n s m.sender m.kind l).1
 
--- want of memory is no other refusal
+-- NoMemory is given only if nothing else refuses
 pub short : {T : Type 0} (r : Result T HandleError) (o : Outcome) → o.refusal ≡ None → IfErr r (λ e. e ≡ NoMemory) → IfErr r (λ e. IsRefusal o e)
 short (Ok x) o h w = w
 short (Err e) o h w = inr (w, h)

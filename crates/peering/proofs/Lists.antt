@@ -1,4 +1,4 @@
--- The requests of entries, and how a list of them begins.
+-- The requests of entries, and beginnings of lists of them.
 use Rattle.std.proofs.Common.{◌≡◌, ◌<◌, ◌≤◌, ℕ, suc, zero, Bool, true, false, ◌&&◌, List, [], ◌∷◌, length, ap, refl, arith, drop, take}
 use Rattle.std.proofs.lemmas.Bool.{and_parts, false≢true}
 use Rattle.pg_log.specs.declared.entry.Entry.{Entry}
@@ -32,7 +32,7 @@ take_requests zero es = refl
 take_requests (suc k) [] = refl
 take_requests (suc k) (e ∷ es) = ap (λ rs. e.request ∷ rs) (take_requests k es)
 
--- a list that begins so is as long
+-- a list that begins with another is at least as long
 pub begins_within : (xs ys : List ClientRequest) → begins xs ys ≡ true → length xs ≤ length ys
 begins_within [] ys h = omega arith
 begins_within (x ∷ xs) [] h = absurd (false≢true h)

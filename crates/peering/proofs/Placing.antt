@@ -1,4 +1,4 @@
--- A Rep at a member, by what putting its request at its place answers.
+-- A Rep at a member, by the answer to putting its request at its place.
 use Rattle.std.proofs.Common.{◌≡◌, ◌⊎◌, inl, inr, ℕ, suc, Bool, true, false, ◌&&◌, cond, eqb, nat_lt, length, length-append, is_none, Option, Some, None, arith, List, ◌++◌, ◌∷◌, [], Result, Ok, Err, ap, sym, ◌∙◌, refl}
 use Rattle.std.proofs.lemmas.Bool.{false≢true}
 use Rattle.std.proofs.lemmas.Bool.Decides.{nat_tests}
@@ -14,12 +14,12 @@ use Rattle.group_world.specs.declared.party.Party.{Party}
 use Rattle.group_world.specs.declared.message.MessageKind.TheVariants.{Ack}
 use Rattle.peering.specs.inner.Arriving.{acks_if, is_memory}
 
--- what is made of an answer, where the place is the last or isn't
+-- the outcome for an answer, if the place is the end of the log and if it isn't
 abbrev by_answer : ℕ → Party → NodeState → ClientRequest → Bool → Result (Option ℕ) LogError → Outcome
 by_answer n sender s r last (Ok length) = acks_if n sender (record s { log = cond last (s.log ++ r ∷ []) s.log }) length
 by_answer n sender s r last (Err why) = nothing s
 
--- the answer and the rule, by the same tests
+-- the answer and the rule make the same tests
 abbrev answered : List ClientRequest → Bool → Bool → Option LogError → Result (Option ℕ) LogError
 answered log before after why = cond before (Ok (Some (length log))) (cond after (Ok None) (added_or why (suc (length log))))
 
@@ -51,7 +51,7 @@ placed classes n s sender interval place r a b =
     same n sender s r (nat_lt place k) (nat_lt k place) (eqb place k) (refusal classes s.log r) before after last
     ∙ sym (ap (λ x. cond (x && is_installed s.status) rule (nothing s)) a ∙ ap (λ x. cond x rule (nothing s)) b)
 
--- want of memory is no answer
+-- NoMemory is no answer
 abbrev no_memory : Result (Option ℕ) LogError
 no_memory = Err NoMemory
 
@@ -69,7 +69,7 @@ answer_is : {P Q : Type 0} (given answer : Result (Option ℕ) LogError) → mem
 answer_is given answer h (inl e) = e
 answer_is given answer h (inr e) = absurd (false≢true (sym h ∙ ap memory_in e.0))
 
--- a request that has its place, or comes too early
+-- a request that is at its place, or is too early
 pub placed_ok : {P Q : Type 0} (classes : Classes) (n : ℕ) (s new : NodeState) (log : List ClientRequest) (sender : Party) (interval place : ℕ) (r : ClientRequest) (after : Option ℕ) →
     log ≡ s.log → eqb interval s.interval ≡ true → is_installed s.status ≡ true → new ≡ record s { log = list_with log place r } →
     (told after ≡ append_at_answer classes log place r) ⊎ ((told after ≡ no_memory) × P × Q) → acks_if n sender new after ≡ replicate classes n s sender interval place r

@@ -1,4 +1,4 @@
--- Acknowledged lengths one by one, and replies one by one.
+-- Acknowledged lengths one by one, and Reps one member at a time.
 use Rattle.std.proofs.Common.{◌≡◌, ℕ, zero, suc, ◌+◌, ◌<◌, cond, eqb, min, Bool, true, false, List, [], ◌∷◌, ◌++◌, length, drop, get_or, ap, refl, arith}
 use Rattle.replication.specs.Places.{least_from}
 use Rattle.group_world.specs.Node.{NodeState}

@@ -57,7 +57,7 @@ acknowledges classes n m s sender interval k e a b =
     let raise : Outcome = commit classes n (record s { acked = raised m k s.members.acting s.acked }) in
     sym (ap (λ p. acknowledge classes n s p interval k) e ∙ ap (λ x. cond (x && is_active s.status) raise (nothing s)) a ∙ ap (λ x. cond x raise (nothing s)) b)
 
--- and nothing else happens
+-- an Ack of another interval, or at a node that isn't active, changes nothing
 pub acknowledges_not : (classes : Classes) (n m : ℕ) (s : NodeState) (sender : Party) (interval k : ℕ) → sender ≡ ANode m → (eqb interval s.interval && is_active s.status) ≡ false →
     nothing s ≡ acknowledge classes n s sender interval k
 acknowledges_not classes n m s sender interval k e a =

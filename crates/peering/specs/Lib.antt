@@ -1,5 +1,4 @@
--- A reader of the contracts must believe Numbered and Mapping. What the code does on the way is
--- inner.
+-- A reader of the contracts must believe Numbered and Mapping. The code's own steps are in inner.
 pub mod Numbered
 pub mod Mapping
 pub mod inner

@@ -1,2 +1,2 @@
--- Steps of the code, in private contracts alone: nothing here need be believed.
+-- Only private contracts name these steps of the code: nothing here need be believed.
 pub mod Arriving

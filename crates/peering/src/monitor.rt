@@ -44,26 +44,32 @@ fn no_map(alloc: Global) -> GroupMap
     GroupMap::new(none, none, Vec::new(alloc), none, Vec::new(alloc))
 }
 
-/// The map of those parts, with lists of its own.
+/// An interval and its acting nodes.
+#[derive(Clone, Copy)]
+struct IntervalRef<'a> {
+    interval: Epoch,
+    acting: &'a [NodeId],
+}
+
+/// The map of that epoch, of an interval and the one before, with lists of its own.
 fn map_of(
     alloc: Global,
     epoch: Epoch,
-    interval: Epoch,
-    acting: &[NodeId],
-    prev: Epoch,
-    prev_acting: &[NodeId],
+    current: &IntervalRef<'_>,
+    prev: &IntervalRef<'_>,
 ) -> Result<GroupMap, AllocError>
     ensures { IfOk result (λ m. m ≡ record {
       epoch = epoch;
-      interval = interval;
-      acting = acting.now;
-      prev = prev;
-      prev_acting = prev_acting.now;
+      interval = current.now.interval;
+      acting = current.now.acting.now;
+      prev = prev.now.interval;
+      prev_acting = prev.now.acting.now;
     }) }
 {
-    let acting = Vec::from_slice(alloc, acting)?;
-    let prev_acting = Vec::from_slice(alloc, prev_acting)?;
-    Ok(GroupMap::new(epoch, interval, acting, prev, prev_acting))
+    let acting = Vec::from_slice(alloc, current.acting)?;
+    let prev_acting = Vec::from_slice(alloc, prev.acting)?;
+    let (interval, before) = (current.interval, prev.interval);
+    Ok(GroupMap::new(epoch, interval, acting, before, prev_acting))
 }
 
 impl Monitor {
@@ -137,12 +143,23 @@ impl Monitor {
     {
         let epoch = Epoch::new(self.newest.epoch().get() + 1);
         if are_same(self.newest.acting(), acting) {
-            let (interval, prev) = (self.newest.interval(), self.newest.prev());
-            let prev_acting = self.newest.prev_acting();
-            return map_of(alloc, epoch, interval, acting, prev, prev_acting);
+            let interval = self.newest.interval();
+            let before = IntervalRef {
+                interval: self.newest.prev(),
+                acting: self.newest.prev_acting(),
+            };
+            return map_of(alloc, epoch, &IntervalRef { interval, acting }, &before);
         }
         let last = self.last_activated();
-        map_of(alloc, epoch, epoch, acting, last.interval(), last.acting())
+        let begun = IntervalRef {
+            interval: epoch,
+            acting,
+        };
+        let before = IntervalRef {
+            interval: last.interval(),
+            acting: last.acting(),
+        };
+        map_of(alloc, epoch, &begun, &before)
     }
 
     /// The newest map, `no_map` before the first.

@@ -6,6 +6,7 @@ ghost use Rattle.group_world.specs.Rules.{acknowledge, local_step, receive};
 ghost use Rattle.peering_messages.specs.Sending.{IsLegalBy};
 ghost use Rattle.peering.specs.Numbered.{IsDone, IsRefusal};
 
+mod arrival;
 mod lead;
 mod moves;
 mod resend;
@@ -232,7 +233,7 @@ impl<C: Classes> GroupNode<C> {
             MessageKind::Install(map, list)            => self.install(table, sender, map, list),
             MessageKind::Installed(interval)           => self.note_installed(sender, interval),
             MessageKind::Activated(interval)           => self.activate(interval),
-            MessageKind::Rep(interval, place, request) => { let epoch = interval.get(); self.replicate(table, sender, Rep { epoch, place, request }) }
+            MessageKind::Rep(epoch, place, request)    => self.replicate(table, sender, Rep { epoch, place, request }),
             MessageKind::Ack(interval, length)         => self.take_ack(table, sender, interval, length),
             // These two are for the monitor and for clients.
             MessageKind::AskActivate(_)                => Ok(Vec::new(self.alloc)),
@@ -253,12 +254,11 @@ impl<C: Classes> GroupNode<C> {
         ensures refused { OnErr result (self.new ≡ self.old) }
         ensures why { IfErr result (λ e. e ≡ HandleError.NoMemory) }
     {
-        let epoch = interval.get();
         match sender {
             Party::Node(sender) => self.acknowledge(
                 table,
                 Ack {
-                    epoch,
+                    epoch: interval,
                     sender,
                     length,
                 },

@@ -68,7 +68,7 @@ equal_requests a b h =
     let e6 : a.input ≡ b.input = equal _ _ p5.1 in
     λ i. record { client = e1 i; number = e2 i; object = e3 i; class = e4 i; method = e5 i; input = e6 i }
 
--- a test that is true exactly where the requests are equal
+-- a test that is true exactly if the requests are equal
 pub same_request : (t : Bool) (a b : ClientRequest) → (IsTrue t → a ≡ b) → (a ≡ b → IsTrue t) → t ≡ is_same_request a b
 same_request true a b f g = sym (ap (is_same_request a) (sym (f refl)) ∙ request_itself a)
 same_request false a b f g =

@@ -6,7 +6,7 @@ use Rattle.group_world.specs.Unanswered.{to_missing}
 use Rattle.group_world.specs.declared.party.Party.TheVariants.{Node as ANode}
 use Rattle.group_world.specs.declared.message.MessageKind.{MessageKind}
 
--- nobody has joined: the message goes to all others
+-- if no node has joined, the message goes to all others
 pub to_missing_none : (n : ℕ) (ms : List ℕ) (kind : MessageKind) → to_missing n [] ms kind ≡ to_others n ms kind
 to_missing_none n [] kind = refl
 to_missing_none n (m ∷ ms) kind =

@@ -1,2 +1,2 @@
--- What the code does on the way; the messages themselves are group_world's.
+-- What the code does between the rules; group_world defines the messages.
 pub mod Sending

@@ -1,4 +1,4 @@
--- What is sent on the way to a node's step, and what a reply rests on.
+-- The messages of a primary that adopts a list, and what a reply is made from.
 use Rattle.std.specs.Prelude.{◌≡◌, ℕ, List, [], ◌∷◌, ◌++◌, length, slice_get, Some, Bool, if◌then◌else◌}
 use Rattle.std.specs.Int.{w64, cast_unsigned}
 use mathlib.Core.List.{IsPrefix}
@@ -11,7 +11,7 @@ use Rattle.group_world.specs.declared.party.Party.TheVariants.{Monitor as TheMon
 use Rattle.group_world.specs.declared.message.MessageKind.TheVariants.{Install, AskActivate}
 use Rattle.group_world.specs.declared.message.Packet.{Packet}
 
--- what the primary sends on adopting a list
+-- AskActivate to the monitor, if all have installed
 abbrev pub asked_if : ℕ → ℕ → Bool → List Packet
 asked_if n interval all = if all then packet n TheMonitor (AskActivate interval) ∷ [] else []
 
@@ -23,16 +23,16 @@ pub record IsLegalBy (table all : Classes) (log : List ClientRequest) : Type 0 w
   pub first : IsPrefix table all
   pub legal : Legal table log
 
--- what an entry says that its request was answered
+-- the answer to its request that an entry keeps
 abbrev pub answer_in : Entry → Reply
 answer_in e = record { code = cast_unsigned w64 e.code; output = e.output.items }
 
--- The entry's request stands at the place, and what it says is the reply there.
+-- The entry's request is at the place, and its answer is the reply there.
 pub record IsEntryAt (classes : Classes) (log : List ClientRequest) (place : ℕ) (e : Entry) : Type 0 where
   pub request : slice_get log place ≡ Some e.request
   pub reply : reply_at classes log place ≡ Some (answer_in e)
 
--- An entry that may follow a list is legal there, and its reply is that of its place.
+-- The list with the entry's request added is legal, and the entry's answer is the reply there.
 pub record IsNextReply (classes : Classes) (log : List ClientRequest) (e : Entry) : Type 0 where
   pub legal : Legal classes (log ++ e.request ∷ [])
   pub reply : reply_at classes (log ++ e.request ∷ []) (length log) ≡ Some (answer_in e)

@@ -9,6 +9,7 @@ mod replying;
 
 pub use compare::{are_among, are_same, is_same_request, leads};
 pub use packets::{
-    adoption, ask_if, install_to_missing, packet, query_to_all, rep_to_others, reps_to, send,
+    InstallRef, PrimaryLog, RepRef, adoption, ask_if, install_to_missing, packet, query_to_all,
+    rep_to_others, reps_to, send,
 };
-pub use replying::{replies, replies_with, reply_again};
+pub use replying::Replier;

@@ -13,6 +13,35 @@ use pg_log::{Entry, Request};
 use placement::{NodeId, has};
 use std::alloc::Global;
 
+/// An Install, before it is copied for a receiver.
+#[derive(Clone, Copy)]
+pub struct InstallRef<'a> {
+    /// The map in which the receiver installs.
+    pub map: &'a GroupMap,
+    /// The list that it takes as its log.
+    pub list: &'a Requests,
+}
+
+/// A Rep, before it is copied for a receiver.
+#[derive(Clone, Copy)]
+pub struct RepRef<'a> {
+    /// The sender's interval.
+    pub interval: Epoch,
+    /// The place in the log.
+    pub place: Place,
+    /// The request at that place.
+    pub request: &'a Request,
+}
+
+/// A primary's log in its interval, whose entries it sends in Reps.
+#[derive(Clone, Copy)]
+pub struct PrimaryLog<'a> {
+    /// The interval.
+    pub interval: Epoch,
+    /// The log's entries.
+    pub entries: &'a [Entry],
+}
+
 /// A message of a node.
 pub fn packet(number: NodeId, receiver: Party, kind: MessageKind) -> Packet
     ensures { result ≡ packet number receiver kind }
@@ -68,16 +97,16 @@ fn send_query(
     send(sent, packet(number, Party::Node(node), kind))
 }
 
-/// An Install to each of these nodes that isn't the sender and hasn't joined. They share the list.
+/// The same Install to each of these nodes that isn't the sender and hasn't joined. They share the
+/// list.
 pub fn install_to_missing(
     alloc: Global,
     number: NodeId,
     joined: &[NodeId],
     nodes: &[NodeId],
-    map: &GroupMap,
-    list: &Requests,
+    install: &InstallRef<'_>,
 ) -> Result<Vec<Packet>, HandleError>
-    ensures ok { IfOk result (λ v. v.items ≡ to_missing number joined.now nodes.now (MessageKind.Install map.now list.now)) }
+    ensures ok { IfOk result (λ v. v.items ≡ to_missing number joined.now nodes.now (MessageKind.Install install.now.map.now install.now.list.now)) }
     ensures err { IfErr result (λ e. e ≡ HandleError.NoMemory) }
 {
     let mut sent = Vec::new(alloc);
@@ -88,7 +117,7 @@ pub fn install_to_missing(
         if *node == number {
             continue;
         }
-        send_install(alloc, number, *node, map, list, &mut sent)?;
+        send_install(alloc, number, *node, install, &mut sent)?;
     }
     Ok(sent)
 }
@@ -98,14 +127,13 @@ fn send_install(
     alloc: Global,
     number: NodeId,
     node: NodeId,
-    map: &GroupMap,
-    list: &Requests,
+    install: &InstallRef<'_>,
     sent: &mut Vec<Packet>,
 ) -> Result<(), HandleError>
-    ensures ok { OnOk result (sent.new.items ≡ sent.old.items ++ packet number (Party.Node node) (MessageKind.Install map.now list.now) ∷ []) }
+    ensures ok { OnOk result (sent.new.items ≡ sent.old.items ++ packet number (Party.Node node) (MessageKind.Install install.now.map.now install.now.list.now) ∷ []) }
     ensures err { IfErr result (λ e. e ≡ HandleError.NoMemory) }
 {
-    let kind = MessageKind::Install(map.copy(alloc)?, list.copy()?);
+    let kind = MessageKind::Install(install.map.copy(alloc)?, install.list.copy()?);
     send(sent, packet(number, Party::Node(node), kind))
 }
 
@@ -114,11 +142,9 @@ pub fn rep_to_others(
     alloc: Global,
     number: NodeId,
     nodes: &[NodeId],
-    interval: Epoch,
-    place: Place,
-    request: &Request,
+    rep: &RepRef<'_>,
 ) -> Result<Vec<Packet>, HandleError>
-    ensures ok { IfOk result (λ v. v.items ≡ to_others number nodes.now (MessageKind.Rep interval place request.now)) }
+    ensures ok { IfOk result (λ v. v.items ≡ to_others number nodes.now (MessageKind.Rep rep.now.interval rep.now.place rep.now.request.now)) }
     ensures err { IfErr result (λ e. e ≡ HandleError.NoMemory) }
 {
     let mut sent = Vec::new(alloc);
@@ -126,44 +152,44 @@ pub fn rep_to_others(
         if *node == number {
             continue;
         }
-        send_rep(alloc, number, *node, interval, place, request, &mut sent)?;
+        send_rep(number, *node, rep, &mut sent)?;
     }
     Ok(sent)
 }
 
 /// Sends a Rep to a node.
 fn send_rep(
-    alloc: Global,
     number: NodeId,
     node: NodeId,
-    interval: Epoch,
-    place: Place,
-    request: &Request,
+    rep: &RepRef<'_>,
     sent: &mut Vec<Packet>,
 ) -> Result<(), HandleError>
-    ensures ok { OnOk result (sent.new.items ≡ sent.old.items ++ packet number (Party.Node node) (MessageKind.Rep interval place request.now) ∷ []) }
+    ensures ok { OnOk result (sent.new.items ≡ sent.old.items ++ packet number (Party.Node node) (MessageKind.Rep rep.now.interval rep.now.place rep.now.request.now) ∷ []) }
     ensures err { IfErr result (λ e. e ≡ HandleError.NoMemory) }
 {
-    let kind = MessageKind::Rep(interval, place, request.copy()?);
+    let kind = MessageKind::Rep(rep.interval, rep.place, rep.request.copy()?);
     send(sent, packet(number, Party::Node(node), kind))
 }
 
 /// A Rep to one node of each of the log's entries from a place on.
 pub fn reps_to(
-    alloc: Global,
     number: NodeId,
     node: NodeId,
-    interval: Epoch,
+    log: &PrimaryLog<'_>,
     from: Place,
-    entries: &[Entry],
     sent: &mut Vec<Packet>,
 ) -> Result<(), HandleError>
-    ensures ok { OnOk result (sent.new.items ≡ sent.old.items ++ reps_from number node interval from (requests_of (drop from entries.now))) }
+    ensures ok { OnOk result (sent.new.items ≡ sent.old.items ++ reps_from number node log.now.interval from (requests_of (drop from log.now.entries.now))) }
     ensures err { IfErr result (λ e. e ≡ HandleError.NoMemory) }
 {
+    let entries = log.entries;
     for place in from..entries.len() {
-        let request = &entries[place].request;
-        send_rep(alloc, number, node, interval, place, request, sent)?;
+        let rep = RepRef {
+            interval: log.interval,
+            place,
+            request: &entries[place].request,
+        };
+        send_rep(number, node, &rep, sent)?;
     }
     Ok(())
 }
@@ -182,7 +208,8 @@ pub fn adoption(
     ensures err { IfErr result (λ e. e ≡ HandleError.NoMemory) }
 {
     let acting = members.acting();
-    let mut sent = install_to_missing(alloc, number, &[], acting, members, list)?;
+    let install = InstallRef { map: members, list };
+    let mut sent = install_to_missing(alloc, number, &[], acting, &install)?;
     ask_if(number, interval, are_among(acting, &[number]), &mut sent)?;
     Ok(sent)
 }

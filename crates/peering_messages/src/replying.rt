@@ -55,64 +55,83 @@ fn entry_with<'a, C: Classes>(
     next
 }
 
-/// The Reply to the request of a place of the log.
-pub fn reply_again<C: Classes>(
-    alloc: Global,
-    table: &ClassTable,
-    number: NodeId,
-    group: &Group<C>,
-    place: Place,
-) -> Result<Packet, HandleError>
-    requires legal { IsLegalBy table.now C.classes group.now }
-    requires within { place < length group.now }
-    ensures ok { IfOk result (λ p. (r : ClientRequest) → slice_get group.now place ≡ Some r → p ≡ reply_packet table.now number group.now place r) }
-    ensures err { IfErr result (λ e. e ≡ HandleError.NoMemory) }
-{
-    reply(alloc, number, place, entry_at(table, group, place))
+/// A node that replies to the requests of its log, which runs by the table.
+pub struct Replier<'a, C: Classes> {
+    /// The memory for its Replies.
+    pub alloc: Global,
+    /// The node's number.
+    pub number: NodeId,
+    /// The table.
+    pub table: &'a ClassTable,
+    /// The log.
+    pub group: &'a Group<C>,
 }
 
-/// The Replies to the requests of the log from one place to before another.
-pub fn replies<C: Classes>(
-    alloc: Global,
-    table: &ClassTable,
-    number: NodeId,
-    group: &Group<C>,
-    from: Place,
-    to: Place,
-) -> Result<Vec<Packet>, HandleError>
-    requires legal { IsLegalBy table.now C.classes group.now }
-    requires within { to ≤ length group.now }
-    ensures ok { IfOk result (λ v. v.items ≡ replies_from table.now number group.now from (drop from (take to group.now))) }
-    ensures err { IfErr result (λ e. e ≡ HandleError.NoMemory) }
-{
-    let mut sent = Vec::new(alloc);
-    for place in from..to {
-        let said = reply(alloc, number, place, entry_at(table, group, place))?;
-        send(&mut sent, said)?;
+// Written out, since a derived one would ask the same of the name of the classes.
+impl<C: Classes> Drop for Replier<'_, C> {
+    fn drop(self) {
+        let Replier {
+            alloc: _,
+            number: _,
+            table: _,
+            group: _,
+        } = self;
     }
-    Ok(sent)
 }
 
-/// Adds the same, of the log with the entry that is about to be added.
-pub fn replies_with<C: Classes>(
-    alloc: Global,
-    table: &ClassTable,
-    number: NodeId,
-    group: &Group<C>,
-    next: &Entry,
-    from: Place,
-    to: Place,
-    sent: &mut Vec<Packet>,
-) -> Result<(), HandleError>
-    requires legal { IsLegalBy table.now C.classes group.now }
-    requires next { IsNextReply table.now group.now next.now }
-    requires within { to ≤ length group.now + 1 }
-    ensures ok { OnOk result (sent.new.items ≡ sent.old.items ++ replies_from table.now number (group.now ++ next.now.request ∷ []) from (drop from (take to (group.now ++ next.now.request ∷ [])))) }
-    ensures err { IfErr result (λ e. e ≡ HandleError.NoMemory) }
-{
-    for place in from..to {
-        let said = reply(alloc, number, place, entry_with(table, group, next, place))?;
-        send(sent, said)?;
+impl<'a, C: Classes> Replier<'a, C> {
+    /// The Reply to the request of a place of the log.
+    pub fn reply_again(&self, place: Place) -> Result<Packet, HandleError>
+        requires legal { IsLegalBy self.now.table.now C.classes self.now.group.now }
+        requires within { place < length self.now.group.now }
+        ensures ok { IfOk result (λ p. (r : ClientRequest) → slice_get self.now.group.now place ≡ Some r → p ≡ reply_packet self.now.table.now self.now.number self.now.group.now place r) }
+        ensures err { IfErr result (λ e. e ≡ HandleError.NoMemory) }
+    {
+        let entry = entry_at(self.table, self.group, place);
+        reply(self.alloc, self.number, place, entry)
     }
-    Ok(())
+
+    /// The Replies to the requests of the log from one place to before another.
+    pub fn replies(&self, from: Place, to: Place) -> Result<Vec<Packet>, HandleError>
+        requires legal { IsLegalBy self.now.table.now C.classes self.now.group.now }
+        requires within { to ≤ length self.now.group.now }
+        ensures ok { IfOk result (λ v. v.items ≡ replies_from self.now.table.now self.now.number self.now.group.now from (drop from (take to self.now.group.now))) }
+        ensures err { IfErr result (λ e. e ≡ HandleError.NoMemory) }
+    {
+        let (table, group) = (self.table, self.group);
+        let mut sent = Vec::new(self.alloc);
+        for place in from..to {
+            let said = reply(
+                self.alloc,
+                self.number,
+                place,
+                entry_at(table, group, place),
+            )?;
+            send(&mut sent, said)?;
+        }
+        Ok(sent)
+    }
+
+    /// Adds the same, of the log with the entry that is about to be added.
+    pub fn replies_with(
+        &self,
+        next: &Entry,
+        from: Place,
+        to: Place,
+        sent: &mut Vec<Packet>,
+    ) -> Result<(), HandleError>
+        requires legal { IsLegalBy self.now.table.now C.classes self.now.group.now }
+        requires next { IsNextReply self.now.table.now self.now.group.now next.now }
+        requires within { to ≤ length self.now.group.now + 1 }
+        ensures ok { OnOk result (sent.new.items ≡ sent.old.items ++ replies_from self.now.table.now self.now.number (self.now.group.now ++ next.now.request ∷ []) from (drop from (take to (self.now.group.now ++ next.now.request ∷ [])))) }
+        ensures err { IfErr result (λ e. e ≡ HandleError.NoMemory) }
+    {
+        let (table, group) = (self.table, self.group);
+        for place in from..to {
+            let entry = entry_with(table, group, next, place);
+            let said = reply(self.alloc, self.number, place, entry)?;
+            send(sent, said)?;
+        }
+        Ok(())
+    }
 }

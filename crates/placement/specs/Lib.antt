@@ -1,4 +1,4 @@
--- A reader must believe Placement (where objects live) and Refusal. Laws says what is proved of it.
+-- A reader must believe Placement and Refusal. Laws has what is proved about Placement.
 pub mod Placement
 pub mod Refusal
 pub mod Laws

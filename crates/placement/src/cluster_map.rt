@@ -4,6 +4,7 @@ use crate::node_id::NodeId;
 #[derive(Drop)]
 pub struct ClusterMap {
     /// The map's number, 1 to 2^32 - 1.
+    // Not an `Epoch`: `acting` refuses a number of 2^32 and above, which an `Epoch` can't have.
     pub epoch: u64,
     /// The nodes that are up, each of 0 to 15 at most once, in any order.
     pub up: Vec<NodeId>,

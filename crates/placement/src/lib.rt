@@ -7,6 +7,7 @@
 
 mod acting_set;
 mod cluster_map;
+mod epoch;
 mod group;
 mod laws;
 mod limits;
@@ -16,6 +17,7 @@ mod weight;
 
 pub use acting_set::{acting, are_nodes, has, is_acting};
 pub use cluster_map::ClusterMap;
+pub use epoch::Epoch;
 pub use group::group_of;
 pub use laws::{acting_sets, ranking};
 pub use limits::{GROUP_LIMIT, NODE_LIMIT, REPLICA_LIMIT};

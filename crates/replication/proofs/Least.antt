@@ -14,7 +14,7 @@ min-least_from local a (x ∷ xs) = min-least_from local (min a x) xs ∙ ap (λ
 min_same : (a : ℕ) → min a a ≡ a
 min_same a = omega arith
 
--- the least of a list from its first element on is the least beside any other
+-- the least of a list may start from its first element, which adds nothing
 pub own_least : (local d : ℕ) (xs : List ℕ) → 0 < length xs → min local (least_from (get_or xs 0 d) xs) ≡ least_from local xs
 own_least local d [] h = absurd (omega (arith, h))
 own_least local d (x ∷ xs) h = min-least_from local (min x x) xs ∙ ap (λ n. least_from (min local n) xs) (min_same x)
@@ -39,7 +39,7 @@ lower local (x ∷ xs) =
     let low = rest.0 in
     (omega (arith, low), (omega (arith, low), rest.1))
 
--- the least of a list, from an element of it on
+-- the least of a list, started from one of its elements, is its least
 pub least_is : (xs : List ℕ) (first : ℕ) → Contains xs first → IsLeast (least_from first xs) xs
 least_is xs first c =
     let C : ℕ → Type 0 = Contains xs in
@@ -48,12 +48,12 @@ least_is xs first c =
       below = All-from_recursion (λ n. least_from first xs ≤ n) xs (lower first xs).1;
     }
 
--- the least from the first element on is the least of the list
+-- the least started from the first element is the least of the list
 pub least_first : (xs : List ℕ) (r d : ℕ) → 0 < length xs → r ≡ least_from (get_or xs 0 d) xs → IsLeast r xs
 least_first xs r d h e =
     let P : ℕ → Type 0 = λ n. IsLeast n xs in
     subst P (sym e) (least_is xs (get_or xs 0 d) (Contains-get_or xs 0 d h))
 
--- and beside another one the least of both
+-- and with one length more it is the least of all of them
 pub least_beside_own : (local : ℕ) (xs : List ℕ) (r d : ℕ) → 0 < length xs → r ≡ least_from (get_or xs 0 d) xs → min local r ≡ least_from local xs
 least_beside_own local xs r d h e = ap (min local) e ∙ own_least local d xs h

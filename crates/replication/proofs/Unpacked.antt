@@ -1,4 +1,4 @@
--- Lists that were packed and unpacked.
+-- A list that was packed and unpacked is the same list.
 use Rattle.std.proofs.Common.{◌≡◌, ℕ, zero, suc, ◌≤◌, List, [], ◌∷◌, ◌++◌, length, take, min, refl, ap, ◌∙◌, arith}
 use Rattle.std.proofs.lemmas.List.{take-append-drop}
 use mathlib.Core.List.{IsPrefix}
@@ -6,7 +6,7 @@ use Rattle.pg_log.specs.Requests.{ClientRequest}
 use Rattle.replication.specs.Packed.{packed, IsUnpacked}
 
 module _ {X : Type 0} where
-  -- what the first requests of a list begin is begun by fewer of them
+  -- a list that begins with the first k requests of another begins with its first n, if n ≤ k
   fewer : (xs zs : List X) (n k : ℕ) → n ≤ k → k ≤ length xs → take n xs ≡ take n (take k xs ++ zs)
   fewer xs zs zero k h i = refl
   fewer xs zs (suc n) zero h i = absurd (omega (arith, h))

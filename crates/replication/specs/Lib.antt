@@ -1,3 +1,3 @@
--- A reader of the contracts must believe both.
+-- A reader must believe both.
 pub mod Places
 pub mod Packed

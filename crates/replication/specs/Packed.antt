@@ -1,4 +1,4 @@
--- A list of which the receiver has the beginning.
+-- A list whose beginning the receiver has.
 use Rattle.std.specs.Prelude.{◌≡◌, ℕ, ◌≤◌, List, ◌++◌, length, take, drop, min, codes}
 use Rattle.std.specs.Fmt.{decimal}
 use mathlib.Core.List.{IsPrefix}
@@ -6,31 +6,34 @@ use Rattle.pg_log.specs.Requests.{ClientRequest}
 use Rattle.replication.specs.declared.unpack_error.UnpackError.{UnpackError}
 use Rattle.replication.specs.declared.unpack_error.UnpackError.TheVariants.{TooShort, NoMemory}
 
--- How many requests were left out at the beginning, and the others.
+-- The number of requests left out at the beginning, and the other requests.
 pub record Packed : Type 0 where
   pub common : ℕ
   pub rest : List ClientRequest
 
--- A list without what the receiver reported that it has, or without all where that is more.
+-- A list without its first requests: the number that the receiver reported, or all if there are
+-- fewer.
 abbrev pub packed : List ClientRequest → ℕ → Packed
 packed list reported = record { common = min reported (length list); rest = drop (min reported (length list)) list }
 
--- What was left out taken from the local list, and the others.
+-- The requests that were left out, taken from the local list, and then the others.
 abbrev pub spread : List ClientRequest → Packed → List ClientRequest
 spread local p = take p.common local ++ p.rest
 
--- the local list is long enough, and what is unpacked is the list
+-- the local list is long enough, and unpacking gives the list
 pub record IsUnpacked (local list : List ClientRequest) (reported : ℕ) : Type 0 where
   pub enough : (packed list reported).common ≤ length local
   pub same : spread local (packed list reported) ≡ list
 
--- where the local list has the first requests of the list, as many as were left out
+-- Unpacking gives the list if the requests that were left out are those that the local list begins
+-- with.
 abbrev pub UnpackingGivesTheList : Type 0
 UnpackingGivesTheList =
     (local list : List ClientRequest) (reported : ℕ) → (packed list reported).common ≤ length local →
     take (packed list reported).common local ≡ take (packed list reported).common list → IsUnpacked local list reported
 
--- so also where no more was reported than is committed, and the list begins with the committed one
+-- It also does if the receiver reported no more than it has committed, and the list begins with the
+-- committed list.
 abbrev pub CommittedIsEnough : Type 0
 CommittedIsEnough =
     (local list : List ClientRequest) (committed reported : ℕ) → committed ≤ length local → reported ≤ committed →

@@ -3,7 +3,7 @@ mod packed;
 
 use super::printed::are_printed;
 use pg_log::NoMemory;
-use placement::NodeId;
+use placement::{Epoch, NodeId};
 use replication::{Ack, UnpackError, commit_point, packed_lists};
 
 /// True if the least of three members' acknowledged lengths is `least`.
@@ -28,11 +28,11 @@ fn printed_refusals(rt: HostRuntime) {
 #[test]
 fn acknowledged(rt: HostRuntime) {
     let ack = Ack {
-        epoch: 2,
+        epoch: Epoch::new(2),
         sender: NodeId::new(3),
         length: 4,
     };
-    assert!(rt; ack.epoch == 2 && ack.sender.get() == 3 && ack.length == 4);
+    assert!(rt; ack.epoch.get() == 2 && ack.sender.get() == 3 && ack.length == 4);
     // The law does nothing: it was proved when the crate was checked.
     packed_lists();
 }

@@ -13,6 +13,7 @@ use object_store::ObjectName;
 use pg_log::{
     Classes, Group, GroupWork, LogError, Request, copy_log, copy_requests, list_refusal, with_group,
 };
+use placement::Epoch;
 use replication::{Rep, append_at};
 use std::alloc::Global;
 use std::mem::replace;
@@ -178,7 +179,7 @@ fn is_appended<C: Classes, R: Abort>(
 fn rep_of<R: Abort>(rt: &R, alloc: Global, text: &str) -> Rep {
     let (place, request) = halves(text, ' ');
     Rep {
-        epoch: 1,
+        epoch: Epoch::new(1),
         place: number_of(rt, place) as usize,
         request: request_of(rt, alloc, request),
     }

@@ -6,6 +6,7 @@ use crate::made::{Asked, list_of, names_of, request_of, table_of};
 use crate::same::same;
 use object_store::ObjectName;
 use pg_log::{ClassTable, Classes, Group, GroupWork, LogError, Request, with_group};
+use placement::Epoch;
 use replication::{Rep, append_at};
 use std::alloc::Global;
 
@@ -151,7 +152,7 @@ impl<C: Classes> Trial<C> {
         requires { IsPrefix table.now C.classes }
     {
         let rep = Rep {
-            epoch: 1,
+            epoch: Epoch::new(1),
             place: 4,
             request,
         };

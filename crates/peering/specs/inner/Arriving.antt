@@ -1,5 +1,5 @@
--- The code's own; no promise of the crate rests on it.
--- What is decided before a node moves: the move itself, and what it leaves.
+-- Steps of the code alone; no promise of the crate rests on them.
+-- What is decided before a node moves: the move, and the state after it.
 use Rattle.std.specs.Prelude.{◌≡◌, ℕ, List, [], ◌∷◌, ◌++◌, length, take, drop, Option, Some, None, ◌==◌, unwrap_or, Bool, true, false, if◌then◌else◌}
 use Rattle.pg_log.specs.Requests.{ClientRequest}
 use Rattle.pg_log.specs.declared.log_error.LogError.{LogError}
@@ -15,17 +15,18 @@ use Rattle.group_world.specs.declared.status.Status.TheVariants.{Installed}
 use Rattle.group_world.specs.declared.party.Party.{Party}
 use Rattle.group_world.specs.declared.message.MessageKind.TheVariants.{Installed as InstalledIn, Rep, Ack}
 use Rattle.group_world.specs.declared.message.Packet.{Packet}
-use Rattle.peering.specs.declared.node.moves.Arrival.{Arrival}
+use Rattle.peering.specs.declared.node.arrival.Arrival.{Arrival}
 use Rattle.peering.specs.declared.node.serve.Commit.{Commit}
 
 -- A MOVE.
 
--- the log after a move: a primary that is installing at once has adopted the empty list
+-- the log after a move: a primary that installs at once has adopted the empty list
 abbrev pub log_after : NodeState → Option Status → List ClientRequest
 log_after s None = s.log
 log_after s (Some status) = if is_installing status then [] else s.log
 
--- the node after a move to a map with a status and who has installed, or where it doesn't move
+-- the node after a move to a map, with its status and the members that have installed; or without a
+-- move
 abbrev pub after_move : NodeState → GroupMap → Option Status → List ℕ → NodeState
 after_move s m None joined = s
 after_move s m (Some status) joined =
@@ -36,8 +37,7 @@ abbrev pub interval_after : NodeState → GroupMap → Option Status → ℕ
 interval_after s m None = s.interval
 interval_after s m (Some status) = m.interval
 
--- What was decided at a map makes this outcome of the node: its state and its messages; and it is
--- no refusal.
+-- The step that was decided at a map has this outcome: its state and its messages, and no refusal.
 pub record Makes (s : NodeState) (m : GroupMap) (a : Arrival) (o : Outcome) : Type 0 where
   pub node : after_move s m a.status a.joined.items ≡ o.node
   pub sent : a.sent.items ≡ o.sent
@@ -45,7 +45,7 @@ pub record Makes (s : NodeState) (m : GroupMap) (a : Arrival) (o : Outcome) : Ty
 
 -- AN INSTALL, at a map that isn't ignored.
 
--- what it makes of a node that waits once it has moved
+-- the outcome for a node that waits after the move
 abbrev pub install_first : Classes → ℕ → NodeState → Party → GroupMap → List ClientRequest → Arrival → Outcome
 install_first classes n s sender m list a = if is_usable classes s list then
     record {
@@ -54,41 +54,41 @@ install_first classes n s sender m list a = if is_usable classes s list then
       refusal = None;
     } else nothing s
 
--- and of one that doesn't
+-- and for one that doesn't
 abbrev pub install_again : ℕ → NodeState → Party → GroupMap → Arrival → Outcome
 install_again n s sender m a = if is_installed (unwrap_or a.status s.status) then
     record { node = after_move s m a.status a.joined.items; sent = a.sent.items ++ packet n sender (InstalledIn (interval_after s m a.status)) ∷ []; refusal = None }
     else record { node = after_move s m a.status a.joined.items; sent = a.sent.items; refusal = None }
 
--- A LIST OR A LENGTH TAKEN.
+-- A LIST IS TAKEN, or a length is acknowledged.
 
 -- the node with another log
 abbrev pub with_log : NumberedNode → List ClientRequest → NumberedNode
 with_log node list = record { number = node.number; state = record (node.state) { log = list } }
 
--- the node acknowledges the length that its log has come to, if a Rep asked for it
+-- the node acknowledges its log's length, if there is one to acknowledge
 abbrev pub acks_if : ℕ → Party → NodeState → Option ℕ → Outcome
 acks_if n receiver s None = nothing s
 acks_if n receiver s (Some k) = and_sends (nothing s) (packet n receiver (Ack s.interval k))
 
 -- ONE REQUEST MORE at an active primary.
 
--- what it sends, where it commits up to a place
+-- what it sends, if it commits up to a place
 abbrev pub sent_with : Classes → ℕ → NodeState → ClientRequest → ℕ → List Packet
 sent_with classes n s r point =
     to_others n s.members.acting (Rep s.interval (length s.log) r) ++ replies_from classes n (s.log ++ r ∷ []) s.committed (drop s.committed (take point (s.log ++ r ∷ [])))
 
--- what is made of it, with what is acknowledged and committed then, and what is sent
+-- the outcome, with the acknowledged lengths, the commit point and the messages after it
 abbrev pub grown : NodeState → ClientRequest → Commit → Outcome
 grown s r w = record { node = record s { log = s.log ++ r ∷ []; committed = w.point; acked = w.acked.items }; sent = w.sent.items; refusal = None }
 
 -- SENT AGAIN.
 
--- a node of which only interval and log count
+-- a node with this interval and log; nothing else of it is used
 abbrev pub at_interval : ℕ → List ClientRequest → NodeState
 at_interval interval log = record fresh { interval = interval; log = log }
 
--- what goes to one member of the requests from its acknowledged length on
+-- the Reps to one member, of the requests from its acknowledged length on
 abbrev pub reps_for : ℕ → ℕ → ℕ → ℕ → List ClientRequest → List Packet
 reps_for n m interval a rest = if m == n then [] else reps_from n m interval a rest
 

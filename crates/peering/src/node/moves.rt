@@ -9,68 +9,18 @@ ghost use Rattle.peering_messages.specs.Sending.{IsLegalBy, adopted_sent};
 ghost use Rattle.peering.specs.inner.Arriving.{after_move, Makes, log_after, interval_after, install_first, install_again};
 
 use crate::node::GroupNode;
+use crate::node::arrival::Arrival;
 use group_world::{Epoch, GroupMap, HandleError, MessageKind, Packet, Party, Status};
 use peering_messages::{adoption, leads, packet, query_to_all, send};
 use pg_log::{ClassTable, Classes, Group, Requests};
 use placement::{NodeId, has};
 use std::alloc::Global;
 
-/// A node's step at a map: its new status if it moves, the members that have installed then, and
-/// the messages that it sends.
-pub(crate) struct Arrival {
-    pub status: Option<Status>,
-    pub joined: Vec<NodeId>,
-    pub sent: Vec<Packet>,
-}
-
-// Written out, so that each way out drops it with one call.
-impl Drop for Arrival {
-    fn drop(self) {
-        let Arrival {
-            status: _,
-            joined,
-            sent,
-        } = self;
-        drop(joined);
-        drop(sent);
-    }
-}
-
-impl Arrival {
-    /// Moves a node to the map, or lets it stay, and gives the messages that it sends. It takes no
-    /// memory.
-    fn moves<C: Classes>(self, node: &mut GroupNode<C>, map: GroupMap) -> Vec<Packet>
-        requires { node.old.state.committed ≤ length (log_after node.old.state self.status) }
-        ensures number { node.new.number ≡ node.old.number }
-        ensures state { node.new.state ≡ after_move node.old.state map self.status self.joined.items }
-        ensures sent { result.items ≡ self.sent.items }
-    {
-        let Arrival {
-            status,
-            joined,
-            sent,
-        } = self;
-        node.move_to(map, status, joined);
-        sent
-    }
-
-    /// Has a node install the list that it took as its log, and gives the messages that it sends.
-    /// It takes no memory.
-    pub(crate) fn installs<C: Classes>(self, node: &mut GroupNode<C>) -> Vec<Packet>
-        ensures number { node.new.number ≡ node.old.number }
-        ensures state { node.new.state ≡ record (node.old.state) { status = Status.Installing; joined = self.joined.items; acked = [] } }
-        ensures sent { result.items ≡ self.sent.items }
-    {
-        let Arrival {
-            status: _,
-            joined,
-            sent,
-        } = self;
-        node.status = Status::Installing;
-        node.joined = joined;
-        node.acked.clear();
-        sent
-    }
+/// The list of an Install, and the node that sent it.
+#[derive(Clone, Copy)]
+struct ListFrom<'a> {
+    sender: Party,
+    list: &'a Requests,
 }
 
 impl<C: Classes> GroupNode<C> {
@@ -167,7 +117,11 @@ impl<C: Classes> GroupNode<C> {
         }
         let arrival = self.arrival(&map)?;
         if is_waiting(self.status_after(arrival.status)) {
-            return self.install_first(table, sender, map, &list, arrival);
+            let from = ListFrom {
+                sender,
+                list: &list,
+            };
+            return self.install_first(table, &from, map, arrival);
         }
         // An Install with an unusable list is ignored whole, the move to its map too.
         if !self.can_take(table, list.items())? {
@@ -180,19 +134,18 @@ impl<C: Classes> GroupNode<C> {
     fn install_first(
         &mut self,
         table: &ClassTable,
-        sender: Party,
+        from: &ListFrom<'_>,
         map: GroupMap,
-        list: &Requests,
         mut arrival: Arrival,
     ) -> Result<Vec<Packet>, HandleError>
         requires legal { IsLegalBy table.now C.classes self.old.state.log }
         requires waits { unwrap_or arrival.status self.old.state.status ≡ Status.Waiting }
-        ensures done { IfOk result (λ sent. IsDone self.old self.new sent.items (install_first table.now self.old.number self.old.state sender map list.now arrival)) }
+        ensures done { IfOk result (λ sent. IsDone self.old self.new sent.items (install_first table.now self.old.number self.old.state from.now.sender map from.now.list.now arrival)) }
         ensures err { OnErr result (self.new ≡ self.old) }
         ensures why { IfErr result (λ e. e ≡ HandleError.NoMemory) }
     {
-        self.send_installed(sender, &map, arrival.status, &mut arrival.sent)?;
-        if !self.take_list(table, list)? {
+        self.send_installed(from.sender, &map, arrival.status, &mut arrival.sent)?;
+        if !self.take_list(table, from.list)? {
             return Ok(Vec::new(self.alloc));
         }
         // For the proof: `committed` ensures that the committed length is within the log.
@@ -333,7 +286,7 @@ impl<C: Classes> GroupNode<C> {
     }
 
     /// Moves to a map with a status, or stays. It takes no memory.
-    fn move_to(&mut self, map: GroupMap, status: Option<Status>, joined: Vec<NodeId>)
+    pub(crate) fn move_to(&mut self, map: GroupMap, status: Option<Status>, joined: Vec<NodeId>)
         requires { self.old.state.committed ≤ length (log_after self.old.state status) }
         ensures number { self.new.number ≡ self.old.number }
         ensures state { self.new.state ≡ after_move self.old.state map status joined.items }

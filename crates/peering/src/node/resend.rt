@@ -5,9 +5,11 @@ ghost use Rattle.group_world.specs.Unanswered.{unanswered, unanswered_in, reps_u
 ghost use Rattle.peering.specs.inner.Arriving.{at_interval, reps_for};
 
 use crate::node::GroupNode;
-use group_world::{Epoch, HandleError, Messages, Packet, Place, Status};
-use peering_messages::{are_among, ask_if, install_to_missing, query_to_all, reps_to};
-use pg_log::{Classes, Entry};
+use group_world::{HandleError, Messages, Packet, Place, Status};
+use peering_messages::{
+    InstallRef, PrimaryLog, are_among, ask_if, install_to_missing, query_to_all, reps_to,
+};
+use pg_log::Classes;
 use placement::NodeId;
 use std::alloc::Global;
 
@@ -27,14 +29,13 @@ impl<C: Classes> GroupNode<C> {
                 query_to_all(alloc, number, self.members.prev_acting(), &self.members)?
             }
             Status::Installing => self.installs_again()?,
-            Status::Active => reps_unacked(
-                alloc,
-                number,
-                self.interval,
-                self.members.acting(),
-                &self.acked,
-                self.group.entries(),
-            )?,
+            Status::Active => {
+                let log = PrimaryLog {
+                    interval: self.interval,
+                    entries: self.group.entries(),
+                };
+                reps_unacked(alloc, number, &log, self.members.acting(), &self.acked)?
+            }
         };
         Ok(Messages::new(sent))
     }
@@ -47,14 +48,11 @@ impl<C: Classes> GroupNode<C> {
     {
         let acting = self.members.acting();
         let list = self.list()?;
-        let mut sent = install_to_missing(
-            self.alloc,
-            self.number,
-            &self.joined,
-            acting,
-            &self.members,
-            &list,
-        )?;
+        let install = InstallRef {
+            map: &self.members,
+            list: &list,
+        };
+        let mut sent = install_to_missing(self.alloc, self.number, &self.joined, acting, &install)?;
         ask_if(
             self.number,
             self.interval,
@@ -70,45 +68,34 @@ impl<C: Classes> GroupNode<C> {
 fn reps_unacked(
     alloc: Global,
     number: NodeId,
-    interval: Epoch,
+    log: &PrimaryLog<'_>,
     acting: &[NodeId],
     acked: &[usize],
-    entries: &[Entry],
 ) -> Result<Vec<Packet>, HandleError>
-    ensures ok { IfOk result (λ v. v.items ≡ reps_unacked number (at_interval interval (requests_of entries.now)) acting.now acked.now) }
+    ensures ok { IfOk result (λ v. v.items ≡ reps_unacked number (at_interval log.now.interval (requests_of log.now.entries.now)) acting.now acked.now) }
     ensures err { IfErr result (λ e. e ≡ HandleError.NoMemory) }
 {
     let mut sent = Vec::new(alloc);
     for place in 0..acting.len().min(acked.len()) {
         let from = acked[place];
-        reps_for(
-            alloc,
-            number,
-            acting[place],
-            interval,
-            from,
-            entries,
-            &mut sent,
-        )?;
+        reps_for(number, acting[place], log, from, &mut sent)?;
     }
     Ok(sent)
 }
 
 /// A Rep to a member of each place from one on, unless the member is the sender.
 fn reps_for(
-    alloc: Global,
     number: NodeId,
     node: NodeId,
-    interval: Epoch,
+    log: &PrimaryLog<'_>,
     from: Place,
-    entries: &[Entry],
     sent: &mut Vec<Packet>,
 ) -> Result<(), HandleError>
-    ensures ok { OnOk result (sent.new.items ≡ sent.old.items ++ reps_for number node interval from (requests_of (drop from entries.now))) }
+    ensures ok { OnOk result (sent.new.items ≡ sent.old.items ++ reps_for number node log.now.interval from (requests_of (drop from log.now.entries.now))) }
     ensures err { IfErr result (λ e. e ≡ HandleError.NoMemory) }
 {
     if node == number {
         return Ok(());
     }
-    reps_to(alloc, number, node, interval, from, entries, sent)
+    reps_to(number, node, log, from, sent)
 }

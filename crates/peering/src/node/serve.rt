@@ -10,8 +10,8 @@ ghost use Rattle.peering.specs.inner.Arriving.{acks_if, sent_with, grown};
 
 use crate::node::GroupNode;
 use crate::node::lead::is_memory;
-use group_world::{Epoch, HandleError, MessageKind, Packet, Party, Place, Status};
-use peering_messages::{packet, rep_to_others, replies, replies_with, reply_again};
+use group_world::{HandleError, MessageKind, Packet, Party, Place, Status};
+use peering_messages::{RepRef, Replier, packet, rep_to_others};
 use pg_log::{
     ClassTable, Classes, Entry, Request, Requests, classes_added, legal_lists, pairs, refusals,
 };
@@ -76,7 +76,13 @@ impl<C: Classes> GroupNode<C> {
         if place >= self.committed() {
             return Ok(Vec::new(self.alloc));
         }
-        let said = reply_again(self.alloc, table, self.number, &self.group, place)?;
+        let replier = Replier {
+            alloc: self.alloc,
+            number: self.number,
+            table,
+            group: &self.group,
+        };
+        let said = replier.reply_again(place)?;
         let mut sent = Vec::with_capacity(self.alloc, 1)?;
         sent.push_reserved(said);
         Ok(sent)
@@ -138,24 +144,19 @@ impl<C: Classes> GroupNode<C> {
         ensures ok { IfOk result (λ v. v.items ≡ sent_with table.now self.now.number self.now.state entry.now.request point) }
         ensures err { IfErr result (λ e. e ≡ HandleError.NoMemory) }
     {
-        let mut sent = rep_to_others(
-            self.alloc,
-            self.number,
-            self.members.acting(),
-            self.interval,
-            self.group.len(),
-            &entry.request,
-        )?;
-        replies_with(
-            self.alloc,
+        let rep = RepRef {
+            interval: self.interval,
+            place: self.group.len(),
+            request: &entry.request,
+        };
+        let mut sent = rep_to_others(self.alloc, self.number, self.members.acting(), &rep)?;
+        let replier = Replier {
+            alloc: self.alloc,
+            number: self.number,
             table,
-            self.number,
-            &self.group,
-            entry,
-            self.committed,
-            point,
-            &mut sent,
-        )?;
+            group: &self.group,
+        };
+        replier.replies_with(entry, self.committed, point, &mut sent)?;
         Ok(sent)
     }
 
@@ -234,7 +235,7 @@ impl<C: Classes> GroupNode<C> {
         ensures err { OnErr result (self.new ≡ self.old) }
         ensures why { IfErr result (λ e. e ≡ HandleError.NoMemory) }
     {
-        if !self.is_at(Epoch::new(rep.epoch), Status::Installed) {
+        if !self.is_at(rep.epoch, Status::Installed) {
             return Ok(None);
         }
         // The log may grow, and by the invariant a list that is kept equals it.
@@ -261,20 +262,19 @@ impl<C: Classes> GroupNode<C> {
         ensures err { OnErr result (self.new ≡ self.old) }
         ensures why { IfErr result (λ e. e ≡ HandleError.NoMemory) }
     {
-        if !self.is_at(Epoch::new(ack.epoch), Status::Active) {
+        if !self.is_at(ack.epoch, Status::Active) {
             return Ok(Vec::new(self.alloc));
         }
         let acting = self.members.acting();
         let acked = raised(self.alloc, &self.acked, acting, ack.sender, ack.length)?;
         let point = self.committed.max(least_of(self.group.len(), &acked));
-        let sent = replies(
-            self.alloc,
+        let replier = Replier {
+            alloc: self.alloc,
+            number: self.number,
             table,
-            self.number,
-            &self.group,
-            self.committed,
-            point,
-        )?;
+            group: &self.group,
+        };
+        let sent = replier.replies(self.committed, point)?;
         self.acked = acked;
         self.committed = point;
         Ok(sent)

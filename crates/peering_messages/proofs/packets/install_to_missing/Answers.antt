@@ -17,7 +17,7 @@ loop-node-preserved c =
     let ns : List ℕ = c.args.nodes.now in
     let js : List ℕ = c.args.joined.now in
     let m : ℕ = c.node-item.result in
-    let kind : MessageKind = Install c.args.map.now c.args.list.now in
+    let kind : MessageKind = Install c.args.install.now.map.now c.args.install.now.list.now in
     let node : m ≡ get_or ns k 0 = get_or_read ns k m c.loop-node-test.true c.node-item.is 0 in
     let t : List Packet = to_missing n js (drop (k + 1) ns) kind in
     let step : to_missing n js (drop k ns) kind ≡ packet n (ANode m) kind ∷ t =
@@ -33,7 +33,7 @@ loop-node-preserved-then-eq c =
     let ns : List ℕ = c.args.nodes.now in
     let js : List ℕ = c.args.joined.now in
     let m : ℕ = c.node-item.result in
-    let kind : MessageKind = Install c.args.map.now c.args.list.now in
+    let kind : MessageKind = Install c.args.install.now.map.now c.args.install.now.list.now in
     let node : m ≡ get_or ns k 0 = get_or_read ns k m c.loop-node-test.true c.node-item.is 0 in
     let step : to_missing n js (drop k ns) kind ≡ to_missing n js (drop (k + 1) ns) kind =
     ap (λ w. to_missing n js w kind) (drop_more ns k 0 c.loop-node-test.true ∙ ap (λ w. w ∷ drop (k + 1) ns) (sym node))
@@ -47,7 +47,7 @@ loop-node-preserved-then-has c =
     let ns : List ℕ = c.args.nodes.now in
     let js : List ℕ = c.args.joined.now in
     let m : ℕ = c.node-item.result in
-    let kind : MessageKind = Install c.args.map.now c.args.list.now in
+    let kind : MessageKind = Install c.args.install.now.map.now c.args.install.now.list.now in
     let node : m ≡ get_or ns k 0 = get_or_read ns k m c.loop-node-test.true c.node-item.is 0 in
     let step : to_missing n js (drop k ns) kind ≡ to_missing n js (drop (k + 1) ns) kind =
     ap (λ w. to_missing n js w kind) (drop_more ns k 0 c.loop-node-test.true ∙ ap (λ w. w ∷ drop (k + 1) ns) (sym node))
@@ -60,7 +60,7 @@ returns-clause-ok c =
     let k : ℕ = c.loop-node.node-index in
     let ns : List ℕ = c.args.nodes.now in
     let js : List ℕ = c.args.joined.now in
-    let kind : MessageKind = Install c.args.map.now c.args.list.now in
+    let kind : MessageKind = Install c.args.install.now.map.now c.args.install.now.list.now in
     let done : length ns ≤ k = omega arith in
     sym (append-nil c.loop-node.sent.items) ∙ ap (λ w. c.loop-node.sent.items ++ to_missing n js w kind) (sym (drop_all k ns done)) ∙ c.loop-node.invariant
 

@@ -15,7 +15,7 @@ loop-node-preserved c =
     let k : ℕ = c.loop-node.node-index in
     let ns : List ℕ = c.args.nodes.now in
     let m : ℕ = c.node-item.result in
-    let kind : MessageKind = Rep c.args.interval c.args.place c.args.request.now in
+    let kind : MessageKind = Rep c.args.rep.now.interval c.args.rep.now.place c.args.rep.now.request.now in
     let node : m ≡ get_or ns k 0 = get_or_read ns k m c.loop-node-test.true c.node-item.is 0 in
     let t : List Packet = to_others n (drop (k + 1) ns) kind in
     let step : to_others n (drop k ns) kind ≡ packet n (ANode m) kind ∷ t =
@@ -29,7 +29,7 @@ loop-node-preserved-then-eq c =
     let k : ℕ = c.loop-node.node-index in
     let ns : List ℕ = c.args.nodes.now in
     let m : ℕ = c.node-item.result in
-    let kind : MessageKind = Rep c.args.interval c.args.place c.args.request.now in
+    let kind : MessageKind = Rep c.args.rep.now.interval c.args.rep.now.place c.args.rep.now.request.now in
     let node : m ≡ get_or ns k 0 = get_or_read ns k m c.loop-node-test.true c.node-item.is 0 in
     let step : to_others n (drop k ns) kind ≡ to_others n (drop (k + 1) ns) kind =
     ap (λ w. to_others n w kind) (drop_more ns k 0 c.loop-node-test.true ∙ ap (λ w. w ∷ drop (k + 1) ns) (sym node)) ∙ others_self n m (drop (k + 1) ns) kind c.if-eq.ensures in
@@ -40,7 +40,7 @@ returns-clause-ok c =
     let n : ℕ = c.args.number in
     let k : ℕ = c.loop-node.node-index in
     let ns : List ℕ = c.args.nodes.now in
-    let kind : MessageKind = Rep c.args.interval c.args.place c.args.request.now in
+    let kind : MessageKind = Rep c.args.rep.now.interval c.args.rep.now.place c.args.rep.now.request.now in
     let done : length ns ≤ k = omega arith in
     sym (append-nil c.loop-node.sent.items) ∙ ap (λ w. c.loop-node.sent.items ++ to_others n w kind) (sym (drop_all k ns done)) ∙ c.loop-node.invariant
 

@@ -13,9 +13,9 @@ pub loop-place-preserved : goal.loop-place-preserved
 loop-place-preserved c =
     let n : ℕ = c.args.number in
     let m : ℕ = c.args.node in
-    let i : ℕ = c.args.interval in
+    let i : ℕ = c.args.log.now.interval in
     let k : ℕ = c.loop-place.place in
-    let es : List Entry = c.args.entries.now in
+    let es : List Entry = c.args.log.now.entries.now in
     let e : Entry = c.index-entries-place.result in
     let within : k < length es = omega arith in
     let p : Packet = packet n (ANode m) (Rep i k (get_or es k e).request) in
@@ -28,7 +28,7 @@ loop-place-preserved c =
 pub returns-clause-ok : goal.returns-clause-ok
 returns-clause-ok c =
     let k : ℕ = c.loop-place.place in
-    let es : List Entry = c.args.entries.now in
+    let es : List Entry = c.args.log.now.entries.now in
     let done : length es ≤ k = omega arith in
     sym (append-nil c.loop-place.sent.items)
-    ∙ ap (λ (w : List Entry). c.loop-place.sent.items ++ reps_from c.args.number c.args.node c.args.interval k (requests_of w)) (sym (drop_all k es done)) ∙ c.loop-place.invariant
+    ∙ ap (λ (w : List Entry). c.loop-place.sent.items ++ reps_from c.args.number c.args.node c.args.log.now.interval k (requests_of w)) (sym (drop_all k es done)) ∙ c.loop-place.invariant

@@ -13,6 +13,7 @@ load-requires c =
     let below : c.args.row < c.self.inside.table.shared.key = subst (λ (k : ℕ). c.args.row < k) (sym c.self.invariant.0) within in
     (tie, within, looks c.self.inside.table.shared.key _ _ _ _ _ below c.seen.invariant)
 
+-- turned by look_answers_0
 pub returns-clause-length : goal.returns-clause-length
 returns-clause-length c =
     let t = c.load.ensures.2 in

@@ -12,6 +12,7 @@ split_seat-requires c =
 pub returns-clause-board : goal.returns-clause-board
 returns-clause-board c = c.split_seat.ensures.3 ∙ (ap (λ r. r.board) c.writer.view_is ∙ c.requires)
 
+-- turned by share_gives_an_empty_note
 pub returns-clause-row : goal.returns-clause-row
 returns-clause-row c =
     let e = c.split_seat.ensures in

@@ -22,7 +22,7 @@ returns-clause-done g c =
     let n = c.args.self.now in
     let s = n.state in
     let lengths : List ℕ = raised c.args.ack.sender c.args.ack.length s.members.acting s.acked in
-    let tested = c.is_at.ensures ∙ ap (λ e. eqb e s.interval && sameb the_type s.status Active) c.new.ensures in
+    let tested = c.is_at.ensures in
     let at = and_parts _ _ (sym tested ∙ c.if-not-is_at.false) in
     let same : eqb c.args.ack.epoch s.interval ≡ true = at.0 in
     let active : is_active s.status ≡ true = sym (active_is s.status) ∙ at.1 in
@@ -49,14 +49,14 @@ pub returns-then-not-is_at-clause-done : goal.returns-then-not-is_at-clause-done
 returns-then-not-is_at-clause-done g c =
     let n = c.args.self.now in
     let s = n.state in
-    let tested = c.is_at.ensures ∙ ap (λ e. eqb e s.interval && sameb the_type s.status Active) c.new.ensures in
+    let tested = c.is_at.ensures in
     let apart : (eqb c.args.ack.epoch s.interval && is_active s.status) ≡ false =
     ap (λ b. eqb c.args.ack.epoch s.interval && b) (sym (active_is s.status)) ∙ sym tested ∙ c.if-not-is_at.true in
     let h = acknowledges_not c.args.table.now n.number c.args.ack.sender s (ANode c.args.ack.sender) c.args.ack.epoch c.args.ack.length refl apart in
     record {
       number = refl;
       state = ap (λ o. o.node) h;
-      sent = c.new-then-not-is_at.ensures.items ∙ ap (λ o. o.sent) h;
+      sent = c.new.ensures.items ∙ ap (λ o. o.sent) h;
       unrefused = ap (λ o. o.refusal) (sym h);
     }
 

@@ -18,7 +18,7 @@ returns-then-not-is_at-clause-acks g c =
     let n = c.args.self.now in
     let s = n.state in
     let rep = c.args.rep in
-    let tested = c.is_at.ensures ∙ ap (λ e. eqb e s.interval && sameb the_type s.status Installed) c.new.ensures in
+    let tested = c.is_at.ensures in
     let apart : (eqb rep.epoch s.interval && is_installed s.status) ≡ false =
     ap (λ b. eqb rep.epoch s.interval && b) (sym (installed_is s.status)) ∙ sym tested ∙ c.if-not-is_at.true in
     λ sender. placed_nowhere c.args.table.now n.number s sender rep.epoch rep.place rep.request apart
@@ -31,7 +31,7 @@ returns-clause-acks g c =
     let own = c.self.inside in
     let new : NodeState = record { interval = own.interval; members = own.members; status = own.status; log = c.append_at.new.group; committed = own.committed; joined = own.joined.items; acked = own.acked.items } in
     let P : Result (Option ℕ) HandleError → Type 0 = λ w. IfOk w (λ length. (sender : Party) → acks_if n.number sender new length ≡ replicate c.args.table.now n.number s sender rep.epoch rep.place rep.request) in
-    let tested = c.is_at.ensures ∙ ap (λ e. eqb e s.interval && sameb the_type s.status Installed) c.new.ensures in
+    let tested = c.is_at.ensures in
     let at = and_parts _ _ (sym tested ∙ c.if-not-is_at.false) in
     let installed = sym (installed_is s.status) ∙ at.1 in
     let log = ap (λ v. v.state.log) c.self.view_is in

@@ -9,14 +9,15 @@ use Rattle.peering.proofs.Lists.{drop_requests}
 use Rattle.peering.proofs.Raising.{reps_step, reps_end}
 use Rattle.peering.proofs.node.resend.reps_unacked.Goals as goal
 
+-- turned by resend_makes_up_a_rep
 pub loop-place-preserved : goal.loop-place-preserved
 loop-place-preserved c =
     let n : ℕ = c.args.number in
     let k : ℕ = c.loop-place.place in
     let ns : List ℕ = c.args.acting.now in
     let ks : List ℕ = c.args.acked.now in
-    let es = c.args.entries.now in
-    let s : NodeState = at_interval c.args.interval (requests_of es) in
+    let es = c.args.log.now.entries.now in
+    let s : NodeState = at_interval c.args.log.now.interval (requests_of es) in
     let t : List Packet = reps_unacked n s (drop (k + 1) ns) (drop (k + 1) ks) in
     let front : List Packet = reps_for n c.index-acting-place.result s.interval (get_or ks k 0) (requests_of (drop (get_or ks k 0) es)) in
     let within : k < length ns = omega arith in
@@ -34,6 +35,6 @@ returns-clause-ok c =
     let ns : List ℕ = c.args.acting.now in
     let ks : List ℕ = c.args.acked.now in
     let k : ℕ = c.loop-place.place in
-    let s : NodeState = at_interval c.args.interval (requests_of c.args.entries.now) in
+    let s : NodeState = at_interval c.args.log.now.interval (requests_of c.args.log.now.entries.now) in
     let q : k ≡ min (length ns) (length ks) = omega arith in
     sym (append-nil c.loop-place.sent.items) ∙ ap (λ w. c.loop-place.sent.items ++ w) (sym (reps_end c.args.number k s ns ks q)) ∙ c.loop-place.invariant

@@ -6,5 +6,5 @@ use Rattle.peering.proofs.node.resend.reps_unacked.Given as goal
 
 abbrev pub invariant-loop-place : goal.invariant-loop-place
 invariant-loop-place l =
-    l.sent.items ++ reps_unacked l.number (at_interval l.interval (requests_of l.entries)) (drop l.place l.acting) (drop l.place l.acked)
-    ≡ reps_unacked l.number (at_interval l.interval (requests_of l.entries)) l.acting l.acked
+    l.sent.items ++ reps_unacked l.number (at_interval l.log.interval (requests_of l.log.entries.now)) (drop l.place l.acting) (drop l.place l.acked)
+    ≡ reps_unacked l.number (at_interval l.log.interval (requests_of l.log.entries.now)) l.acting l.acked

@@ -4,27 +4,27 @@ use Rattle.pg_log.specs.Requests.{ClientRequest}
 use Rattle.group_world.specs.declared.message.Packet.{Packet}
 use Rattle.group_world.specs.Rules.{replies_from}
 use Rattle.peering_messages.proofs.Committed.{made, replies_step}
-use Rattle.peering_messages.proofs.replying.replies_with.Goals as goal
+use Rattle.peering_messages.proofs.replying.Replier.replies_with.Goals as goal
 
 pub loop-place-preserved : goal.loop-place-preserved
 loop-place-preserved g c =
-    let n : ℕ = c.args.number in
+    let n : ℕ = c.args.self.now.number in
     let k : ℕ = c.loop-place.place in
-    let log : List ClientRequest = c.args.group.now ++ c.args.next.now.request ∷ [] in
-    let longer = length-append c.args.group.now (c.args.next.now.request ∷ []) in
+    let log : List ClientRequest = c.args.self.now.group.now ++ c.args.next.now.request ∷ [] in
+    let longer = length-append c.args.self.now.group.now (c.args.next.now.request ∷ []) in
     let p : Packet = c.in_ok-said.said in
-    let said : p ≡ made n k c.entry_with.result.now = c.in_ok-said.ensures.ok in
-    let s = replies_step c.args.table.now n k c.args.to log c.entry_with.result.now c.entry_with.ensures (omega arith) (omega arith) in
-    let t : List Packet = replies_from c.args.table.now n log (k + 1) (drop (k + 1) (take c.args.to log)) in
+    let said : p ≡ made n k c.entry_with-entry.result.now = c.in_ok-said.ensures.ok in
+    let s = replies_step c.args.self.now.table.now n k c.args.to log c.entry_with-entry.result.now c.entry_with-entry.ensures (omega arith) (omega arith) in
+    let t : List Packet = replies_from c.args.self.now.table.now n log (k + 1) (drop (k + 1) (take c.args.to log)) in
     ap (λ x. x ++ t) c.in_ok-send.ensures.ok ∙ append_assoc c.loop-place.sent.items (p ∷ []) t ∙ ap (λ x. c.loop-place.sent.items ++ (x ∷ t)) said
     ∙ ap (λ x. c.loop-place.sent.items ++ x) (sym s) ∙ c.loop-place.invariant
 
 pub returns-clause-ok : goal.returns-clause-ok
 returns-clause-ok g c =
     let k : ℕ = c.loop-place.place in
-    let log : List ClientRequest = c.args.group.now ++ c.args.next.now.request ∷ [] in
-    let longer = length-append c.args.group.now (c.args.next.now.request ∷ []) in
+    let log : List ClientRequest = c.args.self.now.group.now ++ c.args.next.now.request ∷ [] in
+    let longer = length-append c.args.self.now.group.now (c.args.next.now.request ∷ []) in
     let len : length (take c.args.to log) ≡ c.args.to = length-take-le c.args.to log (omega arith) in
     let done : length (take c.args.to log) ≤ k = omega arith in
-    sym (append-nil c.loop-place.sent.items) ∙ ap (λ w. c.loop-place.sent.items ++ replies_from c.args.table.now c.args.number log k w) (sym (drop_all k (take c.args.to log) done))
+    sym (append-nil c.loop-place.sent.items) ∙ ap (λ w. c.loop-place.sent.items ++ replies_from c.args.self.now.table.now c.args.self.now.number log k w) (sym (drop_all k (take c.args.to log) done))
     ∙ c.loop-place.invariant
