@@ -39,7 +39,14 @@ packed_as committed reported p = (p.receiver, carried_as committed reported p.me
 -- how many entries the sender of a question has committed
 abbrev pub reported_by : CarriedKind → ℕ
 reported_by (Query map reported) = reported
-reported_by _ = 0
+reported_by (Log interval log) = 0
+reported_by (Install map list) = 0
+reported_by (Installed interval) = 0
+reported_by (AskActivate interval) = 0
+reported_by (Activated interval) = 0
+reported_by (Rep interval place request) = 0
+reported_by (Ack interval count) = 0
+reported_by (Reply client number place answer) = 0
 
 abbrev pub reported_of : Carried → ℕ
 reported_of (carried.Request request) = 0
