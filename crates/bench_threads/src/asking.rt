@@ -1,7 +1,7 @@
 use anyhow::{Error, Result};
 use bench_table::{Figure, picos_each};
 use object_store::ObjectName;
-use osd::{ClusterName, Config, Opened, Running, Scenario};
+use osd::{ClusterName, Config, OpenedSession, Running, Scenario};
 use pg_log::{Request, RequestNumber, RequestParts};
 use rados_client::Cluster;
 use std::alloc::Global;
@@ -93,7 +93,7 @@ pub fn asks<R: Threads + Wait + Clock + Sync>(
 }
 
 /// A request of a session's.
-fn request<N: ClusterName>(alloc: Global, opened: &Opened<N>) -> Option<Request> {
+fn request<N: ClusterName>(alloc: Global, opened: &OpenedSession<N>) -> Option<Request> {
     let parts = RequestParts {
         client: opened.client,
         number: RequestNumber::new(1)?,
@@ -108,7 +108,7 @@ fn request<N: ClusterName>(alloc: Global, opened: &Opened<N>) -> Option<Request>
 /// The number of requests that are taken.
 fn ask_often<N: ClusterName, R: Wait>(
     running: &Running<N, R>,
-    opened: &mut Opened<N>,
+    opened: &mut OpenedSession<N>,
     request: &Request,
 ) -> usize {
     let mut taken: usize = 0;
@@ -121,7 +121,10 @@ fn ask_often<N: ClusterName, R: Wait>(
 }
 
 /// The number of looks that find nothing.
-fn look_often<N: ClusterName, R: Wait>(running: &Running<N, R>, opened: &Opened<N>) -> usize {
+fn look_often<N: ClusterName, R: Wait>(
+    running: &Running<N, R>,
+    opened: &OpenedSession<N>,
+) -> usize {
     let mut empty: usize = 0;
     for _ in 0..LOOKS {
         if running.mail(opened.client).is_none() {

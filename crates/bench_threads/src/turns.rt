@@ -3,10 +3,10 @@ ghost use Rattle.std.specs.Prelude.{◌≡◌, []};
 use anyhow::{Error, Result};
 use bench_table::{Figure, lock_request};
 use builtin_classes::load_lock;
-use carried::Carried;
+use carried::{Carried, CarriedKind, CarriedMessage};
 use commit_board::{Board, Writer};
 use group_cell::{BoardName, GroupCell, Outgoing};
-use group_world::{Epoch, Event, GroupMap, Message, MessageKind, Party};
+use group_world::{Epoch, GroupMap, Party};
 use peering::GroupNode;
 use pg_log::{ClassTable, Request};
 use placement::NodeId;
@@ -28,7 +28,7 @@ struct Shared<'a> {
     table: &'a ClassTable,
 }
 
-/// An event on its way to the node at that place.
+/// A request, a map or a message on its way to the node at that place.
 #[derive(Drop)]
 struct Delivery {
     place: usize,
@@ -114,7 +114,7 @@ fn time<N: BoardName, C: Clock>(
     requires table { shared.table.now ≡ N.classes }
 {
     let map = first_map(shared.alloc, acting)?;
-    settle(shared, cells, Event::Map(map))?;
+    settle(shared, cells, Carried::Map(map))?;
     let requests = requests(shared.alloc)?;
     let start = Instant::now(clock)?;
     let replied = settle_all(shared, cells, requests)?;
@@ -157,26 +157,23 @@ fn settle_all<N: BoardName>(
 {
     let mut replied: usize = 0;
     for request in requests {
-        replied = replied.wrapping_add(settle(shared, cells, Event::Request(request))?);
+        replied = replied.wrapping_add(settle(shared, cells, Carried::Request(request))?);
     }
     Ok(replied)
 }
 
-/// Brings an event to the first node, and the messages that it leads to. The number of clients that
+/// Brings a request or a map to the first node, and the messages that it leads to. The number of clients that
 /// are answered.
 fn settle<N: BoardName>(
     shared: Shared<'_>,
     cells: &mut Vec<GroupCell<N>>,
-    event: Event,
+    carried: Carried,
 ) -> Result<usize>
     requires board { shared.board.now ≡ N.board }
     requires table { shared.table.now ≡ N.classes }
 {
     let mut waiting = Vec::new(shared.alloc);
-    waiting.push(Delivery {
-        place: 0,
-        carried: Carried::Plain(event),
-    })?;
+    waiting.push(Delivery { place: 0, carried })?;
     let mut replied: usize = 0;
     for _ in 0..MESSAGE_LIMIT {
         let Some(delivery) = waiting.pop() else {
@@ -187,7 +184,7 @@ fn settle<N: BoardName>(
     Ok(replied)
 }
 
-/// Brings an event to its node. The number of clients that are answered.
+/// Brings it to its node. The number of clients that are answered.
 fn turn<N: BoardName>(
     shared: Shared<'_>,
     cells: &mut Vec<GroupCell<N>>,
@@ -226,13 +223,13 @@ fn forward_all<N: BoardName>(
 /// A message on its way to a node, or the monitor's answer to it. None if a client is answered.
 fn delivery_of<N: BoardName>(outgoing: Outgoing<N>) -> Option<Delivery> {
     match outgoing {
-        Outgoing::ToNode(node, carried) => Some(Delivery {
+        Outgoing::ToNode(node, message) => Some(Delivery {
             place: node.get() as usize,
-            carried,
+            carried: Carried::Message(message),
         }),
         Outgoing::ToMonitor(interval) => Some(Delivery {
             place: 0,
-            carried: Carried::Plain(activated(interval)),
+            carried: Carried::Message(activated(interval)),
         }),
         Outgoing::ToClient(_, post) => {
             drop(post);
@@ -242,9 +239,9 @@ fn delivery_of<N: BoardName>(outgoing: Outgoing<N>) -> Option<Delivery> {
 }
 
 /// The monitor has activated the interval.
-fn activated(interval: Epoch) -> Event {
-    Event::Message(Message {
+fn activated(interval: Epoch) -> CarriedMessage {
+    CarriedMessage {
         sender: Party::Monitor,
-        kind: MessageKind::Activated(interval),
-    })
+        kind: CarriedKind::Activated(interval),
+    }
 }

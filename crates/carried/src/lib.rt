@@ -5,12 +5,15 @@
 //! `specs/Carried.antt`. `operation_crosses` says that an operation may go to another thread.
 #![tactic(auto)]
 
+mod copies;
 mod crossing;
+mod message;
 mod operation;
 mod packing;
 mod unpacking;
 
 pub use crossing::operation_crosses;
-pub use operation::{Carried, Operation, ShortLog};
+pub use message::{CarriedKind, CarriedMessage};
+pub use operation::{Carried, Operation};
 pub use packing::pack;
-pub use unpacking::event_of;
+pub use unpacking::{event_of, message_of};

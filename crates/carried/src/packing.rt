@@ -1,54 +1,36 @@
 ghost use Rattle.std.specs.Prelude.{◌≡◌};
-ghost use Rattle.replication.specs.Packed.{packed};
-ghost use Rattle.carried.specs.Carried.{carried_as, packed_as};
+ghost use Rattle.carried.specs.Carried.{kind_as, packed_as};
 
-use crate::operation::{Carried, ShortLog};
-use group_world::{Epoch, Event, Message, MessageKind as Kind, Packet, Party, Requests};
+use crate::message::{CarriedKind, CarriedMessage};
+use group_world::{Message, MessageKind as Kind, Packet, Party};
 use replication::pack_list;
 
-/// A message that is carried as it is.
-fn plain(sender: Party, kind: Kind) -> Carried
-    ensures { result ≡ Carried.Plain (Event.Message (record { sender = sender; kind = kind })) }
-{
-    Carried::Plain(Event::Message(Message { sender, kind }))
-}
-
-/// A list that is carried without its first `reported` requests.
-fn short(sender: Party, interval: Epoch, list: Requests, reported: usize) -> Carried
-    ensures { result ≡ Carried.Log (record { sender = sender; interval = interval; log = packed list reported }) }
-{
-    Carried::Log(ShortLog {
-        sender,
-        interval,
-        log: pack_list(list, reported),
-    })
-}
-
-/// A message of that kind, as it is carried.
+/// A message's content, as it is carried.
 #[rattlefmt::skip]
-fn carry(committed: usize, reported: usize, sender: Party, kind: Kind) -> Carried
-    ensures { result ≡ carried_as committed reported sender kind }
+fn carry(committed: usize, reported: usize, kind: Kind) -> CarriedKind
+    ensures { result ≡ kind_as committed reported kind }
 {
     match kind {
-        Kind::Query(map)                           => Carried::Query { sender, map, reported: committed },
-        Kind::Log(interval, list)                  => short(sender, interval, list, reported),
-        Kind::Install(map, list)                   => plain(sender, Kind::Install(map, list)),
-        Kind::Installed(interval)                  => plain(sender, Kind::Installed(interval)),
-        Kind::AskActivate(interval)                => plain(sender, Kind::AskActivate(interval)),
-        Kind::Activated(interval)                  => plain(sender, Kind::Activated(interval)),
-        Kind::Rep(interval, place, request)        => plain(sender, Kind::Rep(interval, place, request)),
-        Kind::Ack(interval, length)                => plain(sender, Kind::Ack(interval, length)),
-        Kind::Reply(client, number, place, answer) => plain(sender, Kind::Reply(client, number, place, answer)),
+        Kind::Query(map)                           => CarriedKind::Query(map, committed),
+        Kind::Log(interval, list)                  => CarriedKind::Log(interval, pack_list(list, reported)),
+        Kind::Install(map, list)                   => CarriedKind::Install(map, list),
+        Kind::Installed(interval)                  => CarriedKind::Installed(interval),
+        Kind::AskActivate(interval)                => CarriedKind::AskActivate(interval),
+        Kind::Activated(interval)                  => CarriedKind::Activated(interval),
+        Kind::Rep(interval, place, request)        => CarriedKind::Rep(interval, place, request),
+        Kind::Ack(interval, length)                => CarriedKind::Ack(interval, length),
+        Kind::Reply(client, number, place, answer) => CarriedKind::Reply(client, number, place, answer),
     }
 }
 
 /// A message of a node as it is carried, and its receiver. A question for a list says how much the
 /// sender has committed; a list goes without its first `reported` requests, which its receiver has;
 /// the others are shared. It takes no memory.
-pub fn pack(committed: usize, reported: usize, packet: Packet) -> (Party, Carried)
+pub fn pack(committed: usize, reported: usize, packet: Packet) -> (Party, CarriedMessage)
     ensures { result ≡ packed_as committed reported packet }
 {
     let Packet { receiver, message } = packet;
     let Message { sender, kind } = message;
-    (receiver, carry(committed, reported, sender, kind))
+    let kind = carry(committed, reported, kind);
+    (receiver, CarriedMessage { sender, kind })
 }

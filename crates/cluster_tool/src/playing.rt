@@ -10,7 +10,7 @@ use crate::meter::Meter;
 use crate::played::Played;
 use cluster_file::{Plan, Step};
 use map_book::MapError;
-use osd::{ClusterName, NoMemory, Parts, Running, running_crosses};
+use osd::{ClusterName, ClusterParts, NoMemory, Running, running_crosses};
 use pg_log::ClassTable;
 use rados_client::{ExecError, Reply, Session};
 use std::alloc::{AllocError, Global};
@@ -31,7 +31,7 @@ pub(crate) fn play<
     E: io::Write,
 >(
     rt: R,
-    parts: Parts,
+    parts: ClusterParts,
     table: ClassTable,
     plan: &Plan,
     meter: &mut Meter<'_, E>,

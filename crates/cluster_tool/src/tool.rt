@@ -11,7 +11,7 @@ use crate::playing::play;
 use crate::shown::{groups_if, lines_of};
 use class_tool::{Failure, Output, Reads, read_text};
 use cluster_file::{Plan, Reading, bad_line, read_plan, refused_line};
-use osd::Parts;
+use osd::ClusterParts;
 use pg_log::ClassTable;
 use rados_client::ConfigError;
 use std::alloc::{AllocError, Global};
@@ -148,7 +148,7 @@ fn settle_plan<R: AllocGlobal + Threads + Wait + Clock + Sync + Drop, E: io::Wri
         return refused(alloc, 1, ConfigError::Limit);
     };
     let groups = groups_if(extras.is_shown, &config);
-    let Ok(parts) = Parts::new(alloc, config) else {
+    let Ok(parts) = ClusterParts::new(alloc, config) else {
         return refused(alloc, 1, ConfigError::NoMemory);
     };
     // The call picks the cluster's names: parts and classes are there already.

@@ -19,8 +19,8 @@ use Rattle.group_cell.specs.declared.post.Post.TheVariants as post
 use Rattle.group_cell.specs.declared.outgoing.Outgoing.{Outgoing}
 use Rattle.group_cell.specs.declared.outgoing.Outgoing.TheVariants.{ToNode, ToMonitor, ToClient}
 
--- REPLIES. The reply is the one that a message gives a client: of its place, with its answer, to a
--- request of its client and number; and its note knows what the cell has committed.
+-- REPLIES. A message gives a client this reply: it has the message's place and answer, its request
+-- is of the message's client and number, and its note knows what the cell has committed.
 pub record IsReplyTo (cell : CellState) (by nth at : ℕ) (reply : Reply) (r : PostedReply) : Type 0 where
   pub of_cell : IsReplyOf cell at r
   pub answer : r.answer ≡ reply
@@ -38,10 +38,10 @@ GivesReply cell (Rep interval place request) r = ⊥
 GivesReply cell (Ack interval length) r = ⊥
 GivesReply cell (ReplyTo client number place answer) r = IsReplyTo cell client number place answer r
 
--- A MESSAGE GOES OUT to another node as it is packed for a receiver that reported how many entries
--- it has, to the monitor as what it asks, to a client as a reply.
+-- A MESSAGE GOES OUT to a node packed for a receiver that reported so many entries, to the monitor
+-- as its question, and to a client as a reply.
 abbrev pub GoesOutAs : {N : Type 0} → CellState → ℕ → Packet → Outgoing N → Type 0
-GoesOutAs cell reported p (ToNode n carried) = packed_as cell.node.state.committed reported p ≡ (ANode n, carried)
+GoesOutAs cell reported p (ToNode n m) = packed_as cell.node.state.committed reported p ≡ (ANode n, m)
 GoesOutAs cell reported p (ToMonitor interval) = (p.receiver ≡ TheMonitor) × (p.message.kind ≡ AskActivate interval)
 GoesOutAs cell reported p (ToClient client (post.Reply r)) = (p.receiver ≡ AClient client) × GivesReply cell p.message.kind r
 GoesOutAs cell reported p (ToClient client (post.Refused r)) = ⊥
@@ -50,9 +50,9 @@ abbrev pub asks_activation : MessageKind → Bool
 asks_activation (AskActivate interval) = true
 asks_activation _ = false
 
--- A message may be left out where its receiver is a client, since a reply takes memory, or where it
--- means nothing to its receiver: the monitor takes AskActivate alone, and a client replies alone.
--- Any other goes out.
+-- A message may be left out if its receiver is a client, since a reply takes memory, or if it means
+-- nothing to its receiver: the monitor takes AskActivate alone, and a client replies alone. Any
+-- other goes out.
 abbrev pub may_be_left_out : Party → MessageKind → Bool
 may_be_left_out (ANode n) kind = false
 may_be_left_out TheMonitor kind = not (asks_activation kind)
@@ -72,13 +72,13 @@ pub record IsTaken {N : Type 0} (classes : Classes) (old new : CellState) (repor
   pub row : new.row ≡ old.row
   pub out : GoOutAs new reported (local_step classes old.node.number old.node.state event).sent went
 
--- what goes out by a refusal: that of a request goes to its client
+-- what goes out for a refused event: the refusal of a request goes to its client
 abbrev pub refusal_to : {N : Type 0} → Event → HandleError → List (Option (Outgoing N))
 refusal_to (ARequest r) why = Some (ToClient r.client (post.Refused (record { request = r; why = why }))) ∷ []
 refusal_to (AMap m) why = []
 refusal_to (AMessage m) why = []
 
--- an event of which no refusal goes out
+-- an event whose refusal goes to nobody
 abbrev pub IsQuiet : Event → Type 0
 IsQuiet (ARequest r) = ⊥
 IsQuiet (AMap m) = Unit {0}
@@ -91,13 +91,13 @@ pub record IsTurnedDown {N : Type 0} (classes : Classes) (old new : CellState) (
   pub same : new ≡ old
   pub out : went ≡ refusal_to event why
 
--- where no event comes nothing happens
+-- if no event comes, nothing happens
 abbrev pub IsTurn : {N : Type 0} → Classes → CellState → CellState → ℕ → Option Event → List (Option (Outgoing N)) → Type 0
 IsTurn classes old new reported None out = (new ≡ old) × (out ≡ [])
 IsTurn classes old new reported (Some event) out = IsTaken classes old new reported event out ⊎ IsTurnedDown classes old new event out
 
--- Where memory is refused before the event comes nothing has happened; after it, all its messages
--- are lost.
+-- If memory is refused before the event comes, nothing has happened; if it is refused after that,
+-- all messages of the event are lost.
 abbrev pub IsCutShort : Classes → CellState → CellState → Option Event → Type 0
 IsCutShort classes old new None = new ≡ old
 IsCutShort classes old new (Some event) = (new ≡ old) ⊎ ((new.row ≡ old.row)

@@ -1,6 +1,6 @@
 use crate::board_name::BoardName;
 use crate::post::Post;
-use carried::Carried;
+use carried::CarriedMessage;
 use group_world::Epoch;
 use pg_log::ClientId;
 use placement::NodeId;
@@ -9,7 +9,7 @@ use placement::NodeId;
 #[derive(Drop)]
 pub enum Outgoing<N: BoardName> {
     /// A message for another node of the group, or for the node itself.
-    ToNode(NodeId, Carried),
+    ToNode(NodeId, CarriedMessage),
     /// The node asks the monitor to activate that interval.
     ToMonitor(Epoch),
     /// A client is answered or refused.

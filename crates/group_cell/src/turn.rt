@@ -175,8 +175,8 @@ impl<N: BoardName> GroupCell<N> {
         requires { packet.receiver ≡ Party.Node node }
         ensures { MayGoOutAs self.now reported packet (Some result) }
     {
-        let (_, carried) = pack(self.node().committed(), reported, packet);
-        Outgoing::ToNode(node, carried)
+        let (_, message) = pack(self.node().committed(), reported, packet);
+        Outgoing::ToNode(node, message)
     }
 
     /// A message to a client.

@@ -1,4 +1,3 @@
-pub mod Again
 pub mod Booking
 pub mod Parting
 pub mod Sending

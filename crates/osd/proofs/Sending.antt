@@ -1,15 +1,12 @@
--- What a pass gains over several submits.
-use Rattle.std.proofs.Common.{◌≡◌, ℕ, zero, suc, List, [], ◌∷◌, Option, Some, ◌++◌, Result, Ok, Err, refl, sym, ap, ◌∙◌, subst, append_assoc}
+-- What several submits add to a pass.
+use Rattle.std.proofs.Common.{◌≡◌, ℕ, zero, suc, List, [], ◌∷◌, ◌++◌, Result, Ok, Err, refl, sym, ap, ◌∙◌, subst, append_assoc}
 use Rattle.std.specs.Prelude.{All, MatchResult}
 use Rattle.std.proofs.lemmas.List.{append-nil}
 use Rattle.std.proofs.lemmas.List.Elements.{All-nil, All-cons, All-append, All-weaker}
 use Rattle.op_shards.specs.declared.rule.Ranked.{Ranked}
 use Rattle.op_shards.specs.Passes.{Sender, ranked, at_shard, pushed_at, after_submit, next_rank, Grew, WasSent}
-use Rattle.carried.specs.declared.operation.Carried.{Carried}
 use Rattle.carried.specs.declared.operation.Operation.{Operation}
-use Rattle.group_cell.specs.declared.outgoing.Outgoing.{Outgoing}
-use Rattle.group_cell.specs.declared.outgoing.Outgoing.TheVariants.{ToNode}
-use Rattle.osd.specs.Sent.{OnlySent, IsAny, IsThat, IsNoRequest, IsInternalTo, IsOfNode, IsOfNodeOrLost, IsOf}
+use Rattle.osd.specs.Sent.{OnlySent, IsAny, IsThat}
 
 abbrev on : (Operation → Type 0) → Ranked Operation → Type 0
 on P x = P x.op
@@ -70,20 +67,6 @@ pub only_submitted : (P : Operation → Type 0) (s t : Sender Operation) (shard 
 only_submitted P s t shard op X Y (Ok u) p h = only_one P s t shard op p h.0
 only_submitted P s t shard op X Y (Err x) p h = only_same P s t h.1
 
--- what holds of the operation, holds of each that is that one
+-- what holds of an operation holds of each that equals it
 pub only_that : (P : Operation → Type 0) (s t : Sender Operation) (this : Operation) → P this → OnlySent s t (IsThat this) → OnlySent s t P
 only_that P s t this p g = only_weaker (IsThat this) P s t (λ op e. subst P (sym e) p) g
-
-pub to_node : {N : Type 0} (o : Outgoing N) (n : ℕ) (carried : Carried) → o ≡ ToNode n carried → IsOfNode o → IsNoRequest carried
-to_node o n carried e h = subst IsOfNode e h
-
-pub some_of_node : {N : Type 0} (o : Option (Outgoing N)) (x : Outgoing N) → o ≡ Some x → IsOfNodeOrLost o → IsOfNode x
-some_of_node o x e h = subst IsOfNodeOrLost e h
-
--- what a node sends
-module _ {N : Type 0} (group : ℕ) (o : Outgoing N) (s t : Sender Operation) where
-  pub only_internal : OnlySent s t (IsInternalTo group) → OnlySent s t (IsOf group o)
-  only_internal g = only_weaker (IsInternalTo group) (IsOf group o) s t (λ op h. (h.0, λ _. h.1)) g
-
-  pub internal_only : IsOfNode o → OnlySent s t (IsOf group o) → OnlySent s t (IsInternalTo group)
-  internal_only n g = only_weaker (IsOf group o) (IsInternalTo group) s t (λ op h. (h.0, h.1 n)) g

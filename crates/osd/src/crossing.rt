@@ -2,7 +2,7 @@
 //! nothing.
 ghost use denote.Param.Send.{IsSend, IsSync};
 ghost use Rattle.osd.specs.contracts.desk.Desk as desk;
-ghost use Rattle.osd.specs.contracts.desk.Opened as opened;
+ghost use Rattle.osd.specs.contracts.desk.OpenedSession as opened;
 ghost use Rattle.osd.specs.contracts.mailbox.Mailbox as mailbox;
 ghost use Rattle.osd.specs.contracts.monitors.Monitors as monitors;
 ghost use Rattle.osd.specs.contracts.newest.Newest as newest;
@@ -14,7 +14,7 @@ ghost use Rattle.osd.specs.contracts.sends.Takes as takes;
 ghost use Rattle.osd.specs.contracts.worker.Worker as worker;
 ghost use Rattle.osd.specs.contracts.worker.WorkerPlace as place;
 
-use crate::desk::{Desk, Opened};
+use crate::desk::{Desk, OpenedSession};
 use crate::mailbox::Mailbox;
 use crate::monitors::Monitors;
 use crate::name::ClusterName;
@@ -23,12 +23,12 @@ use crate::node::Node;
 use crate::queued::Queued;
 use crate::sends::{Sends, Takes};
 use crate::worker::{Worker, WorkerPlace};
+use carried::operation_crosses;
 use commit_board::board_crosses;
 use group_cell::{cell_crosses, post_crosses};
-use group_world::{event_crosses, map_crosses};
 use map_book::book_crosses;
 use op_shards::queues_cross;
-use pg_log::{request_crosses, table_crosses};
+use pg_log::table_crosses;
 
 /// Threads may share a running cluster whose names and runtime they may share, and what a session
 /// holds may go from one thread to another.
@@ -42,7 +42,7 @@ pub fn running_crosses<N: ClusterName + Send + Sync, R: Sync>()
     board_crosses();
     table_crosses();
     passes_cross::<N>();
-    can_send::<Opened<N>>();
+    can_send::<OpenedSession<N>>();
     locked_crosses::<N>();
     places_cross::<N>();
 }
@@ -50,9 +50,7 @@ pub fn running_crosses<N: ClusterName + Send + Sync, R: Sync>()
 fn queued_crosses()
     ensures { IsSend queued.the_row }
 {
-    request_crosses();
-    map_crosses();
-    event_crosses();
+    operation_crosses();
     can_send::<Queued>();
 }
 
@@ -86,9 +84,7 @@ fn locked_crosses<N: ClusterName + Send + Sync>()
 fn worker_crosses<N: ClusterName + Send>()
     ensures { IsSend (worker.the_row N.row (record { queues = N.queues; config = N.config }) (record { board = N.board }) (record { classes = N.classes })) }
 {
-    request_crosses();
-    map_crosses();
-    event_crosses();
+    operation_crosses();
     post_crosses::<N>();
     passes_cross::<N>();
     can_send::<Worker<N>>();

@@ -28,7 +28,7 @@ impl<N: ClusterName> Delivery<N> {
     /// The same once more, where memory isn't refused. Of an answer there is none.
     pub fn again(&self, alloc: Global) -> Option<Delivery<N>> {
         let outgoing = match &self.outgoing {
-            Outgoing::ToNode(node, carried) => Outgoing::ToNode(*node, carried.copy(alloc).ok()?),
+            Outgoing::ToNode(node, message) => Outgoing::ToNode(*node, message.copy(alloc).ok()?),
             Outgoing::ToMonitor(interval) => Outgoing::ToMonitor(*interval),
             Outgoing::ToClient(_, _) => return None,
         };

@@ -9,7 +9,7 @@ use std::marker::Model;
 
 /// The part of a cluster that a session holds.
 #[derive(Drop)]
-pub struct Opened<N: ClusterName> {
+pub struct OpenedSession<N: ClusterName> {
     /// Its client.
     pub client: ClientId,
     /// Its token of the board, which has seen nothing yet.
@@ -51,7 +51,7 @@ impl<N: ClusterName> Desk<N> {
     }
 
     /// Opens a session: the first is client 1, the next 2, and so on. None after 64.
-    pub fn open(&mut self, board: &Board) -> Option<Opened<N>>
+    pub fn open(&mut self, board: &Board) -> Option<OpenedSession<N>>
         requires { board.now ≡ N.board }
         ensures { MatchOption result
             ((self.old ≡ 64) × (self.new ≡ 64))
@@ -60,7 +60,7 @@ impl<N: ClusterName> Desk<N> {
     {
         let sends = self.sends.pop()?;
         self.opened += 1;
-        Some(Opened {
+        Some(OpenedSession {
             client: ClientId::new(self.opened).unwrap(),
             seen: board.fresh(&mut self.seen),
             sends,

@@ -15,7 +15,7 @@ use std::marker::Model;
 
 /// A cluster that has no name yet: all of it but the classes, with a map of each group by which all
 /// nodes are up. Contracts see its board, its queues and what it is made of.
-pub struct Parts {
+pub struct ClusterParts {
     config: Config,
     rows: Rows,
     queues: AllQueues,
@@ -24,9 +24,9 @@ pub struct Parts {
 
 // Written out, so that a crate that drops them calls this and needn't prove again how each part is
 // dropped.
-impl Drop for Parts {
+impl Drop for ClusterParts {
     fn drop(self) {
-        let Parts {
+        let ClusterParts {
             config: _,
             rows,
             queues,
@@ -61,7 +61,7 @@ pub(crate) struct Maps {
     pub newest: Vec<NewMap>,
 }
 
-impl Model for Parts {
+impl Model for ClusterParts {
     ghost use Rattle.std.specs.Prelude.{◌≡◌, ◌*◌, ◌+◌, IsTrue, All, length, vec_len};
     ghost use Rattle.osd.specs.Limits.{is_within_limits};
     ghost use Rattle.osd.specs.Maps.{HasPrimary, IsBookOf};
@@ -83,17 +83,17 @@ impl Model for Parts {
         × All HasPrimary p.maps.newest.items };
 }
 
-impl Parts {
+impl ClusterParts {
     /// The parts of a cluster whose numbers are within their limits. It makes the first map of each
     /// group, with all nodes up.
-    pub fn new(alloc: Global, config: Config) -> Result<Parts, NoMemory>
+    pub fn new(alloc: Global, config: Config) -> Result<ClusterParts, NoMemory>
         requires { IsTrue (is_within_limits config) }
         ensures { IfOk result (λ p. p.config ≡ config) }
     {
         let rows = rows_of(alloc, &config)?;
         let queues = queues_of(alloc, &config)?;
         let maps = maps_of(alloc, &config)?;
-        Ok(Parts {
+        Ok(ClusterParts {
             config,
             rows,
             queues,
@@ -112,7 +112,7 @@ impl Parts {
         ensures book { IsBookOf result.0 result.3.book }
         ensures newest { (length result.3.newest.items ≡ result.0.groups) × All HasPrimary result.3.newest.items }
     {
-        let Parts {
+        let ClusterParts {
             config,
             rows,
             queues,

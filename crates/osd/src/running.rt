@@ -13,7 +13,7 @@ mod serving;
 
 use crate::bell::Bell;
 use crate::config::Config;
-use crate::desk::{Desk, Opened};
+use crate::desk::{Desk, OpenedSession};
 use crate::mailbox::Mailbox;
 use crate::monitors::Monitors;
 use crate::name::ClusterName;
@@ -141,7 +141,7 @@ impl<N: ClusterName, R: Wait> Running<N, R> {
     }
 
     /// Opens a session: the first is client 1, the next 2, and so on. None after 64.
-    pub fn open(&self) -> Option<Opened<N>>
+    pub fn open(&self) -> Option<OpenedSession<N>>
         ensures { IfSome result (λ o. (o.client ≤ 64) × (o.seen ≡ knows N.board [])) }
     {
         let opened = self.desk.lock(&self.rt).open(&self.board)?;

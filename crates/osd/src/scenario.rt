@@ -1,7 +1,7 @@
 ghost use Rattle.std.specs.Prelude.{◌≡◌, IfOk};
 
 use crate::name::ClusterName;
-use crate::parts::Parts;
+use crate::parts::ClusterParts;
 use crate::running::Running;
 use commit_board::NoMemory;
 use pg_log::ClassTable;
@@ -32,7 +32,7 @@ pub trait Scenario {
 pub fn play<S: Scenario, R: Threads + Wait + Sync + Drop>(
     alloc: Global,
     rt: R,
-    parts: Parts,
+    parts: ClusterParts,
     table: ClassTable,
     scenario: &S,
 ) -> Result<S::Output, NoMemory>
@@ -44,7 +44,7 @@ pub fn play<S: Scenario, R: Threads + Wait + Sync + Drop>(
 fn play_named<N: ClusterName + Send + Sync, S: Scenario, R: Threads + Wait + Sync + Drop>(
     alloc: Global,
     rt: R,
-    parts: Parts,
+    parts: ClusterParts,
     table: ClassTable,
     scenario: &S,
 ) -> Result<S::Output, NoMemory>

@@ -11,9 +11,8 @@ use Rattle.group_cell.specs.Posts.{Stands}
 use Rattle.commit_board.specs.Lists.{list_at}
 use Rattle.op_shards.specs.Passes.{Sender, at_shard, Grew, WasSent}
 use Rattle.op_shards.specs.declared.rule.Ranked.{Ranked}
-use Rattle.group_world.specs.declared.event.Event.TheVariants.{Request as ARequest}
 use Rattle.carried.specs.declared.operation.Operation.{Operation}
-use Rattle.carried.specs.declared.operation.Carried.TheVariants.{Plain}
+use Rattle.carried.specs.declared.operation.Carried.TheVariants.{Request as ARequest}
 use Rattle.osd.specs.Sent.{OnlySent, IsNoRequest, IsInternalTo}
 use Rattle.rados_client.specs.declared.exec_error.ExecError.{ExecError}
 use Rattle.rados_client.specs.declared.exec_error.ExecError.TheVariants as exec
@@ -99,7 +98,7 @@ not_asked_self s r w = past (at_shard s.accepted w.shard) w.rank w.x w.new w.the
 pub not_asked_same : (s t : Sender Operation) (r : ClientRequest) → t ≡ s → NotAsked s t r
 not_asked_same s t r e = subst (λ (u : Sender Operation). NotAsked s u r) (sym e) (not_asked_self s r)
 
-no_request : (group : ℕ) (op : Operation) (r : ClientRequest) → IsInternalTo group op → op.carried ≡ Plain (ARequest r) → ⊥
+no_request : (group : ℕ) (op : Operation) (r : ClientRequest) → IsInternalTo group op → op.carried ≡ ARequest r → ⊥
 no_request group op r h e = subst IsNoRequest e h.1
 
 -- a nudge submits no request of a client

@@ -9,12 +9,11 @@ use Rattle.pg_log.specs.Runs.{RanAt}
 use Rattle.pg_log.specs.Within.{IsRequest}
 use Rattle.pg_log.specs.Refusals.{refusal_of_class}
 use Rattle.pg_log.specs.declared.log_error.LogError.TheVariants as log
-use Rattle.group_world.specs.declared.event.Event.TheVariants.{Request as ARequest}
 use Rattle.commit_board.specs.Lists.{list_at}
 use Rattle.group_cell.specs.Posts.{Stands}
 use Rattle.op_shards.specs.Passes.{Sender, Grew, WasSent}
 use Rattle.carried.specs.declared.operation.Operation.{Operation}
-use Rattle.carried.specs.declared.operation.Carried.TheVariants.{Plain}
+use Rattle.carried.specs.declared.operation.Carried.TheVariants.{Request as ARequest}
 use Rattle.rados_client.specs.declared.exec_error.ExecError.{ExecError}
 use Rattle.rados_client.specs.declared.exec_error.ExecError.TheVariants as exec
 use Rattle.rados_client.specs.Session.{Contact, SessionState, PlacedReply, KnowsMore}
@@ -49,7 +48,7 @@ AnswersHaveRun =
 
 -- between the two states of a pass a queue took the whole request
 abbrev pub WasAsked : Sender Operation → Sender Operation → ClientRequest → Type 0
-WasAsked old new r = WasSent old new (λ op. op.carried ≡ Plain (ARequest r))
+WasAsked old new r = WasSent old new (λ op. op.carried ≡ ARequest r)
 
 -- between the two states of a pass no queue took the whole request
 abbrev pub NotAsked : Sender Operation → Sender Operation → ClientRequest → Type 0

@@ -10,7 +10,7 @@ use crate::run_error::RunError;
 use bpf_decode::{DecodeError, read_image};
 use builtin_classes::{load_lock, load_obj};
 use interp::{CLASS_LIMIT, ClassTable, TableError};
-use osd::{Config, Parts, Scenario, play};
+use osd::{ClusterParts, Config, Scenario, play};
 use std::alloc::Global;
 use std::marker::Model;
 use std::mem;
@@ -39,7 +39,7 @@ impl Drop for Cluster {
 #[derive(Drop)]
 enum Stage {
     /// It hasn't run: it has its parts and its classes.
-    Idle(Parts, ClassTable),
+    Idle(ClusterParts, ClassTable),
     /// It has run, with this number of classes.
     Started(usize),
 }
@@ -65,7 +65,7 @@ impl Cluster {
         if !config.is_within_limits() {
             return Err(ConfigError::Limit);
         }
-        let Ok(parts) = Parts::new(alloc, config) else {
+        let Ok(parts) = ClusterParts::new(alloc, config) else {
             return Err(ConfigError::NoMemory);
         };
         let Some(table) = built_in(alloc) else {
@@ -105,7 +105,7 @@ impl Cluster {
     /// Gives the parts and the classes to who names the cluster (`Running::named`) and brings its
     /// threads: a scenario of `run` can start none. From then on the cluster has started. None
     /// exactly where it had started before.
-    pub fn start(&mut self) -> Option<(Parts, ClassTable)>
+    pub fn start(&mut self) -> Option<(ClusterParts, ClassTable)>
         ensures given { MatchOption result (self.old.classes ≡ None) (λ p. (self.old.config ≡ Some p.0.config) × (self.old.classes ≡ Some p.1)) }
         ensures spent { self.new ≡ record {
           count = self.old.count;

@@ -11,7 +11,7 @@ use crate::bad_line::bad_line;
 use crate::note::{column, meant, note};
 use crate::setup::Setup;
 use pg_log::Classes;
-use sim_text::{carried_text, lines, read_line, sender_of};
+use sim_text::{carried_text, lines, read_line};
 use sim_trace::{Message, Step, draw};
 use sim_world::{KeptMessage, World};
 use std::alloc::{AllocError, Global};
@@ -31,9 +31,9 @@ fn message(alloc: Global, kept: &KeptMessage) -> Result<Message, AllocError>
     ensures { IfOk result (λ m. drawn_as m ≡ drawn_of (kept_shown kept.now)) }
 {
     Ok(Message {
-        from: column(sender_of(&kept.carried)),
+        from: column(kept.message.sender),
         to: column(kept.receiver),
-        text: carried_text(alloc, &kept.carried)?,
+        text: carried_text(alloc, &kept.message.kind)?,
     })
 }
 

@@ -1,35 +1,29 @@
--- The texts of messages, had from what is kept of them: nothing here need be believed.
-use Rattle.std.specs.Prelude.{ℕ, ◌+◌, List, [], length, codes}
-use Rattle.group_world.specs.declared.event.Event.{Event}
-use Rattle.group_world.specs.declared.event.Event.TheVariants.{Request as ARequest, Map as AMap, Message as AMessage}
-use Rattle.group_world.specs.declared.message.MessageKind.TheVariants.{Query as QueryOf}
+-- The texts of messages as they are carried. Nothing here need be believed: `sim_world` proves that
+-- they are the texts of the messages that were sent.
+use Rattle.std.specs.Prelude.{ℕ, ◌+◌, List, length, codes}
+use Rattle.replication.specs.Packed.{Packed}
 use Rattle.group_world.specs.declared.party.Party.{Party}
-use Rattle.group_world.specs.declared.party.Party.TheVariants.{Monitor as TheMonitor}
-use Rattle.carried.specs.declared.operation.Carried.{Carried}
-use Rattle.carried.specs.declared.operation.Carried.TheVariants.{Plain, Query, Log}
+use Rattle.group_world.specs.declared.message.MessageKind.TheVariants as sent
+use Rattle.carried.specs.declared.message.CarriedKind.{CarriedKind}
+use Rattle.carried.specs.declared.message.CarriedKind.TheVariants.{Query, Log, Install, Installed, AskActivate, Activated, Rep, Ack, Reply}
+use Rattle.carried.specs.declared.message.CarriedMessage.{CarriedMessage}
 use Rattle.sim_text.specs.Texts.{kind_text, word_and_two_numbers, text_between}
 
--- who sends it; only messages are kept
-abbrev pub sender_in : Event → Party
-sender_in (ARequest r) = TheMonitor
-sender_in (AMap m) = TheMonitor
-sender_in (AMessage m) = m.sender
+-- a list, by its whole length
+abbrev pub log_text : ℕ → Packed → List ℕ
+log_text interval log = word_and_two_numbers (codes "Log") interval (log.common + length log.rest)
 
-abbrev pub sender_of : Carried → Party
-sender_of (Plain event) = sender_in event
-sender_of (Query sender map reported) = sender
-sender_of (Log short) = short.sender
+-- what a message says
+abbrev pub carried_text : CarriedKind → List ℕ
+carried_text (Query map reported) = kind_text (sent.Query map)
+carried_text (Log interval log) = log_text interval log
+carried_text (Install map list) = kind_text (sent.Install map list)
+carried_text (Installed interval) = kind_text (sent.Installed interval)
+carried_text (AskActivate interval) = kind_text (sent.AskActivate interval)
+carried_text (Activated interval) = kind_text (sent.Activated interval)
+carried_text (Rep interval place request) = kind_text (sent.Rep interval place request)
+carried_text (Ack interval count) = kind_text (sent.Ack interval count)
+carried_text (Reply client number place answer) = kind_text (sent.Reply client number place answer)
 
--- what it says
-abbrev pub event_text : Event → List ℕ
-event_text (ARequest r) = []
-event_text (AMap m) = []
-event_text (AMessage m) = kind_text m.kind
-
-abbrev pub carried_text : Carried → List ℕ
-carried_text (Plain event) = event_text event
-carried_text (Query sender map reported) = kind_text (QueryOf map)
-carried_text (Log short) = word_and_two_numbers (codes "Log") short.interval (short.log.common + length short.log.rest)
-
-abbrev pub kept_line : ℕ → Party → Carried → List ℕ
-kept_line number receiver carried = text_between number (sender_of carried) receiver (carried_text carried)
+abbrev pub kept_line : ℕ → Party → CarriedMessage → List ℕ
+kept_line number receiver m = text_between number m.sender receiver (carried_text m.kind)

@@ -14,7 +14,7 @@ mod taken_text;
 pub use counted::numbered;
 pub use file_words::{Nodes, lines};
 pub use line::{Line, read_line};
-pub use message_text::{carried_text, message_line, sender_of};
+pub use message_text::{carried_text, message_line};
 pub use numbers::Numbers;
 pub use taken::{MapMade, NodeShown, Taken};
 pub use taken_text::{again_text, said_text};

@@ -1,10 +1,9 @@
--- Messages as they are kept, at the numbers of the messages that were sent.
+-- Messages as they are kept, and the messages that were sent.
 use Rattle.std.proofs.Common.{◌≡◌, ◌≤◌, ◌-◌, ◌+◌, ◌==◌, ◌&&◌, ℕ, zero, suc, min, Bool, true, false, if◌then◌else◌, List, [], ◌∷◌, ◌++◌, length, map, drop, Option, Some, None, refl, ap, ◌∙◌, arith, slice_get}
 use Rattle.std.proofs.lemmas.List.{length-drop}
 use Rattle.std.specs.Prelude.{codes}
 use Rattle.std.specs.List.{Contains}
-use Rattle.pg_log.specs.Requests.{ClientRequest}
-use Rattle.carried.specs.Carried.{carried_as}
+use Rattle.carried.specs.Carried.{kind_as}
 use Rattle.group_world.specs.Node.{NodeState}
 use Rattle.group_world.specs.declared.party.Party.{Party}
 use Rattle.group_world.specs.declared.party.Party.TheVariants.{Node as ANode, Monitor as TheMonitor, Client as AClient}
@@ -12,15 +11,16 @@ use Rattle.group_world.specs.declared.message.MessageKind.{MessageKind}
 use Rattle.group_world.specs.declared.message.MessageKind.TheVariants.{Query, Log as LogOf, Install, Installed as InstalledIn, AskActivate, Activated, Rep, Ack, Reply as ReplyTo}
 use Rattle.group_world.specs.declared.message.Packet.{Packet}
 use Rattle.peering.specs.Numbered.{NumberedNode}
-use Rattle.sim_text.specs.Kept.{carried_text, sender_of}
+use Rattle.sim_text.specs.Kept.{carried_text}
 use Rattle.sim_text.specs.Lines.{numbered}
 use Rattle.sim_text.specs.Texts.{kind_text, word_and_two_numbers, text_between, message_lines, sent_text, last_text, taken_text}
 use Rattle.sim_text.specs.declared.taken.Taken.{Taken}
 use Rattle.sim_text.specs.declared.taken.Taken.TheVariants.{Bad, Skipped, Stopped, Sent, Refused, MonitorRefused, Made, Shown, Again}
-use Rattle.sim_world.specs.Holds.{HasCommitted, IsKept, AreKept, MessageShown, kept_as, kept_shown, message_shown}
+use Rattle.sim_world.specs.Holds.{HasCommitted, IsKept, AreKept, MessageShown, kept_shown, message_shown}
+use Rattle.sim_world.specs.Keeping.{kept_as}
 use Rattle.sim_world.specs.Same.{is_same_kind, is_same_packet, is_same_party, number_from, number_of}
 use Rattle.sim_world.specs.declared.kept.KeptMessage.{KeptMessage}
-use Rattle.sim_world.specs.inner.Buckets.{is_kept_as, is_same_carried, kept_number, kept_number_from}
+use Rattle.sim_world.specs.inner.Buckets.{again_number, is_same_carried, is_same_kept, kept_number_from}
 use Rattle.sim_world.specs.inner.Parts.{committed_of, kept, kept_lines, kept_taken, kept_text, last_kept}
 
 -- MORE MESSAGES
@@ -118,85 +118,63 @@ last_of nodes (suc i) (k ∷ ks) [] are = absurd are
 last_of nodes (suc i) (k ∷ ks) (p ∷ ps) are = last_of nodes i ks ps are.1
 
 -- EQUAL MESSAGES
-never_again : (kind : MessageKind) (interval : ℕ) (list : List ClientRequest) → false ≡ is_same_kind kind (LogOf interval list)
-never_again (Query m) interval list = refl
-never_again (LogOf i l) interval list = refl
-never_again (Install m l) interval list = refl
-never_again (InstalledIn i) interval list = refl
-never_again (AskActivate i) interval list = refl
-never_again (Activated i) interval list = refl
-never_again (Rep i place r) interval list = refl
-never_again (Ack i k) interval list = refl
-never_again (ReplyTo client number place answer) interval list = refl
+same_carried : (committed reported : ℕ) (kind other : MessageKind) → is_same_carried (kind_as 0 0 kind) (kind_as committed reported other) ≡ is_same_kind kind other
+same_carried committed reported (Query m) (Query n) = refl
+same_carried committed reported (Query m) _ = refl
+same_carried committed reported (Install m xs) (Install n ys) = refl
+same_carried committed reported (Install m xs) _ = refl
+same_carried committed reported (AskActivate i) (AskActivate j) = refl
+same_carried committed reported (AskActivate i) _ = refl
+same_carried committed reported (Rep i place r) (Rep j at q) = refl
+same_carried committed reported (Rep i place r) _ = refl
+same_carried committed reported (LogOf interval list) other = refl
+same_carried committed reported (InstalledIn interval) other = refl
+same_carried committed reported (Activated interval) other = refl
+same_carried committed reported (Ack interval k) other = refl
+same_carried committed reported (ReplyTo client number place answer) other = refl
 
-same_carried : (kind : MessageKind) (committed reported : ℕ) (sender : Party) (other : MessageKind) → is_same_carried kind (carried_as committed reported sender other) ≡ is_same_kind kind other
-same_carried kind committed reported sender (Query m) = refl
-same_carried kind committed reported sender (LogOf interval list) = never_again kind interval list
-same_carried kind committed reported sender (Install m list) = refl
-same_carried kind committed reported sender (InstalledIn interval) = refl
-same_carried kind committed reported sender (AskActivate interval) = refl
-same_carried kind committed reported sender (Activated interval) = refl
-same_carried kind committed reported sender (Rep interval place r) = refl
-same_carried kind committed reported sender (Ack interval k) = refl
-same_carried kind committed reported sender (ReplyTo client number place answer) = refl
-
-pub same_sender : (committed reported : ℕ) (sender : Party) (kind : MessageKind) → sender_of (carried_as committed reported sender kind) ≡ sender
-same_sender committed reported sender (Query m) = refl
-same_sender committed reported sender (LogOf interval list) = refl
-same_sender committed reported sender (Install m list) = refl
-same_sender committed reported sender (InstalledIn interval) = refl
-same_sender committed reported sender (AskActivate interval) = refl
-same_sender committed reported sender (Activated interval) = refl
-same_sender committed reported sender (Rep interval place r) = refl
-same_sender committed reported sender (Ack interval k) = refl
-same_sender committed reported sender (ReplyTo client number place answer) = refl
-
-equal_as : (q : Packet) (committed reported : ℕ) (p : Packet) → is_kept_as q (kept_as committed reported p) ≡ is_same_packet q p
+equal_as : (q : Packet) (committed reported : ℕ) (p : Packet) → is_same_kept (kept_as 0 0 q) (kept_as committed reported p) ≡ is_same_packet q p
 equal_as q committed reported p =
-    ap (λ (s : Party). is_same_party q.receiver p.receiver && (is_same_party q.message.sender s && is_same_carried q.message.kind (carried_as committed reported p.message.sender p.message.kind)))
-    (same_sender committed reported p.message.sender p.message.kind)
-    ∙ ap (λ (b : Bool). is_same_party q.receiver p.receiver && (is_same_party q.message.sender p.message.sender && b))
-    (same_carried q.message.kind committed reported p.message.sender p.message.kind)
+    ap (λ (b : Bool). is_same_party q.receiver p.receiver && (is_same_party q.message.sender p.message.sender && b))
+    (same_carried committed reported q.message.kind p.message.kind)
 
-number_among : (nodes : ℕ → NodeState) (q : Packet) (n : ℕ) (ks : List KeptMessage) (ps : List Packet) → AreKept nodes ks ps → kept_number_from n q ks ≡ number_from n q ps
+number_among : (nodes : ℕ → NodeState) (q : Packet) (n : ℕ) (ks : List KeptMessage) (ps : List Packet) → AreKept nodes ks ps → kept_number_from n (kept_as 0 0 q) ks ≡ number_from n q ps
 number_among nodes q n [] [] are = refl
 number_among nodes q n [] (p ∷ ps) are = absurd are
 number_among nodes q n (k ∷ ks) [] are = absurd are
 number_among nodes q n (k ∷ ks) (p ∷ ps) are =
-    ap (λ (b : Bool). if b then n else kept_number_from (suc n) q ks) (ap (is_kept_as q) are.0.same ∙ equal_as q are.0.committed are.0.reported p)
+    ap (λ (b : Bool). if b then n else kept_number_from (suc n) (kept_as 0 0 q) ks) (ap (is_same_kept (kept_as 0 0 q)) are.0.same ∙ equal_as q are.0.committed are.0.reported p)
     ∙ ap (λ (m : ℕ). if is_same_packet q p then n else m) (number_among nodes q (suc n) ks ps are.1)
 
-pub numbers_among : (nodes : ℕ → NodeState) (ks : List KeptMessage) (ps : List Packet) (qs : List Packet) → AreKept nodes ks ps → map (kept_number ks) qs ≡ map (number_of ps) qs
+pub numbers_among : (nodes : ℕ → NodeState) (ks : List KeptMessage) (ps : List Packet) (qs : List Packet) → AreKept nodes ks ps → map (again_number ks) qs ≡ map (number_of ps) qs
 numbers_among nodes ks ps [] are = refl
 numbers_among nodes ks ps (q ∷ qs) are =
-    ap (λ (n : ℕ). n ∷ map (kept_number ks) qs) (number_among nodes q 1 ks ps are)
+    ap (λ (n : ℕ). n ∷ map (again_number ks) qs) (number_among nodes q 1 ks ps are)
     ∙ ap (λ (ns : List ℕ). number_of ps q ∷ ns) (numbers_among nodes ks ps qs are)
 
 -- TEXTS
 whole_length : (reported n l : ℕ) → n ≡ l - min reported l → min reported l + n ≡ l
 whole_length reported n l e = omega (arith, e)
 
-same_text : (committed reported : ℕ) (sender : Party) (kind : MessageKind) → carried_text (carried_as committed reported sender kind) ≡ kind_text kind
-same_text committed reported sender (Query m) = refl
-same_text committed reported sender (LogOf interval list) =
+same_text : (committed reported : ℕ) (kind : MessageKind) → carried_text (kind_as committed reported kind) ≡ kind_text kind
+same_text committed reported (Query m) = refl
+same_text committed reported (LogOf interval list) =
     ap (λ (n : ℕ). word_and_two_numbers (codes "Log") interval n) (whole_length reported _ (length list) (length-drop (min reported (length list)) list))
-same_text committed reported sender (Install m list) = refl
-same_text committed reported sender (InstalledIn interval) = refl
-same_text committed reported sender (AskActivate interval) = refl
-same_text committed reported sender (Activated interval) = refl
-same_text committed reported sender (Rep interval place r) = refl
-same_text committed reported sender (Ack interval k) = refl
-same_text committed reported sender (ReplyTo client number place answer) = refl
+same_text committed reported (Install m list) = refl
+same_text committed reported (InstalledIn interval) = refl
+same_text committed reported (AskActivate interval) = refl
+same_text committed reported (Activated interval) = refl
+same_text committed reported (Rep interval place r) = refl
+same_text committed reported (Ack interval k) = refl
+same_text committed reported (ReplyTo client number place answer) = refl
 
 same_lines : (nodes : ℕ → NodeState) (n : ℕ) (ks : List KeptMessage) (ps : List Packet) → AreKept nodes ks ps → kept_lines n ks ≡ message_lines n ps
 same_lines nodes n [] [] are = refl
 same_lines nodes n [] (p ∷ ps) are = absurd are
 same_lines nodes n (k ∷ ks) [] are = absurd are
 same_lines nodes n (k ∷ ks) (p ∷ ps) are =
-    let c = carried_as are.0.committed are.0.reported p.message.sender p.message.kind in
-    ap (λ (x : KeptMessage). text_between n (sender_of x.carried) x.receiver (carried_text x.carried) ++ kept_lines (suc n) ks) are.0.same
-    ∙ ap (λ (s : Party). text_between n s p.receiver (carried_text c) ++ kept_lines (suc n) ks) (same_sender are.0.committed are.0.reported p.message.sender p.message.kind)
-    ∙ ap (λ (t : List ℕ). text_between n p.message.sender p.receiver t ++ kept_lines (suc n) ks) (same_text are.0.committed are.0.reported p.message.sender p.message.kind)
+    ap (λ (x : KeptMessage). text_between n x.message.sender x.receiver (carried_text x.message.kind) ++ kept_lines (suc n) ks) are.0.same
+    ∙ ap (λ (t : List ℕ). text_between n p.message.sender p.receiver t ++ kept_lines (suc n) ks) (same_text are.0.committed are.0.reported p.message.kind)
     ∙ ap (λ (t : List ℕ). text_between n p.message.sender p.receiver (kind_text p.message.kind) ++ t) (same_lines nodes (suc n) ks ps are.1)
 
 same_sent : (nodes : ℕ → NodeState) (n : ℕ) (ks : List KeptMessage) (ps : List Packet) → AreKept nodes ks ps → kept_text n ks ≡ sent_text n ps
@@ -227,8 +205,6 @@ same_shown nodes [] [] are = refl
 same_shown nodes [] (p ∷ ps) are = absurd are
 same_shown nodes (k ∷ ks) [] are = absurd are
 same_shown nodes (k ∷ ks) (p ∷ ps) are =
-    let c = carried_as are.0.committed are.0.reported p.message.sender p.message.kind in
     ap (λ (x : KeptMessage). kept_shown x ∷ map kept_shown ks) are.0.same
-    ∙ ap (λ (s : Party). record { sender = s; receiver = p.receiver; text = carried_text c } ∷ map kept_shown ks) (same_sender are.0.committed are.0.reported p.message.sender p.message.kind)
-    ∙ ap (λ (t : List ℕ). record { sender = p.message.sender; receiver = p.receiver; text = t } ∷ map kept_shown ks) (same_text are.0.committed are.0.reported p.message.sender p.message.kind)
+    ∙ ap (λ (t : List ℕ). record { sender = p.message.sender; receiver = p.receiver; text = t } ∷ map kept_shown ks) (same_text are.0.committed are.0.reported p.message.kind)
     ∙ ap (λ (ms : List MessageShown). message_shown p ∷ ms) (same_shown nodes ks ps are.1)

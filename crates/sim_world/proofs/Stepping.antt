@@ -1,14 +1,15 @@
--- The code makes of the parts of a played world what a line makes of the group's world.
+-- What the code does to the parts of a played world is what a line does in the group's world.
 use Rattle.std.proofs.Common.{◌≡◌, ◌≢◌, ◌≤◌, ◌<◌, ◌-◌, ◌+◌, ◌==◌, ◌&&◌, ℕ, zero, suc, min, Bool, true, false, if◌then◌else◌, List, [], ◌∷◌, ◌++◌, length, map, Option, Some, None, refl, sym, ap, ◌∙◌, subst, arith, slice_get, get_or, set, get_or-set_other}
 use Rattle.std.proofs.lemmas.Bool.{eq-eqb, eqb-true, ltb-false, ltb-true, le-ltb, false≢true}
 use Rattle.std.proofs.lemmas.Grind.{get_or-set_at}
 use Rattle.std.proofs.lemmas.List.{length-set, length-take-le, length-append}
 use Rattle.std.specs.Prelude.{is_none, nat_lt}
+use Rattle.std.specs.Option.{option_map}
 use mathlib.Core.List.{IsPrefix}
 use Rattle.pg_log.specs.Requests.{ClientRequest}
 use Rattle.pg_log.specs.Log.{Classes}
 use Rattle.replication.specs.Packed.{packed, spread, CommittedIsEnough}
-use Rattle.carried.specs.Carried.{carried_as, unpacked_as}
+use Rattle.carried.specs.Carried.{carried_as, message_of}
 use Rattle.group_world.specs.Maps.{GroupMap}
 use Rattle.group_world.specs.Node.{NodeState, Outcome, committed_list, nothing, is_asking, fresh}
 use Rattle.group_world.specs.Monitor.{MonitorState, map_refusal, next_map, activation_refusal, with_activated, with_map}
@@ -39,7 +40,7 @@ use Rattle.sim_world.specs.Step.{Played, Happened, beginning, stays, happened, u
 use Rattle.sim_world.specs.Step as steps
 use Rattle.sim_world.specs.declared.kept.KeptMessage.{KeptMessage}
 use Rattle.sim_world.specs.inner.Parts.{Parts, Turn, rests, committed_at, committed_of, nth_node, after_outcome, with_outcome, local_outcome, handled, unless_held, arrived, arrives, map_made, activated, delivery_to, at_monitor, delivered, delivered_at, seen, with_stopped, stop_set, shown, sent_again, resent, turn, fresh_nodes, first_parts}
-use Rattle.sim_world.specs.inner.Buckets.{kept_number}
+use Rattle.sim_world.specs.inner.Buckets.{again_number}
 use Rattle.sim_world.proofs.Going.{goes_on}
 use Rattle.sim_world.proofs.Reaching.{Sound, sound, leads_more, keeps}
 use Rattle.sim_world.proofs.Messages.{Both, both_numbered, numbered_at, contains_at, more_kept, still_kept, numbers_among}
@@ -51,7 +52,7 @@ pub record Laws : Type 0 where
   pub uncut : StepsCutNothing
   pub packed : CommittedIsEnough
 
--- what the code made fits what the line makes
+-- the code did what the line does
 pub record Fits (classes : Classes) (t : Turn) (h : Happened) : Type 0 where
   pub held : Holds classes t.parts h.played
   pub came : t.taken ≡ h.taken
@@ -61,7 +62,7 @@ fits_stays classes w p held taken = record { held = held; came = refl }
 
 -- NODES BY NUMBER
 
--- at a node that is there and runs
+-- at a node that exists and runs
 fits_running : (classes : Classes) (w : Parts) (p : Played) → Holds classes w p → (t : Turn) (h : Happened) (b d : Bool) → (b ≡ true → Fits classes t h)
     → Fits classes (if b then (if d then rests w Stopped else t) else rests w Bad) (if b then (if d then stays p Stopped else h) else stays p Bad)
 fits_running classes w p held t h true true f = fits_stays classes w p held Stopped
@@ -186,7 +187,7 @@ fits_outcome : Laws → (classes : Classes) (w : Parts) (p : Played) → Holds c
 fits_outcome laws classes w p held n low event coming is None = record { held = holds_after laws classes w p held n low event coming is; came = refl }
 fits_outcome laws classes w p held n low event coming is (Some why) = fits_stays classes w p held (Refused why)
 
--- the node takes one event for another that makes the same of it
+-- the node takes an event by which it does the same as by another
 fits_handled : Laws → (classes : Classes) (w : Parts) (p : Played) → Holds classes w p → (n : ℕ) → n < 16 → (event : WorldEvent) (taken coming : Event)
     → happens p.world event ≡ at_node p.world n coming → local_step classes n (p.world.nodes n) taken ≡ local_step classes n (p.world.nodes n) coming
     → Fits classes (handled classes w n taken) (unless_refused p event (outcome_at p.world n coming) (outcome_at p.world n coming).refusal)
@@ -205,14 +206,11 @@ fits_at_node laws classes w p held n event coming is =
     fits_unless classes w p held n (handled classes w n coming) (unless_refused p event (outcome_at p.world n coming) (outcome_at p.world n coming).refusal)
     (λ low. fits_handled laws classes w p held n low event coming coming is refl)
 
--- A LIST ARRIVES WHOLE, where the node would take it
-abbrev whole : Classes → ℕ → NodeState → Party → MessageKind → Event → Type 0
-whole classes n s sender kind event = local_step classes n s event ≡ local_step classes n s (AMessage (record { sender = sender; kind = kind }))
-
-record Arrives (classes : Classes) (n : ℕ) (s : NodeState) (sender : Party) (kind : MessageKind) (coming : Option Event) : Type 0 where
-  event : Event
-  comes : coming ≡ Some event
-  same : whole classes n s sender kind event
+-- A LIST ARRIVES WHOLE, if the node would take it
+record Arrives (classes : Classes) (n : ℕ) (s : NodeState) (m : Message) (coming : Option Message) : Type 0 where
+  message : Message
+  comes : coming ≡ Some message
+  same : local_step classes n s (AMessage message) ≡ local_step classes n s (AMessage m)
 
 asks : (status : Status) → is_asking status ≡ true → status ≡ Asking
 asks Out e = absurd (false≢true e)
@@ -231,44 +229,49 @@ adopts classes n s given list false c same = refl
 
 list_arrives : Laws → (classes : Classes) (n : ℕ) (s : NodeState) (sender : Party) (interval : ℕ) (list : List ClientRequest) (committed reported : ℕ)
     → s.committed ≤ length s.log → reported ≤ s.committed → KeepsCommitted s (LogOf interval list)
-    → Arrives classes n s sender (LogOf interval list) (unpacked_as s.log (carried_as committed reported sender (LogOf interval list)))
+    → Arrives classes n s (record { sender = sender; kind = LogOf interval list }) (message_of s.log (carried_as committed reported (record { sender = sender; kind = LogOf interval list })))
 list_arrives laws classes n s sender interval list committed reported within enough keeps =
     let given = spread s.log (packed list reported) in
+    let whole : Message = record { sender = sender; kind = LogOf interval given } in
     let long : nat_lt (length s.log) (min reported (length list)) ≡ false = le-ltb (length s.log) (min reported (length list)) (omega (arith, within, enough)) in
     let same : (interval == s.interval) ≡ true → is_asking s.status ≡ true → given ≡ list =
     λ e f. (laws.packed s.log list s.committed reported within enough (keeps (eqb-true interval s.interval e) (asks s.status f))).same in
     record {
-      event = AMessage (record { sender = sender; kind = LogOf interval given });
-      comes = ap (λ (b : Bool). if b then None else Some (AMessage (record { sender = sender; kind = LogOf interval given }))) long;
+      message = whole;
+      comes = ap (λ (b : Bool). option_map (λ (k : MessageKind). record { sender = sender; kind = k }) (if b then None else Some (LogOf interval given))) long;
       same = adopts classes n s given list (interval == s.interval) (is_asking s.status) same;
     }
 
+as_sent : (classes : Classes) (n : ℕ) (s : NodeState) (m : Message) → Arrives classes n s m (Some m)
+as_sent classes n s m = record { message = m; comes = refl; same = refl }
+
 arrives_whole : Laws → (classes : Classes) (n : ℕ) (s : NodeState) (sender : Party) (kind : MessageKind) (committed reported : ℕ)
-    → s.committed ≤ length s.log → reported ≤ s.committed → KeepsCommitted s kind → Arrives classes n s sender kind (unpacked_as s.log (carried_as committed reported sender kind))
-arrives_whole laws classes n s sender (Query m) committed reported within enough keeps = record { event = AMessage (record { sender = sender; kind = Query m }); comes = refl; same = refl }
+    → s.committed ≤ length s.log → reported ≤ s.committed → KeepsCommitted s kind
+    → Arrives classes n s (record { sender = sender; kind = kind }) (message_of s.log (carried_as committed reported (record { sender = sender; kind = kind })))
 arrives_whole laws classes n s sender (LogOf interval list) committed reported within enough keeps =
     list_arrives laws classes n s sender interval list committed reported within enough keeps
-arrives_whole laws classes n s sender (Install m list) committed reported within enough keeps = record { event = AMessage (record { sender = sender; kind = Install m list }); comes = refl; same = refl }
-arrives_whole laws classes n s sender (InstalledIn interval) committed reported within enough keeps = record { event = AMessage (record { sender = sender; kind = InstalledIn interval }); comes = refl; same = refl }
-arrives_whole laws classes n s sender (AskActivate interval) committed reported within enough keeps = record { event = AMessage (record { sender = sender; kind = AskActivate interval }); comes = refl; same = refl }
-arrives_whole laws classes n s sender (Activated interval) committed reported within enough keeps = record { event = AMessage (record { sender = sender; kind = Activated interval }); comes = refl; same = refl }
-arrives_whole laws classes n s sender (Rep interval place r) committed reported within enough keeps = record { event = AMessage (record { sender = sender; kind = Rep interval place r }); comes = refl; same = refl }
-arrives_whole laws classes n s sender (Ack interval k) committed reported within enough keeps = record { event = AMessage (record { sender = sender; kind = Ack interval k }); comes = refl; same = refl }
-arrives_whole laws classes n s sender (ReplyTo client number place answer) committed reported within enough keeps = record { event = AMessage (record { sender = sender; kind = ReplyTo client number place answer }); comes = refl; same = refl }
+arrives_whole laws classes n s sender (Query m) committed reported within enough keeps = as_sent classes n s _
+arrives_whole laws classes n s sender (Install m list) committed reported within enough keeps = as_sent classes n s _
+arrives_whole laws classes n s sender (InstalledIn interval) committed reported within enough keeps = as_sent classes n s _
+arrives_whole laws classes n s sender (AskActivate interval) committed reported within enough keeps = as_sent classes n s _
+arrives_whole laws classes n s sender (Activated interval) committed reported within enough keeps = as_sent classes n s _
+arrives_whole laws classes n s sender (Rep interval place r) committed reported within enough keeps = as_sent classes n s _
+arrives_whole laws classes n s sender (Ack interval k) committed reported within enough keeps = as_sent classes n s _
+arrives_whole laws classes n s sender (ReplyTo client number place answer) committed reported within enough keeps = as_sent classes n s _
 
 -- A DELIVERY TO A NODE
 fits_arrived : Laws → (classes : Classes) (w : Parts) (p : Played) → Holds classes w p → (n : ℕ) → n < 16 → (event : WorldEvent) (m : Message) (committed reported : ℕ)
     → reported ≤ (p.world.nodes n).committed → KeepsCommitted (p.world.nodes n) m.kind → happens p.world event ≡ at_node p.world n (AMessage m)
-    → Fits classes (arrived classes w n (unpacked_as (nth_node w.nodes n).state.log (carried_as committed reported m.sender m.kind)))
+    → Fits classes (arrived classes w n (option_map AMessage (message_of (nth_node w.nodes n).state.log (carried_as committed reported m))))
     (unless_refused p event (outcome_at p.world n (AMessage m)) (outcome_at p.world n (AMessage m)).refusal)
 fits_arrived laws classes w p held n low event m committed reported enough keeps is =
     let s = p.world.nodes n in
     let ok = sound classes laws.uncut p held.reached in
     let all = arrives_whole laws classes n s m.sender m.kind committed reported (ok.within n) enough keeps in
     let h = unless_refused p event (outcome_at p.world n (AMessage m)) (outcome_at p.world n (AMessage m)).refusal in
-    subst (λ (x : NumberedNode). Fits classes (arrived classes w n (unpacked_as x.state.log (carried_as committed reported m.sender m.kind))) h) (sym (held.nodes n low))
-    (subst (λ (c : Option Event). Fits classes (arrived classes w n c) h) (sym all.comes)
-    (fits_handled laws classes w p held n low event all.event (AMessage m) is all.same))
+    subst (λ (x : NumberedNode). Fits classes (arrived classes w n (option_map AMessage (message_of x.state.log (carried_as committed reported m)))) h) (sym (held.nodes n low))
+    (subst (λ (c : Option Message). Fits classes (arrived classes w n (option_map AMessage c)) h) (sym all.comes)
+    (fits_handled laws classes w p held n low event (AMessage all.message) (AMessage m) is all.same))
 
 -- THE MONITOR
 fits_activated : (classes : Classes) (w : Parts) (p : Played) → Holds classes w p → (event : WorldEvent) (asker : Party) (interval : ℕ)
@@ -303,7 +306,7 @@ fits_asked classes w p held event asker interval is =
 
 fits_monitor : (classes : Classes) (w : Parts) (p : Played) → Holds classes w p → (event : WorldEvent) (sender : Party) (kind : MessageKind) (committed reported : ℕ)
     → happens p.world event ≡ deliver_to p.world TheMonitor (record { sender = sender; kind = kind })
-    → Fits classes (delivered classes w (delivery_to w.nodes TheMonitor (carried_as committed reported sender kind))) (steps.at_monitor p event kind)
+    → Fits classes (delivered classes w (delivery_to w.nodes TheMonitor (carried_as committed reported (record { sender = sender; kind = kind })))) (steps.at_monitor p event kind)
 fits_monitor classes w p held event sender (AskActivate interval) committed reported is = fits_asked classes w p held event sender interval is
 fits_monitor classes w p held event sender (Query m) committed reported is = fits_stays classes w p held (Sent 0)
 fits_monitor classes w p held event sender (LogOf interval list) committed reported is = fits_stays classes w p held (Sent 0)
@@ -317,9 +320,9 @@ fits_monitor classes w p held event sender (ReplyTo client number place answer) 
 -- A DELIVERY
 fits_to : Laws → (classes : Classes) (w : Parts) (p : Played) → Holds classes w p → (event : WorldEvent) (receiver : Party) (m : Message) (committed reported : ℕ)
     → HasCommitted p.world.nodes receiver reported → ((n : ℕ) → KeepsCommitted (p.world.nodes n) m.kind) → happens p.world event ≡ deliver_to p.world receiver m
-    → Fits classes (delivered classes w (delivery_to w.nodes receiver (carried_as committed reported m.sender m.kind))) (steps.deliver_to p event receiver m)
+    → Fits classes (delivered classes w (delivery_to w.nodes receiver (carried_as committed reported m))) (steps.deliver_to p event receiver m)
 fits_to laws classes w p held event (ANode n) m committed reported enough keeps is =
-    fits_unless classes w p held n (arrived classes w n (unpacked_as (nth_node w.nodes n).state.log (carried_as committed reported m.sender m.kind)))
+    fits_unless classes w p held n (arrived classes w n (option_map AMessage (message_of (nth_node w.nodes n).state.log (carried_as committed reported m))))
     (unless_refused p event (outcome_at p.world n (AMessage m)) (outcome_at p.world n (AMessage m)).refusal)
     (λ low. fits_arrived laws classes w p held n low event m committed reported enough (keeps n) is)
 fits_to laws classes w p held event TheMonitor m committed reported enough keeps is = fits_monitor classes w p held event m.sender m.kind committed reported is
@@ -417,7 +420,7 @@ fits_resent classes w p held n =
     fits_unless classes w p held n (sent_again w n) _
     (λ low. record {
       held = held;
-      came = ap (λ (x : NumberedNode). Again (map (kept_number w.sent) (unanswered x.number x.state))) (held.nodes n low)
+      came = ap (λ (x : NumberedNode). Again (map (again_number w.sent) (unanswered x.number x.state))) (held.nodes n low)
           ∙ ap Again (numbers_among p.world.nodes w.sent p.world.sent (unanswered n (p.world.nodes n)) held.sent);
     })
 
@@ -434,7 +437,7 @@ fits laws classes w p held (lines.Go n) = fits_set classes w p held n false
 fits laws classes w p held (lines.Resend n) = fits_resent classes w p held n
 fits laws classes w p held lines.Bad = fits_stays classes w p held Bad
 
--- the same, of what the code says that it made
+-- the same, by what the contracts say that the code did
 pub line_done : Laws → (classes : Classes) (old new : Parts) (taken : Taken) (line : Line) (p : Played) → Holds classes old p
     → record { parts = new; taken = taken } ≡ turn classes old line → IsStep classes new p line taken
 line_done laws classes old new taken line p held is =

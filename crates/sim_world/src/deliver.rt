@@ -1,28 +1,28 @@
 //! Messages come to their receivers.
 ghost use Rattle.std.specs.Prelude.{◌≡◌, IfOk};
-ghost use Rattle.carried.specs.Carried.{unpacked_as};
+ghost use Rattle.carried.specs.Carried.{message_of};
 ghost use Rattle.group_world.specs.Monitor.{activation_refusal};
 ghost use Rattle.group_world.specs.World.{activated_for};
 ghost use Rattle.sim_text.specs.Lines.{numbered};
-ghost use Rattle.sim_world.specs.inner.Parts.{activated, asked_by, asked_in, asked_of, at_monitor, delivered, delivered_at, delivery_of, nth_node};
+ghost use Rattle.sim_world.specs.inner.Parts.{activated, asked_of, at_monitor, delivered, delivered_at, delivery_of, nth_node};
 
 use crate::keeping::keep;
 use crate::kept::KeptMessage;
 use crate::parts::Parts;
-use carried::{Carried, event_of};
+use carried::{CarriedKind, CarriedMessage, message_of};
 use group_world::{Epoch, Event, Message, MessageKind, Packet, Party};
 use peering::GroupNode;
 use pg_log::{ClassTable, Classes};
 use placement::NodeId;
-use sim_text::{Taken, numbered, sender_of};
+use sim_text::{Taken, numbered};
 use std::alloc::{AllocError, Global};
 
 /// A delivery.
 #[derive(Drop)]
 pub(crate) enum Delivery {
-    /// To that node, that event; none where a list was lost.
-    ToNode(NodeId, Option<Event>),
-    /// To the monitor: of that sender, who asks it to activate that interval, if any.
+    /// To that node, that message; none if a list was lost.
+    ToNode(NodeId, Option<Message>),
+    /// To the monitor, from that sender, which asks it to activate that interval, if any.
     ToMonitor(Party, Option<Epoch>),
     /// To a client.
     ToClient,
@@ -42,62 +42,41 @@ fn activated_for(asker: Party, interval: Epoch) -> Packet
 }
 
 /// The interval that the monitor is asked to activate, if that is said.
-fn asked_in(kind: &MessageKind) -> Option<Epoch>
-    ensures { result ≡ asked_in kind.now }
+#[rattlefmt::skip]
+fn asked_of(kind: &CarriedKind) -> Option<Epoch>
+    ensures { result ≡ asked_of kind.now }
 {
     match kind {
-        MessageKind::AskActivate(interval) => Some(*interval),
-        MessageKind::Query(_) => None,
-        MessageKind::Log(_, _) => None,
-        MessageKind::Install(_, _) => None,
-        MessageKind::Installed(_) => None,
-        MessageKind::Activated(_) => None,
-        MessageKind::Rep(_, _, _) => None,
-        MessageKind::Ack(_, _) => None,
-        MessageKind::Reply(_, _, _, _) => None,
+        CarriedKind::AskActivate(interval) => Some(*interval),
+        CarriedKind::Query(_, _)           => None,
+        CarriedKind::Log(_, _)             => None,
+        CarriedKind::Install(_, _)         => None,
+        CarriedKind::Installed(_)          => None,
+        CarriedKind::Activated(_)          => None,
+        CarriedKind::Rep(_, _, _)          => None,
+        CarriedKind::Ack(_, _)             => None,
+        CarriedKind::Reply(_, _, _, _)     => None,
     }
 }
 
-/// The same of an event.
-fn asked_by(event: &Event) -> Option<Epoch>
-    ensures { result ≡ asked_by event.now }
-{
-    match event {
-        Event::Request(_) => None,
-        Event::Map(_) => None,
-        Event::Message(message) => asked_in(&message.kind),
-    }
-}
-
-/// The same of what is kept.
-fn asked_of(carried: &Carried) -> Option<Epoch>
-    ensures { result ≡ asked_of carried.now }
-{
-    match carried {
-        Carried::Plain(event) => asked_by(event),
-        Carried::Query { .. } => None,
-        Carried::Log(_) => None,
-    }
-}
-
-/// The event that comes to a node: a list with the beginning that the node has.
+/// The message that comes to a node: a list with the beginning that the node has.
 fn coming_to<C: Classes>(
     alloc: Global,
     nodes: &[GroupNode<C>],
     node: NodeId,
-    carried: &Carried,
-) -> Result<Option<Event>, AllocError>
-    ensures { IfOk result (λ e. e ≡ unpacked_as (nth_node nodes.now node).state.log carried.now) }
+    message: &CarriedMessage,
+) -> Result<Option<Message>, AllocError>
+    ensures { IfOk result (λ m. m ≡ message_of (nth_node nodes.now node).state.log message.now) }
 {
-    let Ok(carried) = carried.copy(alloc) else {
+    let Ok(message) = message.copy(alloc) else {
         return Err(AllocError);
     };
     let entries = match nodes.get(node.get() as usize) {
         Some(node) => node.group().entries(),
         None => &[],
     };
-    match event_of(alloc, entries, carried) {
-        Ok(event) => Ok(event),
+    match message_of(alloc, entries, message) {
+        Ok(message) => Ok(message),
         Err(_) => Err(AllocError),
     }
 }
@@ -112,12 +91,12 @@ fn delivery_of<C: Classes>(
 {
     match kept.receiver {
         Party::Node(node) => {
-            let coming = coming_to(alloc, nodes, node, &kept.carried)?;
+            let coming = coming_to(alloc, nodes, node, &kept.message)?;
             Ok(Delivery::ToNode(node, coming))
         }
         Party::Monitor => Ok(Delivery::ToMonitor(
-            sender_of(&kept.carried),
-            asked_of(&kept.carried),
+            kept.message.sender,
+            asked_of(&kept.message.kind),
         )),
         Party::Client(_) => Ok(Delivery::ToClient),
     }
@@ -155,7 +134,7 @@ impl<C: Classes> Parts<C> {
         ensures { IfOk result (λ t. record { parts = self.new; taken = t } ≡ delivered table.now self.old delivery) }
     {
         match delivery {
-            Delivery::ToNode(node, coming) => self.at_node(table, node, coming),
+            Delivery::ToNode(node, coming) => self.at_node(table, node, coming.map(Event::Message)),
             Delivery::ToMonitor(asker, interval) => self.at_monitor(asker, interval),
             Delivery::ToClient => Ok(Taken::Sent(0)),
         }

@@ -4,7 +4,6 @@ ghost use Rattle.sim_world.specs.inner.Parts.{committed_of, kept};
 
 use crate::kept::KeptMessage;
 use crate::sent::Sent;
-use carried::pack;
 use group_world::{Messages, Packet, Party};
 use peering::GroupNode;
 use pg_log::Classes;
@@ -44,8 +43,7 @@ pub(crate) fn keep<C: Classes>(nodes: &[GroupNode<C>], packet: Packet) -> KeptMe
 {
     let committed = sender_has(nodes, &packet);
     let reported = receiver_has(nodes, &packet);
-    let (receiver, carried) = pack(committed, reported, packet);
-    KeptMessage { receiver, carried }
+    KeptMessage::new(committed, reported, packet)
 }
 
 /// Keeps messages after those that were sent before.

@@ -273,7 +273,7 @@ impl<C: Classes> Parts<C> {
         let Ok(again) = self.nodes[node.get() as usize].resend() else {
             return Err(AllocError);
         };
-        numbers_of(self.alloc, &self.sent, again.items()).map(Taken::Again)
+        numbers_of(self.alloc, &self.sent, again.into_items()).map(Taken::Again)
     }
 
     /// A node says what it would send again.

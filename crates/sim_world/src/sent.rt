@@ -1,12 +1,11 @@
 //! The messages that were sent.
 ghost use Rattle.std.specs.Prelude.{◌≡◌, ◌≤◌, ◌<◌, ◌++◌, ◌∷◌, [], length, suc, IfOk, OnOk, OnErr, slice_index_or, slice_set};
 ghost use Rattle.sim_text.specs.Lines.{numbered};
-ghost use Rattle.sim_world.specs.inner.Buckets.{AreInBuckets, bucket, bucket_in, bucket_of, first_equal, is_equal_to, kept_number};
+ghost use Rattle.sim_world.specs.inner.Buckets.{AreInBuckets, bucket, first_equal, is_equal_to, kept_number};
 
 use crate::kept::KeptMessage;
-use crate::same::is_kept_as;
-use carried::Carried;
-use group_world::{Event, MessageKind, Packet};
+use crate::same::is_same_kept;
+use carried::CarriedKind;
 use sim_text::{Numbers, numbered};
 use std::alloc::{AllocError, Global};
 use std::marker::Model;
@@ -18,42 +17,21 @@ const SPREAD: usize = 1024;
 const BUCKETS: usize = 1025;
 
 /// The bucket of a message.
-fn bucket(kind: &MessageKind) -> usize
+#[rattlefmt::skip]
+fn bucket(kind: &CarriedKind) -> usize
     ensures value { result ≡ bucket kind.now }
     ensures below { result ≤ SPREAD }
 {
     match kind {
-        MessageKind::Query(map) => map.interval().get() as usize % SPREAD,
-        MessageKind::Install(map, _) => map.interval().get() as usize % SPREAD,
-        MessageKind::AskActivate(interval) => interval.get() as usize % SPREAD,
-        MessageKind::Rep(_, place, _) => *place % SPREAD,
-        MessageKind::Log(_, _) => SPREAD,
-        MessageKind::Installed(_) => SPREAD,
-        MessageKind::Activated(_) => SPREAD,
-        MessageKind::Ack(_, _) => SPREAD,
-        MessageKind::Reply(_, _, _, _) => SPREAD,
-    }
-}
-
-fn bucket_in(event: &Event) -> usize
-    ensures value { result ≡ bucket_in event.now }
-    ensures below { result ≤ SPREAD }
-{
-    match event {
-        Event::Request(_) => SPREAD,
-        Event::Map(_) => SPREAD,
-        Event::Message(message) => bucket(&message.kind),
-    }
-}
-
-fn bucket_of(carried: &Carried) -> usize
-    ensures value { result ≡ bucket_of carried.now }
-    ensures below { result ≤ SPREAD }
-{
-    match carried {
-        Carried::Plain(event) => bucket_in(event),
-        Carried::Query { map, .. } => map.interval().get() as usize % SPREAD,
-        Carried::Log(_) => SPREAD,
+        CarriedKind::Query(map, _)         => map.interval().get() as usize % SPREAD,
+        CarriedKind::Install(map, _)       => map.interval().get() as usize % SPREAD,
+        CarriedKind::AskActivate(interval) => interval.get() as usize % SPREAD,
+        CarriedKind::Rep(_, place, _)      => *place % SPREAD,
+        CarriedKind::Log(_, _)             => SPREAD,
+        CarriedKind::Installed(_)          => SPREAD,
+        CarriedKind::Activated(_)          => SPREAD,
+        CarriedKind::Ack(_, _)             => SPREAD,
+        CarriedKind::Reply(_, _, _, _)     => SPREAD,
     }
 }
 
@@ -104,7 +82,7 @@ fn keep_numbered(
     ensures in_buckets { AreInBuckets kept.new.items buckets.new.items }
 {
     let before = kept.len();
-    let at = bucket_of(&message.carried);
+    let at = bucket(&message.message.kind);
     kept.push(message)?;
     match put(buckets, at, last_number(kept)) {
         Ok(()) => Ok(()),
@@ -116,26 +94,26 @@ fn keep_numbered(
 }
 
 /// True if the message of a number is equal to that one.
-fn is_equal_to(packet: &Packet, kept: &[KeptMessage], number: usize) -> bool
-    ensures { result ≡ is_equal_to packet.now (numbered kept.now number) }
+fn is_equal_to(message: &KeptMessage, kept: &[KeptMessage], number: usize) -> bool
+    ensures { result ≡ is_equal_to message.now (numbered kept.now number) }
 {
     match numbered(kept, number as u64) {
-        Some(kept) => is_kept_as(packet, kept),
+        Some(kept) => is_same_kept(message, kept),
         None => false,
     }
 }
 
-/// The first of these numbers whose message is equal to that one; the one past the last where there
-/// is none.
+/// The first of these numbers whose message is equal to that one; the one past the last if there is
+/// none.
 fn first_equal(
-    packet: &Packet,
+    message: &KeptMessage,
     kept: &[KeptMessage],
     numbers: &[usize],
 ) -> Result<usize, AllocError>
-    ensures { IfOk result (λ n. n ≡ first_equal packet.now kept.now numbers.now) }
+    ensures { IfOk result (λ n. n ≡ first_equal message.now kept.now numbers.now) }
 {
     for number in numbers {
-        if is_equal_to(packet, kept, *number) {
+        if is_equal_to(message, kept, *number) {
             return Ok(*number);
         }
     }
@@ -144,15 +122,15 @@ fn first_equal(
 
 /// The lowest number of a message equal to that one.
 fn lowest_equal(
-    packet: &Packet,
+    message: &KeptMessage,
     kept: &[KeptMessage],
     buckets: &Vec<Numbers>,
 ) -> Result<usize, AllocError>
     requires { AreInBuckets kept.now buckets.now.items }
-    ensures { IfOk result (λ n. n ≡ kept_number kept.now packet.now) }
+    ensures { IfOk result (λ n. n ≡ kept_number kept.now message.now) }
 {
-    let at = bucket(&packet.message.kind);
-    first_equal(packet, kept, buckets[at].items())
+    let at = bucket(&message.message.kind);
+    first_equal(message, kept, buckets[at].items())
 }
 
 /// The messages that were sent, as they are kept, by numbers from 1. One that is equal to another
@@ -210,9 +188,9 @@ impl Sent {
     }
 
     /// The lowest number of a message equal to that one. It looks at the messages of one bucket.
-    pub(crate) fn number_of(&self, packet: &Packet) -> Result<usize, AllocError>
-        ensures { IfOk result (λ n. n ≡ kept_number self.now packet.now) }
+    pub(crate) fn number_of(&self, message: &KeptMessage) -> Result<usize, AllocError>
+        ensures { IfOk result (λ n. n ≡ kept_number self.now message.now) }
     {
-        lowest_equal(packet, &self.kept, &self.buckets)
+        lowest_equal(message, &self.kept, &self.buckets)
     }
 }

@@ -14,8 +14,8 @@ fn kept_lines(alloc: Global, number: usize, messages: &[KeptMessage]) -> Result<
 {
     let mut text = String::new(alloc);
     let mut next = number;
-    for message in messages {
-        let line = message_line(alloc, next, message.receiver, &message.carried)?;
+    for kept in messages {
+        let line = message_line(alloc, next, kept.receiver, &kept.message)?;
         text.push_str(line.as_str())?;
         next = next_number(next)?;
     }

@@ -82,7 +82,7 @@ fn first_map<R: Abort>(rt: &R, alloc: Global) -> GroupMap {
 }
 
 /// The monitor has activated epoch 1.
-pub(crate) fn activated() -> Event {
+fn activated() -> Event {
     Event::Message(Message {
         sender: Party::Monitor,
         kind: MessageKind::Activated(Epoch::new(1)),

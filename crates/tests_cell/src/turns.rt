@@ -1,11 +1,11 @@
 //! The messages and replies that a cell sends out for one operation.
 ghost use Rattle.std.specs.Prelude.{◌≡◌, []};
 
-use crate::cells::{activated, request, table};
-use carried::Carried;
+use crate::cells::{request, table};
+use carried::{Carried, CarriedKind, CarriedMessage};
 use commit_board::{Board, Writer};
 use group_cell::{BoardName, GroupCell, Outgoing, Post};
-use group_world::{Epoch, Event, GroupMap, HandleError};
+use group_world::{Epoch, GroupMap, HandleError, Party};
 use peering::GroupNode;
 use pg_log::ClassTable;
 use placement::NodeId;
@@ -47,10 +47,10 @@ fn are<N: BoardName>(items: &[Option<Outgoing<N>>], wanted: &[Out]) -> bool {
             .all(|(item, out)| out_of(item) == *out)
 }
 
-/// A turn's event, and the items that it should send.
+/// What a turn is about, and the items that it should send.
 #[derive(Drop)]
 struct Turn<'a> {
-    event: Event,
+    carried: Carried,
     wanted: &'a [Out],
 }
 
@@ -65,21 +65,29 @@ fn sends<N: BoardName>(
     requires board { board.now ≡ N.board }
     requires table { table.now ≡ N.classes }
 {
-    let Turn { event, wanted } = turn;
-    match cell.turn(alloc, board, table, Carried::Plain(event)) {
+    let Turn { carried, wanted } = turn;
+    match cell.turn(alloc, board, table, carried) {
         Ok(items) => are(&items, wanted),
         Err(_) => false,
     }
 }
 
 /// The map of epoch 1 with these acting nodes.
-fn first_map<R: Abort>(rt: &R, alloc: Global, acting: &[u64]) -> Event {
+fn first_map<R: Abort>(rt: &R, alloc: Global, acting: &[u64]) -> Carried {
     let one = Epoch::new(1);
     let mut nodes = Vec::new(alloc);
     for number in acting {
         nodes.push(NodeId::new(*number)).expect(rt, "memory");
     }
-    Event::Map(GroupMap::new(one, one, nodes, Epoch::new(0), Vec::new(alloc)))
+    Carried::Map(GroupMap::new(one, one, nodes, Epoch::new(0), Vec::new(alloc)))
+}
+
+/// The monitor has activated epoch 1.
+fn activated() -> Carried {
+    Carried::Message(CarriedMessage {
+        sender: Party::Monitor,
+        kind: CarriedKind::Activated(Epoch::new(1)),
+    })
 }
 
 /// True if a node that acts alone asks the monitor, asks again if nobody answered, and answers its
@@ -98,23 +106,23 @@ fn works_alone<N: BoardName, R: Abort>(
     let mut cell = GroupCell::new(GroupNode::<N>::new(alloc, NodeId::new(0)), writer);
     let asked = [Out::Monitor(1)];
     let map = Turn {
-        event: first_map(rt, alloc, &[0]),
+        carried: first_map(rt, alloc, &[0]),
         wanted: &asked,
     };
     let mut right = sends(alloc, board, table, &mut cell, map);
     right = right && are(&cell.resend(alloc, board).expect(rt, "memory"), &asked);
     let activation = Turn {
-        event: activated(),
+        carried: activated(),
         wanted: &[],
     };
     right = right && sends(alloc, board, table, &mut cell, activation);
     let lock = Turn {
-        event: Event::Request(request(rt, alloc, 7, 1, "lock")),
+        carried: Carried::Request(request(rt, alloc, 7, 1, "lock")),
         wanted: &[Out::Answered(7, 0)],
     };
     right = right && sends(alloc, board, table, &mut cell, lock);
     let unknown = Turn {
-        event: Event::Request(request(rt, alloc, 7, 2, "unknown")),
+        carried: Carried::Request(request(rt, alloc, 7, 2, "unknown")),
         wanted: &[Out::Refused(7, HandleError::NoMethod)],
     };
     right && sends(alloc, board, table, &mut cell, unknown)
@@ -135,12 +143,12 @@ fn leads_three<N: BoardName, R: Abort>(
 {
     let mut cell = GroupCell::new(GroupNode::<N>::new(alloc, NodeId::new(1)), writer);
     let installs = Turn {
-        event: first_map(rt, alloc, &[1, 2, 3]),
+        carried: first_map(rt, alloc, &[1, 2, 3]),
         wanted: &[Out::Node(2), Out::Node(3)],
     };
     let right = sends(alloc, board, table, &mut cell, installs);
     let early = Turn {
-        event: Event::Request(request(rt, alloc, 7, 1, "lock")),
+        carried: Carried::Request(request(rt, alloc, 7, 1, "lock")),
         wanted: &[Out::Refused(7, HandleError::Peering)],
     };
     right && sends(alloc, board, table, &mut cell, early)

@@ -2,7 +2,7 @@
 ghost use Rattle.std.specs.Prelude.{◌≡◌};
 
 use object_store::ObjectName;
-use osd::{Open, Parts, running_crosses};
+use osd::{ClusterParts, Open, running_crosses};
 use pg_log::ClassTable;
 use rados_client::{ClassId, Cluster, ClusterName, Config, Running, Session};
 use std::alloc::Global;
@@ -21,7 +21,7 @@ const IMAGE: [u8; 33] = [
 fn play<R: Threads + Wait + Sync + Drop>(
     alloc: Global,
     rt: R,
-    parts: Parts,
+    parts: ClusterParts,
     table: ClassTable,
     class: ClassId,
 ) -> Option<(usize, usize)> {
@@ -31,7 +31,7 @@ fn play<R: Threads + Wait + Sync + Drop>(
 fn play_named<N: ClusterName + Send + Sync, R: Threads + Wait + Sync + Drop>(
     alloc: Global,
     rt: R,
-    parts: Parts,
+    parts: ClusterParts,
     table: ClassTable,
     class: ClassId,
 ) -> Option<(usize, usize)>

@@ -4,7 +4,7 @@ ghost use Rattle.std.specs.Prelude.{◌≡◌};
 use crate::fates::{Passing, TestFate};
 use crate::steps::Step;
 use crate::table::Table;
-use osd::{ClusterName, Open, Parts, Running, running_crosses};
+use osd::{ClusterName, ClusterParts, Open, Running, running_crosses};
 use pg_log::ClassTable;
 use rados_client::{Cluster, Config, RunError, Scenario};
 use std::alloc::Global;
@@ -142,7 +142,7 @@ pub struct UnderFate<'a, P> {
 pub fn play<P: Part + Sync, R: Threads + Wait + Sync + Drop>(
     alloc: Global,
     rt: R,
-    parts: Parts,
+    parts: ClusterParts,
     table: ClassTable,
     played: &UnderFate<'_, P>,
 ) -> Option<bool> {
@@ -152,7 +152,7 @@ pub fn play<P: Part + Sync, R: Threads + Wait + Sync + Drop>(
 fn play_named<N: ClusterName + Send + Sync, P: Part + Sync, R: Threads + Wait + Sync + Drop>(
     alloc: Global,
     rt: R,
-    parts: Parts,
+    parts: ClusterParts,
     table: ClassTable,
     played: &UnderFate<'_, P>,
 ) -> Option<bool>

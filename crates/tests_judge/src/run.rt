@@ -8,7 +8,7 @@ use crate::shape::Shape;
 use crate::totals::Totals;
 use crate::trouble::Trouble;
 use crate::unrest::Unrest;
-use osd::{ClusterName, Parts, Running, running_crosses};
+use osd::{ClusterName, ClusterParts, Running, running_crosses};
 use pg_log::ClassTable;
 use rados_client::Cluster;
 use std::alloc::{AllocError, Global};
@@ -69,7 +69,7 @@ fn judged(
 
 fn play<R: AllocGlobal + Threads + Wait + Clock + Sync + Drop>(
     rt: R,
-    parts: Parts,
+    parts: ClusterParts,
     table: ClassTable,
     trouble: &Trouble,
     totals: &mut Totals,
@@ -80,7 +80,7 @@ fn play<R: AllocGlobal + Threads + Wait + Clock + Sync + Drop>(
 /// Names the cluster, and plays on it.
 fn play_named<N: ClusterName + Send + Sync, R: AllocGlobal + Threads + Wait + Clock + Sync + Drop>(
     rt: R,
-    parts: Parts,
+    parts: ClusterParts,
     table: ClassTable,
     trouble: &Trouble,
     totals: &mut Totals,

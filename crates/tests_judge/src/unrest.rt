@@ -4,7 +4,7 @@ use crate::history::kept_of;
 use crate::random::Random;
 use crate::trouble::Trouble;
 use map_book::MapError;
-use osd::{ClusterName, Opened, Running};
+use osd::{ClusterName, OpenedSession, Running};
 use placement::{ClusterMap, NodeId, acting};
 use std::alloc::{AllocError, Global};
 use std::sync::Wait;
@@ -106,7 +106,7 @@ impl Unrest {
     fn disturb<N: ClusterName, R: Wait>(
         &mut self,
         running: &Running<N, R>,
-        opened: &mut Opened<N>,
+        opened: &mut OpenedSession<N>,
         trouble: &Trouble,
     ) {
         let nodes = trouble.shape.config.nodes;
@@ -232,7 +232,7 @@ pub fn acting_of(alloc: Global, trouble: &Trouble, up: Vec<NodeId>, group: u64) 
 /// Waits for the last call, and nudges the groups meanwhile where callers are impatient.
 fn wait_for_callers<N: ClusterName, R: Wait + Clock>(
     running: &Running<N, R>,
-    opened: &mut Opened<N>,
+    opened: &mut OpenedSession<N>,
     trouble: &Trouble,
 ) {
     for _ in 0..NUDGES {
@@ -253,7 +253,7 @@ fn wait_for_callers<N: ClusterName, R: Wait + Clock>(
 fn settle<N: ClusterName, R: Wait + Clock>(
     alloc: Global,
     running: &Running<N, R>,
-    opened: &mut Opened<N>,
+    opened: &mut OpenedSession<N>,
     trouble: &Trouble,
 ) {
     for _ in 0..LOOKS {
@@ -284,7 +284,7 @@ fn is_settled<N: ClusterName, R: Wait>(
     true
 }
 
-fn nudge_all<N: ClusterName, R: Wait>(running: &Running<N, R>, opened: &mut Opened<N>) {
+fn nudge_all<N: ClusterName, R: Wait>(running: &Running<N, R>, opened: &mut OpenedSession<N>) {
     for group in 0..running.config().groups.min(64) as usize {
         running.nudge(&mut opened.sends, group);
     }

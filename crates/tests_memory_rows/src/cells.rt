@@ -6,7 +6,7 @@ use builtin_classes::LOCK;
 use carried::Carried;
 use commit_board::{Board, Writer};
 use group_cell::{BoardName, GroupCell, Outgoing};
-use group_world::{Epoch, Event, GroupMap};
+use group_world::{Epoch, GroupMap};
 use osd::NoMemory;
 use peering::GroupNode;
 use pg_log::ClassTable;
@@ -64,8 +64,8 @@ fn turn<N: BoardName>(
     requires board { board.now ≡ N.board }
     requires table { table.now ≡ N.classes }
 {
-    let event = Carried::Plain(Event::Map(map_of(alloc)?));
-    let sent = cell.turn(alloc, board, table, event);
+    let map = Carried::Map(map_of(alloc)?);
+    let sent = cell.turn(alloc, board, table, map);
     Some(end_of(cell.node(), &sent))
 }
 

@@ -8,7 +8,7 @@ use crate::steps::Step;
 use crate::table::Table;
 use builtin_classes::load_lock;
 use interp::ClassTable;
-use osd::{ClusterName, Config, Parts, Running, Scenario, play, running_crosses};
+use osd::{ClusterName, ClusterParts, Config, Running, Scenario, play, running_crosses};
 use std::alloc::Global;
 use std::marker::Brand;
 use std::process::Abort;
@@ -72,14 +72,14 @@ fn are_done<N: ClusterName, R: Wait>(
 }
 
 /// The parts of a new cluster, and a table that has the class `lock`.
-fn made(alloc: Global, config: Config) -> Option<(Parts, ClassTable)> {
+fn made(alloc: Global, config: Config) -> Option<(ClusterParts, ClassTable)> {
     if !config.is_within_limits() {
         return None;
     }
     let mut table = ClassTable::new(alloc);
     let class = load_lock(alloc).ok()?;
     table.add(class).ok()?;
-    let parts = Parts::new(alloc, config).ok()?;
+    let parts = ClusterParts::new(alloc, config).ok()?;
     Some((parts, table))
 }
 
@@ -158,7 +158,7 @@ struct Test<'a> {
 /// None if memory for the cluster's nodes is refused.
 fn play_served<N: ClusterName + Send + Sync, R: Threads + Wait + Sync + Drop>(
     rt: R,
-    parts: Parts,
+    parts: ClusterParts,
     table: ClassTable,
     test: &Test<'_>,
 ) -> Option<bool>

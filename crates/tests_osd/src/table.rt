@@ -7,7 +7,7 @@ use crate::requests::{Asked, is_mail, look, request};
 use crate::served::Server;
 use crate::steps::{Mail, Step};
 use object_store::ObjectName;
-use osd::{AskError, ClusterName, Opened, Running};
+use osd::{AskError, ClusterName, OpenedSession, Running};
 use pg_log::Request;
 use placement::NodeId;
 use std::alloc::Global;
@@ -30,7 +30,7 @@ pub struct Table<'a, N: ClusterName, R> {
     alloc: Global,
     running: &'a Running<N, R>,
     server: &'a Server,
-    sessions: Vec<Opened<N>>,
+    sessions: Vec<OpenedSession<N>>,
     object: &'static str,
     /// The number of the fence's newest request.
     fence: u32,

@@ -2,7 +2,7 @@
 
 use group_cell::{Post, Reply};
 use object_store::ObjectName;
-use osd::{ClusterName, Config, Opened, Running};
+use osd::{ClusterName, Config, OpenedSession, Running};
 use pg_log::{ClientId, Request, RequestNumber, RequestParts};
 use std::alloc::Global;
 use std::sync::Wait;
@@ -77,7 +77,7 @@ pub fn comes(flag: &AtomicBool) -> bool {
 /// refused.
 pub fn reply_to<N: ClusterName, R: Wait>(
     running: &Running<N, R>,
-    opened: &Opened<N>,
+    opened: &OpenedSession<N>,
     request: &Request,
 ) -> Option<Option<(usize, i64)>> {
     for _ in 0..TURNS {
@@ -108,7 +108,7 @@ fn place_and_code<N: ClusterName>(reply: &Reply<N>) -> (usize, i64) {
 /// is under way afterwards.
 pub fn answer<N: ClusterName, R: Wait>(
     running: &Running<N, R>,
-    opened: &mut Opened<N>,
+    opened: &mut OpenedSession<N>,
     request: &Request,
 ) -> Option<(usize, i64)> {
     for _ in 0..TURNS {

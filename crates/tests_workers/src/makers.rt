@@ -2,7 +2,7 @@
 
 use crate::asking::{TURNS, lock, reply_to};
 use crate::play::{Play, ends, played, serves};
-use osd::{ClusterName, Config, Open, Opened, Running};
+use osd::{ClusterName, Config, Open, OpenedSession, Running};
 use placement::NodeId;
 use std::alloc::Global;
 use std::sync::Wait;
@@ -55,7 +55,7 @@ impl Makers {
     fn is_answered<N: ClusterName, R: Wait>(
         &self,
         running: &Running<N, R>,
-        opened: &mut Opened<N>,
+        opened: &mut OpenedSession<N>,
         number: u32,
     ) -> bool {
         let Some(request) = lock(self.alloc, opened.client, number, "a") else {

@@ -2,7 +2,7 @@
 
 use crate::asking::{TURNS, answer, comes, config, lock, name_in, pause, reply_to};
 use crate::play::{Play, ends, played, serves};
-use osd::{ClusterName, DeliveryMode, Fate, Gate, Open, Opened, Running};
+use osd::{ClusterName, DeliveryMode, Fate, Gate, Open, OpenedSession, Running};
 use pg_log::Request;
 use placement::NodeId;
 use std::alloc::Global;
@@ -81,7 +81,7 @@ impl Fate for Hold {
 /// A client, and two requests of an object.
 #[derive(Drop)]
 struct Client<N: ClusterName> {
-    opened: Opened<N>,
+    opened: OpenedSession<N>,
     first: Request,
     second: Request,
 }

@@ -3,7 +3,7 @@ ghost use Rattle.std.specs.Prelude.{◌≡◌};
 
 use builtin_classes::load_lock;
 use interp::ClassTable;
-use osd::{ClusterName, Config, Gate, Parts, Running, running_crosses};
+use osd::{ClusterName, ClusterParts, Config, Gate, Running, running_crosses};
 use std::alloc::Global;
 use std::marker::Brand;
 use std::sync::Wait;
@@ -38,14 +38,14 @@ pub fn ends<N: ClusterName, R: Wait>(running: &Running<N, R>, done: bool) -> boo
 }
 
 /// The parts of a new cluster, and a table that has the class `lock`.
-fn made(alloc: Global, config: Config) -> Option<(Parts, ClassTable)> {
+fn made(alloc: Global, config: Config) -> Option<(ClusterParts, ClassTable)> {
     let mut table = ClassTable::new(alloc);
     let class = load_lock(alloc).ok()?;
     table.add(class).ok()?;
     if !config.is_within_limits() {
         return None;
     }
-    let parts = Parts::new(alloc, config).ok()?;
+    let parts = ClusterParts::new(alloc, config).ok()?;
     Some((parts, table))
 }
 
@@ -63,7 +63,7 @@ pub fn played<P: Play + Sync, R: Threads + Wait + Sync + Drop>(
 fn played_on<N: ClusterName + Send + Sync, P: Play + Sync, R: Threads + Wait + Sync + Drop>(
     rt: R,
     alloc: Global,
-    parts: Parts,
+    parts: ClusterParts,
     table: ClassTable,
     play: &P,
 ) -> Option<bool>

@@ -3,7 +3,7 @@
 
 use crate::asking::{answer, config, lock};
 use crate::play::{Play, ends, played, serves};
-use osd::{ClusterName, Open, Opened, Running};
+use osd::{ClusterName, Open, OpenedSession, Running};
 use std::alloc::{AllocGlobal, Global};
 use std::fs::{DirEntry, read_dir, read_to_string};
 use std::io;
@@ -60,7 +60,7 @@ impl<H: Files + AllocGlobal + Clone + Drop> Asleep<H> {
     fn sleep_after<N: ClusterName, R: Wait>(
         &self,
         running: &Running<N, R>,
-        opened: &mut Opened<N>,
+        opened: &mut OpenedSession<N>,
         number: u32,
     ) -> bool {
         match lock(self.host.alloc(), opened.client, number, "a") {

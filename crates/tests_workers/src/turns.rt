@@ -2,7 +2,7 @@
 
 use crate::asking::{TURNS, comes, config, lock, name_in};
 use crate::play::{Play, ends, played, serves};
-use osd::{ClusterName, Gate, Opened, Running};
+use osd::{ClusterName, Gate, OpenedSession, Running};
 use std::alloc::Global;
 use std::sync::Wait;
 use std::sync::atomic::{AtomicBool, AtomicU64, Ordering};
@@ -45,7 +45,7 @@ impl Rotation {
     fn is_queued<N: ClusterName, R: Wait>(
         &self,
         running: &Running<N, R>,
-        opened: &mut Opened<N>,
+        opened: &mut OpenedSession<N>,
         number: u32,
     ) -> bool {
         let Some(name) = name_in(running, self.alloc, number as usize % 4) else {

@@ -2,7 +2,7 @@
 
 use crate::asking::{answer, comes, config, lock, pause, reply_to};
 use crate::play::{Play, ends, played, serves};
-use osd::{ClusterName, Open, Opened, Running};
+use osd::{ClusterName, Open, OpenedSession, Running};
 use std::alloc::Global;
 use std::sync::Wait;
 use std::sync::atomic::{AtomicBool, Ordering};
@@ -24,7 +24,7 @@ impl Woken {
     fn is_served<N: ClusterName, R: Wait>(
         &self,
         running: &Running<N, R>,
-        opened: &mut Opened<N>,
+        opened: &mut OpenedSession<N>,
         number: u32,
     ) -> bool {
         let Some(request) = lock(self.alloc, opened.client, number, "a") else {

@@ -7,7 +7,7 @@ use crate::failover::memory::Resident;
 use crate::failover::row::{Change, Row};
 use crate::failover::taken::Taken;
 use anyhow::{Error, Result};
-use osd::{ClusterName, Open, Parts, Running, running_crosses};
+use osd::{ClusterName, ClusterParts, Open, Running, running_crosses};
 use pg_log::ClassTable;
 use placement::{ClusterMap, NodeId, acting};
 use rados_client::{Cluster, Session};
@@ -44,7 +44,7 @@ pub fn run<R: Threads + Wait + Clock + Files + Sync + Drop>(
 fn play<R: Threads + Wait + Clock + Files + Sync + Drop>(
     alloc: Global,
     rt: R,
-    parts: Parts,
+    parts: ClusterParts,
     table: ClassTable,
     row: Row,
 ) -> Option<Taken> {
@@ -55,7 +55,7 @@ fn play<R: Threads + Wait + Clock + Files + Sync + Drop>(
 fn play_named<N: ClusterName + Send + Sync, R: Threads + Wait + Clock + Files + Sync + Drop>(
     alloc: Global,
     rt: R,
-    parts: Parts,
+    parts: ClusterParts,
     table: ClassTable,
     row: Row,
 ) -> Option<Taken>

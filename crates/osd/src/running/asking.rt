@@ -1,7 +1,6 @@
 ghost use Rattle.std.specs.Prelude.{◌≡◌, OnOk, OnErr};
 ghost use Rattle.op_shards.specs.Passes.{Grew, WasSent};
-ghost use Rattle.group_world.specs.declared.event.Event.TheVariants.{Request as ARequest};
-ghost use Rattle.carried.specs.declared.operation.Carried.TheVariants.{Plain};
+ghost use Rattle.carried.specs.declared.operation.Carried.TheVariants.{Request as ARequest};
 ghost use Rattle.placement.specs.Placement.{group_of};
 ghost use Rattle.osd.specs.Sent.{OnlySent, IsThat};
 
@@ -13,7 +12,6 @@ use crate::queued::Queued;
 use crate::running::Running;
 use crate::sends::Sends;
 use carried::{Carried, Operation};
-use group_world::Event;
 use pg_log::Request;
 use std::sync::Wait;
 
@@ -23,8 +21,8 @@ impl<N: ClusterName, R: Wait> Running<N, R> {
     /// submitted.
     pub fn ask(&self, sends: &mut Sends<N>, request: &Request) -> Result<(), AskError>
         ensures grew { Grew sends.old sends.new }
-        ensures sent { OnOk result (WasSent sends.old sends.new (λ op. op.carried ≡ Plain (ARequest request.now))) }
-        ensures placed { OnOk result (WasSent sends.old sends.new (λ op. (op.group ≡ group_of request.now.object N.config.groups) × (op.carried ≡ Plain (ARequest request.now)))) }
+        ensures sent { OnOk result (WasSent sends.old sends.new (λ op. op.carried ≡ ARequest request.now)) }
+        ensures placed { OnOk result (WasSent sends.old sends.new (λ op. (op.group ≡ group_of request.now.object N.config.groups) × (op.carried ≡ ARequest request.now))) }
         ensures kept { OnErr result (sends.new ≡ sends.old) }
     {
         let group = self.group_of(request.object());
@@ -35,14 +33,13 @@ impl<N: ClusterName, R: Wait> Running<N, R> {
             return Err(AskError::NoMemory);
         };
         let node = self.newest.lock(&self.rt).primary(group);
-        let carried = Carried::Plain(Event::Request(copy));
         self.submit(
             sends,
             Cause::Event,
             Operation {
                 group,
                 node,
-                carried,
+                carried: Carried::Request(copy),
             },
         )
     }

@@ -1,32 +1,32 @@
 ghost use Rattle.std.specs.Prelude.{◌<◌};
-ghost use Rattle.osd.specs.Sent.{OnlySent, IsOf, IsInternalTo};
+ghost use Rattle.osd.specs.Sent.{OnlySent, IsInternalTo};
 
 use crate::delivery::{Delivery, Origin};
 use crate::name::ClusterName;
 use crate::running::Running;
 use crate::sends::Sends;
-use carried::{Carried, Operation};
+use carried::{Carried, CarriedKind, CarriedMessage, Operation};
 use group_cell::{Outgoing, Post};
-use group_world::{Epoch, Event, Message, MessageKind, Party};
+use group_world::{Epoch, Party};
 use pg_log::ClientId;
 use std::sync::Wait;
 
 impl<N: ClusterName, R: Wait> Running<N, R> {
-    /// Brings what a node sends to whom it is for. It is lost where a queue is full, or memory is
+    /// Brings what a node sends to its receiver. It is lost if a queue is full, or if memory is
     /// refused.
     pub(crate) fn deliver(&self, sends: &mut Sends<N>, delivery: Delivery<N>)
-        ensures { OnlySent sends.old sends.new (IsOf delivery.origin.group delivery.outgoing) }
+        ensures { OnlySent sends.old sends.new (IsInternalTo delivery.origin.group) }
     {
         let Delivery { origin, outgoing } = delivery;
         match outgoing {
-            Outgoing::ToNode(node, carried) => {
+            Outgoing::ToNode(node, message) => {
                 let _ = self.submit(
                     sends,
                     origin.cause,
                     Operation {
                         group: origin.group,
                         node,
-                        carried,
+                        carried: Carried::Message(message),
                     },
                 );
             }
@@ -45,17 +45,17 @@ impl<N: ClusterName, R: Wait> Running<N, R> {
         if group >= self.config.groups as usize || !self.activates(group, interval) {
             return;
         }
-        let carried = Carried::Plain(Event::Message(Message {
+        let message = CarriedMessage {
             sender: Party::Monitor,
-            kind: MessageKind::Activated(interval),
-        }));
+            kind: CarriedKind::Activated(interval),
+        };
         let _ = self.submit(
             sends,
             origin.cause,
             Operation {
                 group,
                 node: origin.sender,
-                carried,
+                carried: Carried::Message(message),
             },
         );
     }

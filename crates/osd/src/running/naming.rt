@@ -11,7 +11,7 @@ use crate::name::ClusterName;
 use crate::newest::Newest;
 use crate::node::Node;
 use crate::nudges::Nudges;
-use crate::parts::{AllQueues, Maps, Parts, Rows};
+use crate::parts::{AllQueues, ClusterParts, Maps, Rows};
 use crate::queued::Queued;
 use crate::running::Running;
 use crate::schedule::Schedule;
@@ -36,7 +36,7 @@ impl<N: ClusterName, R: Wait + Drop> Running<N, R> {
     pub fn named(
         alloc: Global,
         rt: R,
-        parts: Parts,
+        parts: ClusterParts,
         table: ClassTable,
     ) -> Result<Running<N, R>, NoMemory>
         requires board { parts.board ≡ N.board }

@@ -1,6 +1,6 @@
-ghost use Rattle.std.specs.Prelude.{◌≡◌, ◌<◌, All};
+ghost use Rattle.std.specs.Prelude.{◌≡◌, ◌<◌};
 ghost use Rattle.op_shards.specs.Passes.{Grew};
-ghost use Rattle.osd.specs.Sent.{OnlySent, IsInternalTo, IsOfNodeOrLost};
+ghost use Rattle.osd.specs.Sent.{OnlySent, IsInternalTo};
 
 use crate::cause::Cause;
 use crate::delivery::{Delivery, Origin};
@@ -9,7 +9,6 @@ use crate::running::Running;
 use crate::sends::Sends;
 use carried::{Carried, Operation};
 use group_cell::Outgoing;
-use group_world::Event;
 use placement::{NodeId, REPLICA_LIMIT};
 use std::sync::Wait;
 
@@ -84,14 +83,13 @@ impl<N: ClusterName, R: Wait> Running<N, R> {
         let Ok(map) = self.newest.lock(&self.rt).map(self.alloc, group) else {
             return;
         };
-        let carried = Carried::Plain(Event::Map(map));
         let _ = self.submit(
             sends,
             cause,
             Operation {
                 group,
                 node,
-                carried,
+                carried: Carried::Map(map),
             },
         );
     }
@@ -119,9 +117,7 @@ impl<N: ClusterName, R: Wait> Running<N, R> {
 
     /// The messages that a node sent and whose answers it still waits for, if it isn't stopped. A
     /// message is lost if memory is refused.
-    fn unanswered(&self, group: usize, node: NodeId) -> Vec<Option<Outgoing<N>>>
-        ensures { All IsOfNodeOrLost result.items }
-    {
+    fn unanswered(&self, group: usize, node: NodeId) -> Vec<Option<Outgoing<N>>> {
         let nothing = Vec::new(self.alloc);
         let Some(mut cell) = self.awake(node, group) else {
             return nothing;
@@ -152,7 +148,6 @@ impl<N: ClusterName, R: Wait> Running<N, R> {
         sender: NodeId,
         outgoing: Option<Outgoing<N>>,
     )
-        requires { IsOfNodeOrLost outgoing }
         ensures { OnlySent sends.old sends.new (IsInternalTo group) }
     {
         let Some(outgoing) = outgoing else {

@@ -13,7 +13,6 @@ use crate::sends::Sends;
 use crate::worker::Worker;
 use carried::{Carried, Operation};
 use group_cell::Outgoing;
-use group_world::Event;
 use placement::NodeId;
 use std::hint::spin_loop;
 use std::sync::Wait;
@@ -29,13 +28,10 @@ fn gate_number(carried: &Carried) -> u64
     ensures { result ≡ gate_number carried.now }
 {
     match carried {
-        Carried::Plain(Event::Request(request)) => {
+        Carried::Request(request) => {
             (u64::from(request.client().get()) << 32) + u64::from(request.number().get())
         }
-        Carried::Plain(Event::Map(_))
-        | Carried::Plain(Event::Message(_))
-        | Carried::Query { .. }
-        | Carried::Log(_) => 0,
+        Carried::Map(_) | Carried::Message(_) => 0,
     }
 }
 

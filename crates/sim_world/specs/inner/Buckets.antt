@@ -1,64 +1,71 @@
--- The code's own; no promise of the crate rests on it.
--- Where a message that is sent again is looked for: the numbers of all messages lie in buckets,
--- equal messages' in one.
+-- Where a message that is sent again is looked for: the numbers of all messages lie in buckets, and
+-- equal messages have one bucket. No promise of the crate rests on it.
 use Rattle.std.specs.Prelude.{◌≡◌, ◌&&◌, ℕ, suc, ◌<◌, ◌%◌, ◌==◌, Bool, false, List, [], ◌∷◌, length, Option, Some, None, if◌then◌else◌, slice_index_or}
-use Rattle.group_world.specs.declared.event.Event.{Event}
-use Rattle.group_world.specs.declared.event.Event.TheVariants.{Request as ARequest, Map as AMap, Message as AMessage}
-use Rattle.group_world.specs.declared.message.MessageKind.{MessageKind}
-use Rattle.group_world.specs.declared.message.MessageKind.TheVariants.{Query, Install, AskActivate, Rep}
+use Rattle.pg_log.specs.Requests.{ClientRequest}
+use Rattle.group_world.specs.Maps.{GroupMap}
+use Rattle.group_world.specs.Rules.{is_same_request}
 use Rattle.group_world.specs.declared.message.Packet.{Packet}
-use Rattle.carried.specs.declared.operation.Carried.{Carried}
-use Rattle.carried.specs.declared.operation.Carried.TheVariants as carried
-use Rattle.sim_text.specs.Kept.{sender_of}
+use Rattle.carried.specs.declared.message.CarriedKind.{CarriedKind}
+use Rattle.carried.specs.declared.message.CarriedKind.TheVariants.{Query, Install, AskActivate, Rep}
 use Rattle.sim_text.specs.Lines.{numbered}
-use Rattle.sim_world.specs.Same.{is_same_kind, is_same_party}
+use Rattle.sim_world.specs.Keeping.{kept_as}
+use Rattle.sim_world.specs.Same.{is_same_map, are_same_requests, is_same_party}
 use Rattle.sim_world.specs.declared.kept.KeptMessage.{KeptMessage}
 
--- a message is equal to one by what is kept of that; a list is never sent again
-abbrev pub is_same_event : MessageKind → Event → Bool
-is_same_event kind (ARequest r) = false
-is_same_event kind (AMap m) = false
-is_same_event kind (AMessage m) = is_same_kind kind m.kind
+-- equal messages, as they are kept; a Query's number isn't compared
+abbrev pub is_query : CarriedKind → GroupMap → Bool
+is_query (Query n reported) m = is_same_map m n
+is_query _ m = false
 
-abbrev pub is_same_carried : MessageKind → Carried → Bool
-is_same_carried kind (carried.Plain event) = is_same_event kind event
-is_same_carried kind (carried.Query sender map reported) = is_same_kind kind (Query map)
-is_same_carried kind (carried.Log short) = false
+abbrev pub is_install : CarriedKind → GroupMap → List ClientRequest → Bool
+is_install (Install n ys) m xs = is_same_map m n && are_same_requests xs ys
+is_install _ m xs = false
 
-abbrev pub is_kept_as : Packet → KeptMessage → Bool
-is_kept_as p k = is_same_party p.receiver k.receiver && (is_same_party p.message.sender (sender_of k.carried) && is_same_carried p.message.kind k.carried)
+abbrev pub is_ask : CarriedKind → ℕ → Bool
+is_ask (AskActivate other) interval = interval == other
+is_ask _ interval = false
 
--- from a number on; the one past the last where there is none
-abbrev pub kept_number_from : ℕ → Packet → List KeptMessage → ℕ
-kept_number_from number p [] = number
-kept_number_from number p (k ∷ ks) = if is_kept_as p k then number else kept_number_from (suc number) p ks
+abbrev pub is_rep : CarriedKind → ℕ → ℕ → ClientRequest → Bool
+is_rep (Rep other at q) interval place r = (interval == other) && ((place == at) && is_same_request r q)
+is_rep _ interval place r = false
 
-abbrev pub kept_number : List KeptMessage → Packet → ℕ
-kept_number sent p = kept_number_from 1 p sent
+abbrev pub is_same_carried : CarriedKind → CarriedKind → Bool
+is_same_carried (Query m reported) other = is_query other m
+is_same_carried (Install m list) other = is_install other m list
+is_same_carried (AskActivate interval) other = is_ask other interval
+is_same_carried (Rep interval place r) other = is_rep other interval place r
+is_same_carried _ other = false
+
+abbrev pub is_same_kept : KeptMessage → KeptMessage → Bool
+is_same_kept j k = is_same_party j.receiver k.receiver && (is_same_party j.message.sender k.message.sender && is_same_carried j.message.kind k.message.kind)
+
+-- the lowest number of an equal message, from a number on; the one past the last if there is none
+abbrev pub kept_number_from : ℕ → KeptMessage → List KeptMessage → ℕ
+kept_number_from number j [] = number
+kept_number_from number j (k ∷ ks) = if is_same_kept j k then number else kept_number_from (suc number) j ks
+
+abbrev pub kept_number : List KeptMessage → KeptMessage → ℕ
+kept_number sent j = kept_number_from 1 j sent
+
+abbrev pub again_number : List KeptMessage → Packet → ℕ
+again_number sent p = kept_number sent (kept_as 0 0 p)
 
 -- the bucket of a message: by its interval or, of a request, by its place; the last is for those
 -- that are never sent again
-abbrev pub bucket : MessageKind → ℕ
-bucket (Query m) = m.interval % 1024
+abbrev pub bucket : CarriedKind → ℕ
+bucket (Query m reported) = m.interval % 1024
 bucket (Install m list) = m.interval % 1024
 bucket (AskActivate interval) = interval % 1024
 bucket (Rep interval place r) = place % 1024
 bucket _ = 1024
 
-abbrev pub bucket_in : Event → ℕ
-bucket_in (ARequest r) = 1024
-bucket_in (AMap m) = 1024
-bucket_in (AMessage m) = bucket m.kind
+abbrev pub bucket_of : KeptMessage → ℕ
+bucket_of k = bucket k.message.kind
 
-abbrev pub bucket_of : Carried → ℕ
-bucket_of (carried.Plain event) = bucket_in event
-bucket_of (carried.Query sender map reported) = bucket (Query map)
-bucket_of (carried.Log short) = 1024
-
--- the numbers of the messages of a bucket, of which the first has that number
+-- the numbers of the messages of a bucket; the first message has that number
 abbrev pub numbers_in : ℕ → ℕ → List KeptMessage → List ℕ
 numbers_in at number [] = []
-numbers_in at number (k ∷ ks) = if bucket_of k.carried == at then number ∷ numbers_in at (suc number) ks else numbers_in at (suc number) ks
+numbers_in at number (k ∷ ks) = if bucket_of k == at then number ∷ numbers_in at (suc number) ks else numbers_in at (suc number) ks
 
 -- each bucket has the numbers of its messages
 pub record AreInBuckets (sent : List KeptMessage) (buckets : List (List ℕ)) : Type 0 where
@@ -66,11 +73,11 @@ pub record AreInBuckets (sent : List KeptMessage) (buckets : List (List ℕ)) : 
   pub each : (at : ℕ) → at < 1025 → slice_index_or buckets at [] ≡ numbers_in at 1 sent
 
 -- the message of a number is equal to that one
-abbrev pub is_equal_to : Packet → Option KeptMessage → Bool
-is_equal_to p None = false
-is_equal_to p (Some k) = is_kept_as p k
+abbrev pub is_equal_to : KeptMessage → Option KeptMessage → Bool
+is_equal_to j None = false
+is_equal_to j (Some k) = is_same_kept j k
 
--- the first of these numbers whose message is equal; the one past the last where there is none
-abbrev pub first_equal : Packet → List KeptMessage → List ℕ → ℕ
-first_equal p sent [] = suc (length sent)
-first_equal p sent (number ∷ numbers) = if is_equal_to p (numbered sent number) then number else first_equal p sent numbers
+-- the first of these numbers whose message is equal; the one past the last if there is none
+abbrev pub first_equal : KeptMessage → List KeptMessage → List ℕ → ℕ
+first_equal j sent [] = suc (length sent)
+first_equal j sent (number ∷ numbers) = if is_equal_to j (numbered sent number) then number else first_equal j sent numbers

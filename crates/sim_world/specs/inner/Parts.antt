@@ -1,10 +1,12 @@
--- The parts of a played world, and what a line makes of them. Nothing here need be believed: by
--- `Holds`, it is what a line makes of the group's world.
+-- The parts of a played world, and what a line does to them. Nothing here need be believed: it is
+-- proved to be what a line does in the group's world (`Holds`).
 use Rattle.std.specs.Prelude.{◌≡◌, Result, Ok, Err, ℕ, zero, suc, ◌-◌, nat_lt, Bool, List, [], ◌∷◌, ◌++◌, length, drop, map, Option, Some, None, if◌then◌else◌, slice_get, slice_set, slice_index_or, replicate, true, false, codes}
 use Rattle.pg_log.specs.Log.{Classes}
-use Rattle.carried.specs.Carried.{carried_as, unpacked_as}
-use Rattle.carried.specs.declared.operation.Carried.{Carried}
-use Rattle.carried.specs.declared.operation.Carried.TheVariants as carried
+use Rattle.std.specs.Option.{option_map}
+use Rattle.carried.specs.Carried.{message_of}
+use Rattle.carried.specs.declared.message.CarriedKind.{CarriedKind}
+use Rattle.carried.specs.declared.message.CarriedKind.TheVariants.{AskActivate}
+use Rattle.carried.specs.declared.message.CarriedMessage.{CarriedMessage}
 use Rattle.group_world.specs.Maps.{GroupMap}
 use Rattle.group_world.specs.Node.{Outcome, fresh}
 use Rattle.group_world.specs.Rules.{local_step}
@@ -15,13 +17,11 @@ use Rattle.group_world.specs.declared.monitor_error.MonitorError.{MonitorError}
 use Rattle.group_world.specs.declared.handle_error.HandleError.{HandleError}
 use Rattle.group_world.specs.declared.party.Party.{Party}
 use Rattle.group_world.specs.declared.party.Party.TheVariants.{Node as ANode, Monitor as TheMonitor, Client as AClient}
-use Rattle.group_world.specs.declared.message.MessageKind.{MessageKind}
-use Rattle.group_world.specs.declared.message.MessageKind.TheVariants.{AskActivate}
 use Rattle.group_world.specs.declared.message.Packet.{Packet}
 use Rattle.group_world.specs.declared.event.Event.{Event}
 use Rattle.group_world.specs.declared.event.Event.TheVariants.{Request as ARequest, Map as AMap, Message as AMessage}
 use Rattle.peering.specs.Numbered.{NumberedNode, IsDone}
-use Rattle.sim_text.specs.Kept.{kept_line, sender_of}
+use Rattle.sim_text.specs.Kept.{kept_line}
 use Rattle.sim_text.specs.Lines.{numbered}
 use Rattle.sim_text.specs.Texts.{again_text, made_of, said_text, shown_of}
 use Rattle.sim_text.specs.declared.line.Line.{Line}
@@ -31,7 +31,8 @@ use Rattle.sim_text.specs.declared.taken.Taken.TheVariants.{Bad, Skipped, Stoppe
 use Rattle.sim_world.specs.declared.deliver.Delivery.{Delivery}
 use Rattle.sim_world.specs.declared.deliver.Delivery.TheVariants.{ToNode, ToMonitor, ToClient}
 use Rattle.sim_world.specs.declared.kept.KeptMessage.{KeptMessage}
-use Rattle.sim_world.specs.inner.Buckets.{kept_number}
+use Rattle.sim_world.specs.Keeping.{kept_as}
+use Rattle.sim_world.specs.inner.Buckets.{again_number}
 
 pub record Parts : Type 0 where
   pub maps : List GroupMap
@@ -40,7 +41,7 @@ pub record Parts : Type 0 where
   pub stopped : List Bool
   pub sent : List KeptMessage
 
--- the nodes of the numbers below one, which have learned nothing
+-- the nodes of the numbers below one; they have learned nothing
 abbrev pub fresh_nodes : ℕ → List NumberedNode
 fresh_nodes zero = []
 fresh_nodes (suc k) = fresh_nodes k ++ record { number = k; state = fresh } ∷ []
@@ -48,7 +49,7 @@ fresh_nodes (suc k) = fresh_nodes k ++ record { number = k; state = fresh } ∷ 
 abbrev pub first_parts : Parts
 first_parts = record { maps = []; monitor = no_maps; nodes = fresh_nodes 16; stopped = replicate 16 false; sent = [] }
 
--- the parts after a line, and what came of it
+-- the parts after a line, and its result
 pub record Turn : Type 0 where
   pub parts : Parts
   pub taken : Taken
@@ -67,7 +68,7 @@ committed_of nodes TheMonitor = 0
 committed_of nodes (AClient client) = 0
 
 abbrev pub kept : List NumberedNode → Packet → KeptMessage
-kept nodes p = record { receiver = p.receiver; carried = carried_as (committed_of nodes p.message.sender) (committed_of nodes p.receiver) p.message.sender p.message.kind }
+kept nodes p = kept_as (committed_of nodes p.message.sender) (committed_of nodes p.receiver) p
 
 -- THE NODES, by their numbers
 abbrev pub has_node : Parts → ℕ → Bool
@@ -98,7 +99,7 @@ handled classes w n event = with_outcome w n (local_outcome classes w n event) (
 abbrev pub unless_held : Parts → ℕ → Turn → Turn
 unless_held w n turn = if has_node w n then (if has_stopped w n then rests w Stopped else turn) else rests w Bad
 
--- what may be none
+-- none if a list was lost
 abbrev pub arrived : Classes → Parts → ℕ → Option Event → Turn
 arrived classes w n None = rests w (Sent 0)
 arrived classes w n (Some event) = handled classes w n event
@@ -122,34 +123,24 @@ activated w asker interval None = record {
 activated w asker interval (Some why) = rests w (MonitorRefused why)
 
 -- DELIVERY
-abbrev pub asked_in : MessageKind → Option ℕ
-asked_in (AskActivate interval) = Some interval
-asked_in _ = None
+abbrev pub asked_of : CarriedKind → Option ℕ
+asked_of (AskActivate interval) = Some interval
+asked_of _ = None
 
-abbrev pub asked_by : Event → Option ℕ
-asked_by (ARequest r) = None
-asked_by (AMap m) = None
-asked_by (AMessage m) = asked_in m.kind
-
-abbrev pub asked_of : Carried → Option ℕ
-asked_of (carried.Plain event) = asked_by event
-asked_of (carried.Query sender map reported) = None
-asked_of (carried.Log short) = None
-
-abbrev pub delivery_to : List NumberedNode → Party → Carried → Delivery
-delivery_to nodes (ANode n) carried = ToNode n (unpacked_as (nth_node nodes n).state.log carried)
-delivery_to nodes TheMonitor carried = ToMonitor (sender_of carried) (asked_of carried)
-delivery_to nodes (AClient client) carried = ToClient
+abbrev pub delivery_to : List NumberedNode → Party → CarriedMessage → Delivery
+delivery_to nodes (ANode n) m = ToNode n (message_of (nth_node nodes n).state.log m)
+delivery_to nodes TheMonitor m = ToMonitor m.sender (asked_of m.kind)
+delivery_to nodes (AClient client) m = ToClient
 
 abbrev pub delivery_of : List NumberedNode → KeptMessage → Delivery
-delivery_of nodes k = delivery_to nodes k.receiver k.carried
+delivery_of nodes k = delivery_to nodes k.receiver k.message
 
 abbrev pub at_monitor : Parts → Party → Option ℕ → Turn
 at_monitor w asker None = rests w (Sent 0)
 at_monitor w asker (Some interval) = activated w asker interval (activation_refusal w.monitor interval)
 
 abbrev pub delivered : Classes → Parts → Delivery → Turn
-delivered classes w (ToNode n coming) = arrives classes w n coming
+delivered classes w (ToNode n coming) = arrives classes w n (option_map AMessage coming)
 delivered classes w (ToMonitor asker interval) = at_monitor w asker interval
 delivered classes w ToClient = rests w (Sent 0)
 
@@ -172,7 +163,7 @@ abbrev pub shown : Parts → ℕ → Turn
 shown w n = if has_node w n then rests w (Shown (shown_of n (nth_node w.nodes n).state)) else rests w Bad
 
 abbrev pub sent_again : Parts → ℕ → Turn
-sent_again w n = rests w (Again (map (kept_number w.sent) (unanswered (nth_node w.nodes n).number (nth_node w.nodes n).state)))
+sent_again w n = rests w (Again (map (again_number w.sent) (unanswered (nth_node w.nodes n).number (nth_node w.nodes n).state)))
 
 abbrev pub resent : Parts → ℕ → Turn
 resent w n = unless_held w n (sent_again w n)
@@ -195,10 +186,10 @@ abbrev pub IsTaken : NumberedNode → NumberedNode → Result (List Packet) Hand
 IsTaken old new (Ok sent) o = IsDone old new sent o
 IsTaken old new (Err why) o = (new ≡ old) × (o.refusal ≡ Some why)
 
--- THE TEXTS, by what is kept
+-- THE TEXTS, from the messages as they are kept
 abbrev pub kept_lines : ℕ → List KeptMessage → List ℕ
 kept_lines number [] = []
-kept_lines number (k ∷ ks) = kept_line number k.receiver k.carried ++ kept_lines (suc number) ks
+kept_lines number (k ∷ ks) = kept_line number k.receiver k.message ++ kept_lines (suc number) ks
 
 abbrev pub kept_text : ℕ → List KeptMessage → List ℕ
 kept_text number [] = codes "nothing\n"

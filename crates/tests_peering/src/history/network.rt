@@ -3,7 +3,7 @@ ghost use Rattle.std.specs.Prelude.{◌≡◌};
 
 use crate::history::account::{Asked, request};
 use crate::history::reached::{Reached, count, count_if};
-use carried::Carried;
+use carried::{CarriedKind, CarriedMessage};
 use group_world::{HandleError, Party, Status};
 use peering::GroupNode;
 use pg_log::{ClassTable, Classes};
@@ -198,7 +198,7 @@ impl<C: Classes> Network<C> {
         match kept.receiver {
             Party::Node(node) => {
                 let at: NodeId = node;
-                self.has_beginning(rt, at.get() as usize, &kept.carried)
+                self.has_beginning(rt, at.get() as usize, &kept.message)
             }
             Party::Monitor => false,
             Party::Client(_) => false,
@@ -206,9 +206,9 @@ impl<C: Classes> Network<C> {
     }
 
     /// True if a list is packed, and a running node has the beginning that it leaves out.
-    fn has_beginning<R: Abort>(&self, rt: &R, at: usize, carried: &Carried) -> bool {
-        if let Carried::Log(short) = carried {
-            let common = short.log.common();
+    fn has_beginning<R: Abort>(&self, rt: &R, at: usize, message: &CarriedMessage) -> bool {
+        if let CarriedKind::Log(_, log) = &message.kind {
+            let common = log.common();
             return !self.is_stopped(at) && 0 < common && common <= self.node(rt, at).len();
         }
         false

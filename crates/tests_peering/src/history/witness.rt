@@ -3,8 +3,7 @@
 use crate::history::account::{Asked, Balances, Said, plain};
 use crate::history::network::Network;
 use crate::history::reached::{Reached, count_if};
-use carried::Carried;
-use group_world::{Event, Message, MessageKind};
+use carried::{CarriedKind, CarriedMessage};
 use peering::GroupNode;
 use pg_log::{Classes, Entry};
 use std::alloc::Global;
@@ -136,19 +135,12 @@ impl Agreed {
 
     /// Asserts that a Reply names a place of the agreed list that has its client's request of this
     /// number, and gives its answer.
-    fn look_at_message<R: Abort>(&self, rt: &R, message: &Message) {
-        if let MessageKind::Reply(client, number, place, answer) = &message.kind {
+    fn look_at<R: Abort>(&self, rt: &R, message: &CarriedMessage) {
+        if let CarriedKind::Reply(client, number, place, answer) = &message.kind {
             let agreed = self.requests.get(*place).copied().expect(rt, "a place");
             let asker = agreed.client.saturating_add(1);
             assert!(rt; asker == client.get() as usize && agreed.number == number.get());
             self.look_at_answer(rt, *place, answer.code(), answer.output());
-        }
-    }
-
-    /// Looks at a message as it was sent.
-    fn look_at<R: Abort>(&self, rt: &R, carried: &Carried) {
-        if let Carried::Plain(Event::Message(message)) = carried {
-            self.look_at_message(rt, message);
         }
     }
 }
@@ -182,7 +174,7 @@ impl Witness {
         }
         let sent = network.sent();
         for place in self.read..sent.len() {
-            self.agreed.look_at(rt, &sent[place].carried);
+            self.agreed.look_at(rt, &sent[place].message);
         }
         self.read = sent.len();
     }

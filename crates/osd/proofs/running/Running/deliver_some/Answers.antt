@@ -1,4 +1,4 @@
-use Rattle.osd.proofs.Sending.{only_none, only_same, only_from, internal_only, some_of_node}
+use Rattle.osd.proofs.Sending.{only_none, only_same, only_from}
 use Rattle.osd.proofs.running.Running.deliver_some.Goals as goal
 
 pub returns-in_default : goal.returns-in_default
@@ -8,4 +8,4 @@ pub returns-then-not-may_go_out : goal.returns-then-not-may_go_out
 returns-then-not-may_go_out g c = only_same _ _ _ c.may_go_out.ensures
 
 pub returns : goal.returns
-returns g c = only_from _ _ _ _ c.may_go_out.ensures (internal_only _ _ _ _ (some_of_node _ _ c.in-Some.is c.requires) c.deliver.ensures)
+returns g c = only_from _ _ _ _ c.may_go_out.ensures c.deliver.ensures
