@@ -23,7 +23,7 @@ use Rattle.pg_log.specs.Log.{Reply, outcome, outcome_of_method}
 use Rattle.pg_log.specs.Refusals.{answer_of, append_answer, refusal_of_method}
 use Rattle.class_tool.specs.declared.log.Logged.{Logged}
 use Rattle.class_tool.specs.Log.{CallRefused, IsLogged, first_request, refusal_of}
-use Rattle.class_tool.specs.Reply.{IsOneOutcome}
+use Rattle.class_tool.specs.RunReport.{IsOneOutcome}
 
 no_method : (m : Option ClassMethod) (r : ClientRequest) → answer_of None (refusal_of_method m r) 0 ≡ Err NoMethod → m ≡ None
 no_method None r e = refl

@@ -6,7 +6,7 @@ use Rattle.class_tool.specs.Assembly.{TextFails}
 use Rattle.class_tool.specs.Files.{Disk, Holds}
 use Rattle.class_tool.specs.Given.{object_before}
 use Rattle.class_tool.specs.Saved.{spelled_object}
-use Rattle.class_tool.specs.declared.action.Call.{Call}
+use Rattle.class_tool.specs.declared.action.MethodCall.{MethodCall}
 use Rattle.class_tool.specs.declared.failure.Failure.{Failure}
 use Rattle.class_tool.specs.declared.failure.Failure.TheVariants.{NoMemory}
 
@@ -16,11 +16,11 @@ pub record IsSpelledIn (disk : Option Disk) (name : List ℕ) (object : PlainObj
   pub held : Holds disk name text
   pub spelled : spelled_object text ≡ Ok object
 
-abbrev pub BeginsBy : Option (Bor (List ℕ)) → Option Disk → Call → PlainObject → Type 0
+abbrev pub BeginsBy : Option (Bor (List ℕ)) → Option Disk → MethodCall → PlainObject → Type 0
 BeginsBy None disk call object = object_before call ≡ Ok object
 BeginsBy (Some file) disk call object = IsSpelledIn disk file.now object
 
-abbrev pub Begins : Option Disk → Call → PlainObject → Type 0
+abbrev pub Begins : Option Disk → MethodCall → PlainObject → Type 0
 Begins disk call object = BeginsBy call.load disk call object
 
 -- the file holds a text, a line of which is bad
@@ -31,9 +31,9 @@ pub record IsMisspelledIn (disk : Option Disk) (name : List ℕ) (failure : Fail
 
 -- Why there is no object: memory was refused; the file can't be read, is no text, or a line of it is
 -- bad; or words spell none.
-abbrev pub NoneBegins : Option (Bor (List ℕ)) → Option Disk → Call → Failure → Type 0
+abbrev pub NoneBegins : Option (Bor (List ℕ)) → Option Disk → MethodCall → Failure → Type 0
 NoneBegins None disk call failure = object_before call ≡ Err failure
 NoneBegins (Some file) disk call failure = TextFails disk file.now failure ⊎ IsMisspelledIn disk file.now failure
 
-abbrev pub BeginFails : Option Disk → Call → Failure → Type 0
+abbrev pub BeginFails : Option Disk → MethodCall → Failure → Type 0
 BeginFails disk call failure = (failure ≡ NoMemory) ⊎ NoneBegins call.load disk call failure

@@ -6,7 +6,7 @@ use Rattle.verifier.specs.RuleNumber.{refusal_text}
 use Rattle.verifier.specs.Verdict.{method_verdict}
 use Rattle.verifier.specs.declared.refusal.Refusal.{Refusal}
 use Rattle.verifier.specs.declared.rule.Rule.{Rule}
-use Rattle.class_tool.specs.Answer.{method_line}
+use Rattle.class_tool.specs.ActionResult.{method_line}
 use Rattle.class_tool.specs.Explained.{source_note}
 use Rattle.class_tool.specs.Files.{Disk}
 use Rattle.class_tool.specs.Image.{IsSourceOf, class_of}

@@ -6,8 +6,8 @@ use Rattle.hex.specs.declared.error.FromHexError.{FromHexError}
 use Rattle.object_store.specs.Object.{Content, PlainObject}
 use Rattle.object_store.specs.Calls as calls
 use Rattle.object_store.specs.declared.store_error.StoreError.{StoreError}
-use Rattle.class_tool.specs.declared.action.Call.{Call}
-use Rattle.class_tool.specs.declared.action.Entry.{Entry}
+use Rattle.class_tool.specs.declared.action.MethodCall.{MethodCall}
+use Rattle.class_tool.specs.declared.action.NamedValue.{NamedValue}
 use Rattle.class_tool.specs.declared.given.Part.{Part}
 use Rattle.class_tool.specs.declared.given.Part.TheVariants.{Xattrs, Keys}
 use Rattle.class_tool.specs.declared.failure.Failure.{Failure}
@@ -47,11 +47,11 @@ set_in Keys content name value = calls.set_key (Some content) name value
 abbrev pub with_words : Part → Content → List ℕ → List ℕ → Result Content Failure
 with_words part content name value = and_then (name_in name) (λ name. and_then (bytes_in value) (λ value. of_change (set_in part content name value)))
 
-abbrev pub with_entry : Part → Content → Entry → Result Content Failure
+abbrev pub with_entry : Part → Content → NamedValue → Result Content Failure
 with_entry part content entry = with_words part content entry.name.now entry.value.now
 
 -- and with several, one after the other
-abbrev pub with_entries : Part → Content → List Entry → Result Content Failure
+abbrev pub with_entries : Part → Content → List NamedValue → Result Content Failure
 with_entries part content [] = Ok content
 with_entries part content (entry ∷ entries) = and_then (with_entry part content entry) (λ more. with_entries part more entries)
 
@@ -60,7 +60,7 @@ abbrev pub with_data : List ℕ → Result Content Failure
 with_data text = and_then (bytes_in text) (λ bytes. of_change (calls.write None 0 bytes))
 
 -- data, xattrs and keys
-abbrev pub content_in : List ℕ → List Entry → List Entry → Result Content Failure
+abbrev pub content_in : List ℕ → List NamedValue → List NamedValue → Result Content Failure
 content_in text xattrs keys =
     and_then (with_data text) (λ content. and_then (with_entries Xattrs content xattrs) (λ more. with_entries Keys more keys))
 
@@ -70,11 +70,11 @@ there (Err e) = Err e
 
 -- The object before a call: none without data, xattrs and keys. The first refusal is of the data,
 -- then of the xattrs, then of the keys, each in order.
-abbrev pub object_in : Option (Bor (List ℕ)) → List Entry → List Entry → Result PlainObject Failure
+abbrev pub object_in : Option (Bor (List ℕ)) → List NamedValue → List NamedValue → Result PlainObject Failure
 object_in (Some text) xattrs keys = there (content_in text.now xattrs keys)
 object_in None [] [] = Ok None
 object_in None [] (key ∷ keys) = there (content_in [] [] (key ∷ keys))
 object_in None (xattr ∷ xattrs) keys = there (content_in [] (xattr ∷ xattrs) keys)
 
-abbrev pub object_before : Call → Result PlainObject Failure
+abbrev pub object_before : MethodCall → Result PlainObject Failure
 object_before call = object_in call.data call.xattrs.items call.keys.items

@@ -18,7 +18,7 @@ use Rattle.class_tool.specs.declared.failure.Failure.TheVariants as failure
 abbrev pub first_request : ℕ → List ℕ → List ℕ → ClientRequest
 first_request caller method input = record { client = caller; number = 1; object = codes "o"; class = 0; method = method; input = input }
 
--- this is the reply of the request in a group that has that class and that request alone
+-- this is the reply to the request in a group that has that class and that request alone
 abbrev pub IsLogged : List ClassMethod → ClientRequest → Logged → Type 0
 IsLogged class r logged =
     reply_at (class ∷ []) (r ∷ []) 0 ≡ Some (record { code = cast_unsigned w64 logged.code; output = logged.output.items })

@@ -6,7 +6,7 @@ use Rattle.hex.specs.Hex.{encode_lower}
 use Rattle.placement.specs.Placement.{group_of}
 use Rattle.cluster_file.specs.Plan.{calls_of}
 use Rattle.cluster_file.specs.Planned.{PlannedCall}
-use Rattle.cluster_file.specs.declared.step.Step.{Step}
+use Rattle.cluster_file.specs.declared.planned_step.PlannedStep.{PlannedStep}
 
 -- How a call ended: with its place, code and output, or refused, for a reason as it is printed.
 pub data CallEnd : Type 0 where
@@ -51,7 +51,7 @@ call_lines groups client number (call ∷ calls) [] = []
 call_lines groups client number (call ∷ calls) (end ∷ ends) = call_line groups client number call end ++ call_lines groups client (suc number) calls ends
 
 -- ALL LINES of these steps, by client from one on: the calls of each from 0 on.
-abbrev pub all_lines : Option ℕ → List Step → ℕ → List (List CallEnd) → List ℕ
+abbrev pub all_lines : Option ℕ → List PlannedStep → ℕ → List (List CallEnd) → List ℕ
 all_lines groups steps client [] = []
 all_lines groups steps client (ends ∷ others) = call_lines groups client 0 (calls_of client steps) ends ++ all_lines groups steps (suc client) others
 

@@ -4,7 +4,7 @@ use Rattle.pg_log.specs.Log.{Classes}
 use Rattle.cluster_file.specs.Planned.{PlannedCall}
 use Rattle.cluster_file.specs.Plan.{calls_of}
 use Rattle.cluster_file.specs.Text.{CallEnd, Replied, Refused}
-use Rattle.cluster_file.specs.declared.step.Step.{Step}
+use Rattle.cluster_file.specs.declared.planned_step.PlannedStep.{PlannedStep}
 use Rattle.rados_client.specs.Promise.{IsCall}
 use Rattle.rados_client.specs.Refusals.{exec_error_text}
 use Rattle.rados_client.specs.Session.{PlacedReply, SessionState, next_request}
@@ -37,7 +37,7 @@ pub record AreEndsOf (classes : Classes) (client : ℕ) (planned : List PlannedC
   pub calls : AreCalls classes planned ends first last
 
 -- THE ENDS OF ALL CALLS of these steps: of each client's, the first client's first.
-abbrev pub AreAllEnds : Classes → List Step → List (List (Result PlacedReply ExecError)) → Type 0
+abbrev pub AreAllEnds : Classes → List PlannedStep → List (List (Result PlacedReply ExecError)) → Type 0
 AreAllEnds classes steps all =
     (before : ℕ) (ends : List (Result PlacedReply ExecError)) → slice_get all before ≡ Some ends
     → AreEndsOf classes (suc before) (calls_of (suc before) steps) ends

@@ -20,8 +20,8 @@ use Rattle.cluster_tool.specs.Answers.{shown}
 use Rattle.cluster_tool.specs.Config.{config_of}
 use Rattle.cluster_tool.specs.Played.{AreDone, IsMapRefused}
 use Rattle.cluster_tool.specs.declared.asked.Clustering.{Clustering}
-use Rattle.cluster_tool.specs.declared.tool.Ending.{Ending}
-use Rattle.cluster_tool.specs.declared.tool.Ending.TheVariants.{Done, Bad, Refused, NoMemory, Unprinted}
+use Rattle.cluster_tool.specs.declared.tool.ClusteringEnd.{ClusteringEnd}
+use Rattle.cluster_tool.specs.declared.tool.ClusteringEnd.TheVariants.{Done, Bad, Refused, NoMemory, Unprinted}
 
 -- A number of its first line is outside its limits.
 pub record IsLimit (plan : FilePlan) (printed : List ℕ) : Type 0 where
@@ -62,7 +62,7 @@ IsRefused plan printed = IsLimit plan printed ⊎ IsWithin plan (λ config. IsNo
 
 -- WHAT COMES of a file's text, where memory lasts: what its plan comes to; or, before anything is
 -- done, the line that is malformed first alone.
-abbrev pub IsPrintoutOf : Bool → Classes → Result FilePlan ℕ → List ℕ → Ending → Type 0
+abbrev pub IsPrintoutOf : Bool → Classes → Result FilePlan ℕ → List ℕ → ClusteringEnd → Type 0
 IsPrintoutOf is_shown classes (Ok plan) printed Done = IsWithin plan (λ config. IsMade is_shown classes plan printed config)
 IsPrintoutOf is_shown classes (Ok plan) printed Bad = ⊥
 IsPrintoutOf is_shown classes (Ok plan) printed Refused = IsRefused plan printed
@@ -75,7 +75,7 @@ IsPrintoutOf is_shown classes (Err line) printed NoMemory = ⊥
 IsPrintoutOf is_shown classes (Err line) printed Unprinted = ⊥
 
 -- that was printed, whole, and no write or flush failed
-pub record IsShown (is_shown : Bool) (classes : Classes) (names : List (List ℕ)) (text : List ℕ) (old new : Option (List ℕ)) (failed fails : Bool) (ending : Ending) : Type 0 where
+pub record IsShown (is_shown : Bool) (classes : Classes) (names : List (List ℕ)) (text : List ℕ) (old new : Option (List ℕ)) (failed fails : Bool) (ending : ClusteringEnd) : Type 0 where
   pub printed : List ℕ
   pub comes : IsPrintoutOf is_shown classes (plan_of names text) printed ending
   pub grew : Appends old new printed
@@ -84,20 +84,20 @@ pub record IsShown (is_shown : Bool) (classes : Classes) (names : List (List ℕ
 -- a beginning of that was printed, and a write or a flush failed
 pub record IsBegun (is_shown : Bool) (classes : Classes) (names : List (List ℕ)) (text : List ℕ) (old new : Option (List ℕ)) (fails : Bool) : Type 0 where
   pub printed : List ℕ
-  pub ending : Ending
+  pub ending : ClusteringEnd
   pub comes : IsPrintoutOf is_shown classes (plan_of names text) printed ending
   pub begun : Begins old new printed
   pub failed : fails ≡ true
 
 -- a text was printed and that is how it ended; or a beginning of it was, and a write or a flush
 -- failed
-abbrev pub Prints : List ℕ → Ending → Option (List ℕ) → Option (List ℕ) → Bool → Bool → Ending → Type 0
+abbrev pub Prints : List ℕ → ClusteringEnd → Option (List ℕ) → Option (List ℕ) → Bool → Bool → ClusteringEnd → Type 0
 Prints printed ending old new failed fails result =
     ((result ≡ ending) × Appends old new printed × (fails ≡ failed)) ⊎ ((result ≡ Unprinted) × Begins old new printed × (fails ≡ true))
 
 -- how a file ends: that was printed; or nothing was, for want of memory; or a beginning of it was,
 -- and a write or a flush failed
-abbrev pub EndsSo : Bool → Classes → List (List ℕ) → List ℕ → Option (List ℕ) → Option (List ℕ) → Bool → Bool → Ending → Type 0
+abbrev pub EndsSo : Bool → Classes → List (List ℕ) → List ℕ → Option (List ℕ) → Option (List ℕ) → Bool → Bool → ClusteringEnd → Type 0
 EndsSo is_shown classes names text old new failed fails Done = IsShown is_shown classes names text old new failed fails Done
 EndsSo is_shown classes names text old new failed fails Bad = IsShown is_shown classes names text old new failed fails Bad
 EndsSo is_shown classes names text old new failed fails Refused = IsShown is_shown classes names text old new failed fails Refused
@@ -106,7 +106,7 @@ EndsSo is_shown classes names text old new failed fails Unprinted = IsBegun is_s
 
 -- WHAT A CLUSTER FILE COMES TO: with the built-in classes and those of the tenants' files, the text
 -- that the file holds.
-pub record Clusters (disk : Option Disk) (c : Clustering) (old new : Option (List ℕ)) (failed fails : Bool) (ending : Ending) : Type 0 where
+pub record Clusters (disk : Option Disk) (c : Clustering) (old new : Option (List ℕ)) (failed fails : Bool) (ending : ClusteringEnd) : Type 0 where
   pub classes : Classes
   pub loaded : AreClasses disk c.tenants.items classes
   pub text : List ℕ

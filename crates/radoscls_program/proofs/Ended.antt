@@ -5,12 +5,12 @@ use Rattle.command_line.specs.declared.unparsed.Unparsed.{Unparsed}
 use Rattle.class_tool.specs.Files.{Storage}
 use Rattle.class_tool.specs.declared.action.Action.{Action}
 use Rattle.class_tool.specs.declared.action.Action.TheVariants.{Run}
-use Rattle.class_tool.specs.declared.answer.Answer.{Answer}
+use Rattle.class_tool.specs.declared.action_result.ActionResult.{ActionResult}
 use Rattle.class_tool.specs.declared.failure.Failure.{Failure}
 use Rattle.class_tool.specs.declared.failure.Failure.TheVariants.{NoMemory}
 use Rattle.pg_log.specs.Log.{Classes}
 use Rattle.sim.specs.Simulating.{Plays}
-use Rattle.sim.specs.declared.file.Ending.TheVariants as ending
+use Rattle.sim.specs.declared.file.SimulationEnd.TheVariants as ending
 use Rattle.radoscls_program.specs.Program.{Ends, Found, IsDone, IsFileNoteAsked, IsNamed, IsRefused, IsUnstarted, Responds, Starts, TaskEnds}
 use Rattle.radoscls_program.specs.Asked.{AreFor, AreForNone}
 use Rattle.radoscls_program.specs.Status.{code_of}
@@ -21,7 +21,7 @@ use Rattle.radoscls_program.specs.declared.task.Task.{Task}
 use Rattle.radoscls_program.specs.declared.task.Task.TheVariants as task
 
 -- where they name an action
-class_ended : (before after : Storage) (old new : Stream) (words : List Text) (a : Action) (e : Bool) (found : Result Answer Failure) (note : List ℕ) (status : ExitStatus)
+class_ended : (before after : Storage) (old new : Stream) (words : List Text) (a : Action) (e : Bool) (found : Result ActionResult Failure) (note : List ℕ) (status : ExitStatus)
     → IsNamed before.disk words a e → Found before after a e found note → Responds old new found note status → Ends before after old new words status
 class_ended before after old new words a e (Ok answer) note Done named found took =
     inl (record { action = a; is_explained = e; named = named; answer = answer; settles = found; printed = took })

@@ -5,7 +5,7 @@ use Rattle.bpf_decode.specs.declared.rule_set.RuleSet.{RuleSet}
 use Rattle.bpf_decode.specs.declared.rule_set.RuleSet.TheVariants.{One, Two}
 use Rattle.class_tool.specs.declared.action.Action.{Action}
 use Rattle.class_tool.specs.declared.action.Action.TheVariants.{Verify, Run, Assemble, Pack, Disassemble}
-use Rattle.class_tool.specs.declared.action.Call.{Call}
+use Rattle.class_tool.specs.declared.action.MethodCall.{MethodCall}
 use Rattle.class_tool.specs.declared.action.Packing.{Packing}
 use Rattle.cluster_tool.specs.declared.asked.Clustering.{Clustering}
 use Rattle.command_line.specs.Parsed.{Parsed, Text, all_in, is_set_in, one_in}
@@ -37,7 +37,7 @@ pub record TakesPlain (p : Parsed) (call : Plain) : Type 0 where
   pub input : one_in p (codes "input") ≡ Some call.input.now
   pub caller : option_and_then id_in (one_in p (codes "caller")) ≡ Some call.caller
 
-abbrev pub plain_of : Call → Plain
+abbrev pub plain_of : MethodCall → Plain
 plain_of call = record { image = call.image; method = call.method; input = call.input; caller = call.caller }
 
 -- The object is that of a file, --load, or that of words.
@@ -48,7 +48,7 @@ loads_alone p =
 
 -- `run` takes that, the object's data --object, an xattr of each --xattr and a key of each --key,
 -- the files --load and --save, and whether --show is there. Values may be files'.
-pub record TakesCall (p : Parsed) (call : Call) : Type 0 where
+pub record TakesCall (p : Parsed) (call : MethodCall) : Type 0 where
   pub plain : TakesPlain p (plain_of call)
   pub data_text : one_in p (codes "object") ≡ option_map (λ t. t.now) call.data
   pub xattrs : AreEntries (all_in p (codes "xattr")) call.xattrs.items

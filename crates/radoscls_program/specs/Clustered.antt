@@ -4,15 +4,15 @@ use Rattle.class_tool.specs.Files.{Disk}
 use Rattle.class_tool.specs.declared.failure.Failure.{Failure}
 use Rattle.class_tool.specs.declared.failure.Failure.TheVariants.{NoMemory}
 use Rattle.cluster_tool.specs.Clustering.{Clusters, ClusteringFails}
-use Rattle.cluster_tool.specs.declared.tool.Ending.{Ending}
-use Rattle.cluster_tool.specs.declared.tool.Ending.TheVariants as ending
+use Rattle.cluster_tool.specs.declared.tool.ClusteringEnd.{ClusteringEnd}
+use Rattle.cluster_tool.specs.declared.tool.ClusteringEnd.TheVariants as ending
 use Rattle.cluster_tool.specs.declared.asked.Clustering.{Clustering}
 use Rattle.radoscls_program.specs.Streams.{Stream, IsPrinted, failure_line}
 use Rattle.radoscls_program.specs.declared.status.ExitStatus.{ExitStatus}
 use Rattle.radoscls_program.specs.declared.status.ExitStatus.TheVariants.{Done, Refused, Usage}
 
 -- it was played to that ending
-abbrev pub Ran : Option Disk → Stream → Stream → Clustering → Ending → Type 0
+abbrev pub Ran : Option Disk → Stream → Stream → Clustering → ClusteringEnd → Type 0
 Ran disk old new c ending = Clusters disk c old.printed new.printed old.failed new.failed ending
 
 -- memory was refused, nothing was printed of the calls, and a line says so

@@ -2,13 +2,13 @@
 use Rattle.std.specs.Prelude.{◌≡◌, ◌⊎◌, ◌++◌, ℕ, Bool, List, [], Option, Result, Ok, Err, true, false}
 use Rattle.std.specs.Borrow.{Bor}
 use Rattle.command_line.specs.Parsed.{Text}
-use Rattle.class_tool.specs.Answer.{Settles, Fails, answer_text}
+use Rattle.class_tool.specs.ActionResult.{Settles, Fails, result_text}
 use Rattle.class_tool.specs.Explained.{IsSystemNote, IsNote}
 use Rattle.class_tool.specs.Files.{Disk, Storage}
 use Rattle.class_tool.specs.declared.action.Action.{Action}
 use Rattle.class_tool.specs.declared.action.Action.TheVariants.{Run}
-use Rattle.class_tool.specs.declared.action.Call.{Call}
-use Rattle.class_tool.specs.declared.answer.Answer.{Answer}
+use Rattle.class_tool.specs.declared.action.MethodCall.{MethodCall}
+use Rattle.class_tool.specs.declared.action_result.ActionResult.{ActionResult}
 use Rattle.class_tool.specs.declared.failure.Failure.{Failure}
 use Rattle.class_tool.specs.declared.failure.Failure.TheVariants.{NoMemory}
 use Rattle.sim.specs.declared.asked.Simulation.{Simulation}
@@ -26,9 +26,9 @@ use Rattle.radoscls_program.specs.Values.{FillFails, IsFilled}
 
 -- The words ask for that action; of a call, with its values in hexadecimal.
 pub record IsCallNamed (disk : Option Disk) (words : List Text) (action : Action) (is_explained : Bool) : Type 0 where
-  pub call : Call
+  pub call : MethodCall
   pub named : AreFor words (task.Run call is_explained)
-  pub filled : Call
+  pub filled : MethodCall
   pub values : IsFilled disk call filled
   pub same : action ≡ Run filled
 
@@ -44,9 +44,9 @@ pub record IsAnswered (before after : Storage) (old new : Stream) (words : List 
   pub action : Action
   pub is_explained : Bool
   pub named : IsNamed before.disk words action is_explained
-  pub answer : Answer
+  pub answer : ActionResult
   pub settles : Settles before after action answer
-  pub printed : Took old new (answer_text answer)
+  pub printed : Took old new (result_text answer)
 
 -- what is printed after a failure's line, where that is asked for
 abbrev pub IsNoteAsked : Bool → Option Disk → Action → Failure → List ℕ → Type 0
@@ -71,9 +71,9 @@ pub record IsUnprinted (before after : Storage) (old new : Stream) (words : List
   pub action : Action
   pub is_explained : Bool
   pub named : IsNamed before.disk words action is_explained
-  pub answer : Answer
+  pub answer : ActionResult
   pub settles : Settles before after action answer
-  pub unprinted : Lost old new (answer_text answer)
+  pub unprinted : Lost old new (result_text answer)
 
 -- what is printed after the line of a value's file that can't be read, if that is asked for
 abbrev pub IsFileNoteAsked : Bool → Failure → List ℕ → Type 0
@@ -81,7 +81,7 @@ IsFileNoteAsked false failure note = note ≡ []
 IsFileNoteAsked true failure note = IsSystemNote failure note
 
 -- A call's values could not be read, and a line says so; no file changed.
-pub record IsUnfilled (before after : Storage) (old new : Stream) (call : Call) (is_explained : Bool) : Type 0 where
+pub record IsUnfilled (before after : Storage) (old new : Stream) (call : MethodCall) (is_explained : Bool) : Type 0 where
   pub failure : Failure
   pub fails : FillFails before.disk call failure
   pub note : List ℕ
@@ -91,7 +91,7 @@ pub record IsUnfilled (before after : Storage) (old new : Stream) (call : Call) 
 
 -- The words name a call whose values could not be read.
 pub record IsValueless (before after : Storage) (old new : Stream) (words : List Text) : Type 0 where
-  pub call : Call
+  pub call : MethodCall
   pub is_explained : Bool
   pub named : AreFor words (task.Run call is_explained)
   pub unfilled : IsUnfilled before after old new call is_explained
@@ -160,9 +160,9 @@ abbrev pub Starts : Storage → Storage → Stream → Stream → ExitStatus →
 Starts before after old new status = ((words : List Text) × Ends before after old new words status) ⊎ IsUnstarted before after old new status
 
 -- an answer or a failure's line was printed; or a beginning of it was, and a write or a flush failed
-abbrev pub Responds : Stream → Stream → Result Answer Failure → List ℕ → ExitStatus → Type 0
-Responds old new (Ok answer) note Done = Took old new (answer_text answer)
-Responds old new (Ok answer) note Refused = Lost old new (answer_text answer)
+abbrev pub Responds : Stream → Stream → Result ActionResult Failure → List ℕ → ExitStatus → Type 0
+Responds old new (Ok answer) note Done = Took old new (result_text answer)
+Responds old new (Ok answer) note Refused = Lost old new (result_text answer)
 Responds old new (Ok answer) note Usage = ⊥
 Responds old new (Err failure) note Done = ⊥
 Responds old new (Err failure) note Refused = IsPrinted old new (failure_line failure ++ note)
@@ -170,24 +170,24 @@ Responds old new (Err failure) note Usage = ⊥
 
 -- what is done of a task: an action is answered or fails, and that is printed; methods are judged, a
 -- file of events, or of calls and maps, is played, and no file changes
-abbrev pub Found : Storage → Storage → Action → Bool → Result Answer Failure → List ℕ → Type 0
+abbrev pub Found : Storage → Storage → Action → Bool → Result ActionResult Failure → List ℕ → Type 0
 Found before after action is_explained (Ok answer) note = Settles before after action answer
 Found before after action is_explained (Err failure) note = Fails before after action failure × IsNoteAsked is_explained before.disk action failure note
 
 pub record Acts (before after : Storage) (old new : Stream) (action : Action) (is_explained : Bool) (status : ExitStatus) : Type 0 where
-  pub found : Result Answer Failure
+  pub found : Result ActionResult Failure
   pub note : List ℕ
   pub true_of : Found before after action is_explained found note
   pub responds : Responds old new found note status
 
 -- a call is made with its values in hexadecimal
-pub record ActsOn (before after : Storage) (old new : Stream) (call : Call) (is_explained : Bool) (status : ExitStatus) : Type 0 where
-  pub filled : Call
+pub record ActsOn (before after : Storage) (old new : Stream) (call : MethodCall) (is_explained : Bool) (status : ExitStatus) : Type 0 where
+  pub filled : MethodCall
   pub values : IsFilled before.disk call filled
   pub acts : Acts before after old new (Run filled) is_explained status
 
 -- or a line says why not
-abbrev pub CallEnds : Storage → Storage → Stream → Stream → Call → Bool → ExitStatus → Type 0
+abbrev pub CallEnds : Storage → Storage → Stream → Stream → MethodCall → Bool → ExitStatus → Type 0
 CallEnds before after old new call is_explained status =
     ActsOn before after old new call is_explained status ⊎ ((status ≡ Refused) × IsUnfilled before after old new call is_explained)
 

@@ -14,10 +14,12 @@ use crate::status::ExitStatus;
 use crate::task::Task;
 use crate::threads::play_cluster;
 use crate::values::{call_with, filled};
-use class_tool::{Action, Answer, Call, Failure, Files, Output, Reads, find, find_noted};
+use class_tool::{
+    Action, ActionResult, Failure, Files, MethodCall, Output, Reads, find, find_noted,
+};
 use cluster_tool::{Clustering, Figures, Meter};
 use command_line::Unparsed;
-use sim::{Ending, Simulation, simulate};
+use sim::{Simulation, SimulationEnd, simulate};
 use std::alloc::Global;
 use std::convert::AsStr;
 use std::io;
@@ -35,7 +37,7 @@ pub fn refuse<O: Output>(failure: Failure, out: &mut O) -> ExitStatus
 }
 
 /// Prints an answer, or a failure and the note below it.
-fn respond<O: Output>(found: Result<Answer, Failure>, note: &str, out: &mut O) -> ExitStatus
+fn respond<O: Output>(found: Result<ActionResult, Failure>, note: &str, out: &mut O) -> ExitStatus
     ensures { Responds (stream O.printed O.failed out.old) (stream O.printed O.failed out.new) found note.now result }
 {
     match found {
@@ -57,7 +59,7 @@ fn find_with_note<F: Files>(
     action: &Action<'_>,
     is_explained: bool,
     note: &mut String,
-) -> Result<Answer, Failure>
+) -> Result<ActionResult, Failure>
     requires { string_bytes note.old ≡ [] }
     ensures { Found (storage F.disk F.failed files.old) (storage F.disk F.failed files.new) action.now is_explained result (string_bytes note.new) }
 {
@@ -111,7 +113,7 @@ fn refuse_value<F: Files, O: Output>(
 fn act_call<F: Files, O: Output>(
     alloc: Global,
     files: &mut F,
-    call: &Call<'_>,
+    call: &MethodCall<'_>,
     is_explained: bool,
     out: &mut O,
 ) -> ExitStatus
@@ -137,10 +139,10 @@ fn play<F: Reads, O: Output>(
     ensures { SimEnds (F.disk files.now) (stream O.printed O.failed out.old) (stream O.printed O.failed out.new) simulation.now result }
 {
     match simulate(alloc, files, simulation, out) {
-        Ok(Ending::Done) => ExitStatus::Done,
-        Ok(Ending::Bad) => ExitStatus::Refused,
-        Ok(Ending::Unprinted) => ExitStatus::Refused,
-        Ok(Ending::NoMemory) => refuse(Failure::NoMemory, out),
+        Ok(SimulationEnd::Done) => ExitStatus::Done,
+        Ok(SimulationEnd::Bad) => ExitStatus::Refused,
+        Ok(SimulationEnd::Unprinted) => ExitStatus::Refused,
+        Ok(SimulationEnd::NoMemory) => refuse(Failure::NoMemory, out),
         Err(failure) => refuse(failure, out),
     }
 }

@@ -1,4 +1,4 @@
-use class_tool::{Action, Call};
+use class_tool::{Action, MethodCall};
 use cluster_tool::Clustering;
 use sim::Simulation;
 
@@ -10,7 +10,7 @@ pub(crate) enum Task<'a> {
     /// The verdict of each method of the class in a file, and whether refusals are explained.
     Each(&'a str, bool),
     /// A call, whose values files may hold, and whether a failure is explained.
-    Run(Call<'a>, bool),
+    Run(MethodCall<'a>, bool),
     /// A file of events, played.
     Sim(Simulation<'a>),
     /// A file of calls and maps, played on a cluster in threads.

@@ -8,9 +8,9 @@ use Rattle.sim_text.specs.declared.line.Line.{Line}
 use Rattle.sim_text.specs.declared.taken.Taken.{Taken}
 use Rattle.sim.specs.Drawing.{Course, Courses, Draws, Noted, Notes, IsCourse, ahead, bad_of, course, course_from, done_if, drawn_as, drawn_of, follow, meant_by, noted, noted_as, noted_if}
 use Rattle.sim_trace.specs.Drawing.{drawn}
-use Rattle.sim_trace.specs.declared.message.Message.{Message}
-use Rattle.sim_trace.specs.declared.step.Step.{Step}
-use Rattle.sim_trace.specs.declared.step.What.{What}
+use Rattle.sim_trace.specs.declared.drawn_message.DrawnMessage.{DrawnMessage}
+use Rattle.sim_trace.specs.declared.drawn_step.DrawnStep.{DrawnStep}
+use Rattle.sim_trace.specs.declared.drawn_step.What.{What}
 use Rattle.sim_world.specs.Step.{Played, beginning, step}
 use Rattle.sim_world.specs.Holds.{AreShown, Holds, IsStep, Steps, kept_shown, message_shown}
 use Rattle.sim_world.specs.declared.kept.KeptMessage.{KeptMessage}
@@ -53,7 +53,7 @@ line_unnoted classes names line old new l taken before bad e steps b was = λ p 
     }
 
 -- the drawing of a course that was gone through from the first line on
-pub run_drawn : (classes : Classes) (names lines : List (List ℕ)) (first new : Parts) (kept : List KeptMessage) (messages : List Message) (steps : List Step) (bad : Option ℕ) (text : List ℕ) (is_bad : Bool)
+pub run_drawn : (classes : Classes) (names lines : List (List ℕ)) (first new : Parts) (kept : List KeptMessage) (messages : List DrawnMessage) (steps : List DrawnStep) (bad : Option ℕ) (text : List ℕ) (is_bad : Bool)
     → Holds classes first (beginning classes) → Courses classes names lines first new [] (map noted_as steps) bad → AreShown classes new kept
     → map drawn_as messages ≡ map drawn_of (map kept_shown kept) → text ≡ drawn messages steps ++ bad_of bad → is_bad ≡ is_some bad
     → Draws (course classes names lines) text is_bad

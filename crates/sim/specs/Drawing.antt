@@ -17,10 +17,10 @@ use Rattle.sim_text.specs.declared.taken.Taken.TheVariants as taken
 use Rattle.sim_trace.specs.Drawing.{drawn}
 use Rattle.sim_trace.specs.declared.column.Column.{Column}
 use Rattle.sim_trace.specs.declared.column.Column.TheVariants.{Client, Node, Monitor}
-use Rattle.sim_trace.specs.declared.message.Message.{Message}
-use Rattle.sim_trace.specs.declared.step.What.{What}
-use Rattle.sim_trace.specs.declared.step.What.TheVariants.{At, Asked, Arrived, Bounced, Stopped, Resumed}
-use Rattle.sim_trace.specs.declared.step.Step.{Step}
+use Rattle.sim_trace.specs.declared.drawn_message.DrawnMessage.{DrawnMessage}
+use Rattle.sim_trace.specs.declared.drawn_step.What.{What}
+use Rattle.sim_trace.specs.declared.drawn_step.What.TheVariants.{At, Asked, Arrived, Bounced, Stopped, Resumed}
+use Rattle.sim_trace.specs.declared.drawn_step.DrawnStep.{DrawnStep}
 use Rattle.sim_world.specs.Step.{Played, Happened, beginning, step}
 use Rattle.sim_world.specs.Holds.{Holds, MessageShown, message_shown}
 use Rattle.sim_world.specs.inner.Parts.{Parts}
@@ -40,7 +40,7 @@ pub record Drawn : Type 0 where
   pub to : Column
   pub text : List ℕ
 
-abbrev pub drawn_as : Message → Drawn
+abbrev pub drawn_as : DrawnMessage → Drawn
 drawn_as m = record { from = m.from; to = m.to; text = string_bytes m.text }
 
 abbrev pub drawn_of : MessageShown → Drawn
@@ -119,7 +119,7 @@ pub record Noted : Type 0 where
   pub text : List ℕ
   pub sent : ℕ
 
-abbrev pub noted_as : Step → Noted
+abbrev pub noted_as : DrawnStep → Noted
 noted_as s = record { what = s.what; text = string_bytes s.text; sent = s.sent }
 
 abbrev pub noted_if : List ℕ → Taken → Option What → List Noted
@@ -159,8 +159,8 @@ bad_of (Some number) = bad_line number
 
 -- THE DRAWING OF A RUN: its steps and messages, drawn, and the bad line, if one is.
 pub record Draws (run : Course) (text : List ℕ) (bad : Bool) : Type 0 where
-  pub messages : List Message
-  pub steps : List Step
+  pub messages : List DrawnMessage
+  pub steps : List DrawnStep
   pub sent : map drawn_as messages ≡ map drawn_of (map message_shown run.played.world.sent)
   pub lines : map noted_as steps ≡ run.steps
   pub text_is : text ≡ drawn messages steps ++ bad_of run.bad

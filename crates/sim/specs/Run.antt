@@ -8,8 +8,8 @@ use Rattle.pg_log.specs.Requests.{ClientRequest}
 use Rattle.pg_log.specs.Log.{Classes}
 use Rattle.group_world.specs.World.{IsUncut, brought}
 use Rattle.group_world.specs.declared.message.Packet.{Packet}
-use Rattle.sim.specs.declared.file.Ending.{Ending}
-use Rattle.sim.specs.declared.file.Ending.TheVariants.{Done, Bad, NoMemory, Unprinted}
+use Rattle.sim.specs.declared.file.SimulationEnd.{SimulationEnd}
+use Rattle.sim.specs.declared.file.SimulationEnd.TheVariants.{Done, Bad, NoMemory, Unprinted}
 use Rattle.class_tool.specs.Output.{Begins}
 use Rattle.verifier.specs.Verified.{IsVerifiedClass}
 use Rattle.sim.specs.Replies.{ReplyHasRun}
@@ -101,7 +101,7 @@ pub record BreaksOff (printed : Printed) (old new : Option (List ℕ)) (fails : 
   pub failed : fails ≡ true
 
 -- The end of a run.
-abbrev pub EndsBy : Classes → List (List ℕ) → List (List ℕ) → Option (List ℕ) → Option (List ℕ) → Bool → Bool → Ending → Type 0
+abbrev pub EndsBy : Classes → List (List ℕ) → List (List ℕ) → Option (List ℕ) → Option (List ℕ) → Bool → Bool → SimulationEnd → Type 0
 EndsBy classes names lines old new failed fails Done = Prints (run_lines classes names lines) false old new failed fails
 EndsBy classes names lines old new failed fails Bad = Prints (run_lines classes names lines) true old new failed fails
 EndsBy classes names lines old new failed fails NoMemory = Stops classes names lines old new failed fails

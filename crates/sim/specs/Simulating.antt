@@ -8,15 +8,15 @@ use Rattle.pg_log.specs.Log.{Classes}
 use Rattle.sim_text.specs.Lines.{lines_of}
 use Rattle.sim.specs.Drawing.{BreaksDrawing, Course, DrawnIsPlayed, Shows, course}
 use Rattle.sim.specs.Run.{EndsBy, IsAgreedRun}
-pub use Rattle.sim.specs.declared.file.Ending.{Ending}
-pub use Rattle.sim.specs.declared.file.Ending.TheVariants.{Done, Bad, NoMemory, Unprinted}
+pub use Rattle.sim.specs.declared.file.SimulationEnd.{SimulationEnd}
+pub use Rattle.sim.specs.declared.file.SimulationEnd.TheVariants.{Done, Bad, NoMemory, Unprinted}
 use Rattle.verifier.specs.Verified.{IsVerifiedClass}
 use Rattle.tenant_classes.specs.Classes.{AreClasses, ClassesFail, names_of}
 use Rattle.sim.specs.declared.asked.Simulation.{Simulation}
 
 -- Of a drawing: it was printed whole, with no bad line or one, or nothing was for want of memory,
 -- or a write or a flush failed and a beginning of it was.
-abbrev pub IsDrawn : Course → Option (List ℕ) → Option (List ℕ) → Bool → Bool → Ending → Type 0
+abbrev pub IsDrawn : Course → Option (List ℕ) → Option (List ℕ) → Bool → Bool → SimulationEnd → Type 0
 IsDrawn run old new failed fails Done = Shows run false old new failed fails
 IsDrawn run old new failed fails Bad = Shows run true old new failed fails
 IsDrawn run old new failed fails NoMemory = (new ≡ old) × (fails ≡ failed)
@@ -24,7 +24,7 @@ IsDrawn run old new failed fails Unprinted = BreaksDrawing run old new fails
 
 -- A text was played: its lines were done and printed as they are defined to be, or their run was
 -- drawn.
-abbrev pub Plays : Bool → Classes → List (List ℕ) → List ℕ → Option (List ℕ) → Option (List ℕ) → Bool → Bool → Ending → Type 0
+abbrev pub Plays : Bool → Classes → List (List ℕ) → List ℕ → Option (List ℕ) → Option (List ℕ) → Bool → Bool → SimulationEnd → Type 0
 Plays true classes names text old new failed fails ending = IsDrawn (course classes names (lines_of text)) old new failed fails ending
 Plays false classes names text old new failed fails ending = EndsBy classes names (lines_of text) old new failed fails ending
 
@@ -40,7 +40,7 @@ AllWorldsKnown = (classes : Classes) (names lines : List (List ℕ)) → AreWorl
 
 -- WHAT A SIMULATION IS: with the built-in classes and those of the tenants' files, the text that
 -- the file of events holds was played, in agreed worlds.
-pub record Simulates (disk : Option Disk) (s : Simulation) (old new : Option (List ℕ)) (failed fails : Bool) (ending : Ending) : Type 0 where
+pub record Simulates (disk : Option Disk) (s : Simulation) (old new : Option (List ℕ)) (failed fails : Bool) (ending : SimulationEnd) : Type 0 where
   pub classes : Classes
   pub loaded : AreClasses disk s.tenants.items classes
   pub verified : AllByRecursion IsVerifiedClass classes

@@ -7,23 +7,23 @@ use Rattle.sim_trace.specs.Columns.{name, place_of, columns_of}
 use Rattle.sim_trace.specs.Rows.{repeated, mark_row, arrow_row}
 use Rattle.sim_trace.specs.declared.column.Column.{Column}
 use Rattle.sim_trace.specs.declared.column.Column.TheVariants.{Client, Node, Monitor}
-use Rattle.sim_trace.specs.declared.message.Message.{Message}
-use Rattle.sim_trace.specs.declared.step.What.{What}
-use Rattle.sim_trace.specs.declared.step.What.TheVariants.{At, Asked, Arrived, Bounced, Stopped, Resumed}
-use Rattle.sim_trace.specs.declared.step.Step.{Step}
+use Rattle.sim_trace.specs.declared.drawn_message.DrawnMessage.{DrawnMessage}
+use Rattle.sim_trace.specs.declared.drawn_step.What.{What}
+use Rattle.sim_trace.specs.declared.drawn_step.What.TheVariants.{At, Asked, Arrived, Bounced, Stopped, Resumed}
+use Rattle.sim_trace.specs.declared.drawn_step.DrawnStep.{DrawnStep}
 
 -- messages are numbered from 1
 abbrev pub label : ℕ → List ℕ
 label number = codes "m" ++ decimal number
 
-abbrev pub message_at : List Message → ℕ → Option Message
+abbrev pub message_at : List DrawnMessage → ℕ → Option DrawnMessage
 message_at messages number = if number == 0 then None else slice_get messages (number - 1)
 
 -- its kind is the first word of what it says, and stands with the number where it fits
 abbrev pub kind : List ℕ → List ℕ
 kind text = before_first (λ c. c == 32) text
 
-abbrev pub long_label : ℕ → Message → List ℕ
+abbrev pub long_label : ℕ → DrawnMessage → List ℕ
 long_label number l = codes "m" ++ (decimal number ++ (codes " " ++ kind (string_bytes l.text)))
 
 -- WHICH COLUMNS' NODES ARE STOPPED after a step: their lines are dotted
@@ -36,17 +36,17 @@ stopped_after columns (Stopped column) stopped = slice_set stopped (place_of col
 stopped_after columns (Resumed column) stopped = slice_set stopped (place_of column columns) false
 
 -- a message, drawn from its sender to its receiver
-unfoldable pub message_row : List Column → List Bool → ℕ → Bool → Message → List ℕ
+unfoldable pub message_row : List Column → List Bool → ℕ → Bool → DrawnMessage → List ℕ
 message_row columns stopped number arrives l = arrow_row stopped (place_of l.from columns) (place_of l.to columns) arrives (label number) (long_label number l)
 
 -- and what it says
-abbrev pub delivery : List Column → List Bool → ℕ → Bool → Option Message → List ℕ
+abbrev pub delivery : List Column → List Bool → ℕ → Bool → Option DrawnMessage → List ℕ
 delivery columns stopped number arrives None = []
 delivery columns stopped number arrives (Some l) = message_row columns stopped number arrives l ++ string_bytes l.text
 
 -- what happened: something at one column; a client asks a node; a message arrives, or comes to a
 -- node that is stopped; a node stops or goes on
-abbrev pub picture : List Column → List Message → List Bool → What → List ℕ
+abbrev pub picture : List Column → List DrawnMessage → List Bool → What → List ℕ
 picture columns messages stopped (At column) = mark_row stopped (place_of column columns)
 picture columns messages stopped (Asked client node) = arrow_row stopped (place_of client columns) (place_of node columns) true (codes "req") (codes "req")
 picture columns messages stopped (Arrived number) = delivery columns stopped number true (message_at messages number)
@@ -63,7 +63,7 @@ abbrev pub sends : ℕ → ℕ → List ℕ
 sends first zero = []
 sends first (suc k) = codes " =>" ++ numbers_from first (suc k)
 
-abbrev pub step_row : List Column → List Message → List Bool → ℕ → ℕ → Step → List ℕ
+abbrev pub step_row : List Column → List DrawnMessage → List Bool → ℕ → ℕ → DrawnStep → List ℕ
 step_row columns messages stopped first count s = picture columns messages stopped s.what ++ string_bytes s.text ++ sends first count ++ codes "\n"
 
 -- a step delivers the message of that number, or tries to
@@ -76,7 +76,7 @@ names_it number (Stopped column) = false
 names_it number (Resumed column) = false
 
 -- for each message, whether some step does
-abbrev pub delivered : List Message → List Step → List Bool
+abbrev pub delivered : List DrawnMessage → List DrawnStep → List Bool
 delivered messages steps = map (λ k. list_any (λ s. names_it (suc k) s.what) steps) (range_with_len 0 (length messages))
 
 -- A message that no step delivers: a reply reaches its client, any other is lost.
@@ -90,7 +90,7 @@ is_client (Client c) = true
 is_client (Node n) = false
 is_client Monitor = false
 
-abbrev pub lost_row : List Column → List Bool → ℕ → Option Message → List ℕ
+abbrev pub lost_row : List Column → List Bool → ℕ → Option DrawnMessage → List ℕ
 lost_row columns stopped number None = []
 lost_row columns stopped number (Some l) = message_row columns stopped number (is_client l.to) l ++ string_bytes l.text ++ fate l.to
 
@@ -98,17 +98,17 @@ abbrev pub lost_unless : Bool → List ℕ → List ℕ
 lost_unless has_arrived row = if has_arrived then [] else row
 
 -- of `k` messages from one on, those that no step delivers
-abbrev pub lost_rows : List Column → List Message → List Bool → List Bool → ℕ → ℕ → List ℕ
+abbrev pub lost_rows : List Column → List DrawnMessage → List Bool → List Bool → ℕ → ℕ → List ℕ
 lost_rows columns messages stopped arrived first zero = []
 lost_rows columns messages stopped arrived first (suc k) =
     lost_rows columns messages stopped arrived first k
     ++ lost_unless (slice_index_or arrived (first + k) false) (lost_row columns stopped (first + k + 1) (slice_get messages (first + k)))
 
 -- the steps, of which the first sent the messages from one on
-abbrev pub sent_by : List Message → ℕ → Step → ℕ
+abbrev pub sent_by : List DrawnMessage → ℕ → DrawnStep → ℕ
 sent_by messages first s = min s.sent (length messages - first)
 
-abbrev pub rows : List Column → List Message → List Bool → List Bool → ℕ → List Step → List ℕ
+abbrev pub rows : List Column → List DrawnMessage → List Bool → List Bool → ℕ → List DrawnStep → List ℕ
 rows columns messages arrived stopped first [] = []
 rows columns messages arrived stopped first (s ∷ ss) =
     let count = sent_by messages first s in
@@ -124,5 +124,5 @@ names [] = codes "event\n"
 names (column ∷ columns) = heading (name column) ++ names columns
 
 -- THE DRAWING.
-abbrev pub drawn : List Message → List Step → List ℕ
+abbrev pub drawn : List DrawnMessage → List DrawnStep → List ℕ
 drawn messages steps = let columns = columns_of messages steps in names columns ++ rows columns messages (delivered messages steps) (replicate (length columns) false) 0 steps

@@ -7,7 +7,7 @@ use std::marker::Model;
 /// A call as a file plans it: its client, object, class, method and input. It keeps the class's
 /// word too: a class that isn't loaded has nothing else.
 #[derive(Drop)]
-pub struct Call {
+pub struct PlannedCall {
     client: ClientId,
     object: ObjectName,
     class: usize,
@@ -16,7 +16,7 @@ pub struct Call {
     input: Vec<u8>,
 }
 
-impl Model for Call {
+impl Model for PlannedCall {
     ghost use Rattle.std.specs.Prelude.{string_bytes};
     ghost use Rattle.cluster_file.specs.Planned.{PlannedCall};
 
@@ -25,7 +25,7 @@ impl Model for Call {
     ghost view = { λ c. record { client = c.client; object = c.object; class = c.class; word = string_bytes c.word; method = string_bytes c.method; input = c.input.items } };
 }
 
-impl Call {
+impl PlannedCall {
     pub(crate) fn new(
         client: ClientId,
         object: ObjectName,
@@ -33,10 +33,10 @@ impl Call {
         word: String,
         method: String,
         input: Vec<u8>,
-    ) -> Call
+    ) -> PlannedCall
         ensures { result ≡ record { client = client; object = object; class = class; word = string_bytes word; method = string_bytes method; input = input.items } }
     {
-        Call {
+        PlannedCall {
             client,
             object,
             class,
