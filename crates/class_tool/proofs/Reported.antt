@@ -1,4 +1,4 @@
--- A call that was made and logged tells of the files.
+-- The report of a call that was made and logged is right for the files.
 use Rattle.std.proofs.Common.{◌≡◌, ℕ, Bool, List, Option, Some, None, Result, Ok, Err, SFits}
 use Rattle.std.specs.Prelude.{IfOk}
 use Rattle.std.specs.Int.{w64}
@@ -24,7 +24,7 @@ IsMade class call input report =
     (outcome : Outcome) × (logged : Logged) × Answers class call.method.now None call.caller input outcome
     × IsLogged class (first_request call.caller call.method.now input) logged × IsOneOutcome outcome logged × IsReportOf call.is_shown logged outcome report
 
--- the outcome of the call and its entry are one
+-- the call and its entry have the same outcome
 pub made : {E : Type 0} → OutcomesAreOne → (class : List ClassMethod) (call : MethodCall) (input : List ℕ) (o : Outcome) → IsClass class
     → Answers class call.method.now None call.caller input o → (r : Result RunReport E)
     → IfOk r (λ report. (logged : Logged) × IsLogged class (first_request call.caller call.method.now input) logged × SFits w64 logged.code × SFits w64 o.code × IsReportOf call.is_shown logged o report)
@@ -33,7 +33,7 @@ made outcomes class call input o is a (Ok report) l =
     (o, l.0, a, l.1, one_outcome outcomes class call.method.now call.caller input o l.0 is a l.1 l.2 l.3, l.4)
 made outcomes class call input o is a (Err e) l = tt
 
--- the same on an object, of the call alone
+-- the same on an object, for the call alone
 abbrev IsMadeBeside : List ClassMethod → MethodCall → Content → List ℕ → RunReport → Type 0
 IsMadeBeside class call object input report =
     (outcome : Outcome) × (logged : Logged) × Answers class call.method.now (Some object) call.caller input outcome × IsOneOutcome outcome logged
@@ -47,7 +47,7 @@ reports_beside is_shown o l (Err e) one said = tt
 
 module _ {E : Type 0} (disk : Option Disk) (call : MethodCall) (class : List ClassMethod) (input : List ℕ) (loaded : IsSafeIn disk call.image.now class)
     (read : decode_of call.input.now ≡ Ok input) where
-  -- of the class that was loaded and the input that was read, on no object
+  -- for the class that was loaded and the input that was read, on no object
   pub reported : (r : Result RunReport E) → Begins disk call None → IfOk r (IsMade class call input) → IfOk r (Reports disk call)
   reported (Ok report) begun m = record {
     class = class;

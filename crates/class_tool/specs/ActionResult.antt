@@ -1,4 +1,4 @@
--- The answer to an action, and the text that is printed of it.
+-- The result of an action, and the text that it prints.
 use Rattle.std.specs.Prelude.{◌≡◌, ℕ, List, [], ◌++◌, codes, length, string_bytes}
 use Rattle.std.specs.List.{flat_map}
 use Rattle.std.specs.Fmt.{decimal}
@@ -19,14 +19,14 @@ use Rattle.class_tool.specs.Run.{SavedReports, SavedRunFails}
 abbrev pub method_line : ClassMethod → List ℕ
 method_line method = method.name ++ codes " ok " ++ decimal (length method.instructions) ++ codes "\n"
 
--- the lines of an answer
+-- the lines of a result
 abbrev pub result_text : ActionResult → List ℕ
 result_text (Accepted class) = flat_map method_line class
 result_text (Ran report) = report_text report
 result_text Assembled = []
 result_text (Disassembled text) = string_bytes text
 
--- The answer is one to that action, true of the files as they were; none was written but the one
+-- The result is right for that action, by the files as they were. No file was written but the one
 -- that is named for the image of a text or of raw code, or for a call's object.
 abbrev pub Settles : Storage → Storage → Action → ActionResult → Type 0
 Settles before after (Verify image) (Accepted class) = (after ≡ before) × IsSafeIn before.disk image.now class
@@ -36,7 +36,7 @@ Settles before after (Pack asked) Assembled = Packs before after asked
 Settles before after (Disassemble image has_slots) (Disassembled text) = (after ≡ before) × IsTextOf has_slots before.disk image.now (string_bytes text)
 Settles before after action answer = ⊥
 
--- Why there is no answer to an action.
+-- Why an action has no result.
 abbrev pub Fails : Storage → Storage → Action → Failure → Type 0
 Fails before after (Verify image) failure = (after ≡ before) × LoadFails before.disk image.now failure
 Fails before after (Run call) failure = SavedRunFails before after call failure

@@ -8,8 +8,8 @@ use Rattle.cluster_file.specs.Planned.{PlannedCall}
 use Rattle.cluster_file.specs.declared.planned_step.PlannedStep.{PlannedStep}
 use Rattle.cluster_file.specs.declared.planned_step.PlannedStep.TheVariants.{Call, Map}
 
--- THE FIRST LINE: `cluster`, and then each key with a number. Which numbers a cluster may have is
--- no matter of form.
+-- THE FIRST LINE: `cluster`, and then each key with a number. A number outside a cluster's limits
+-- doesn't make the line malformed.
 abbrev pub value_in : List ℕ → List ℕ → List ℕ → Option ℕ
 value_in key word value = if bytes_eq word key then number_in value else None
 
@@ -18,12 +18,12 @@ abbrev pub field_in : List ℕ → List (List ℕ) → Option (ℕ × List (List
 field_in key (word ∷ value ∷ rest) = option_map (λ n. (n, rest)) (value_in key word value)
 field_in key _ = None
 
--- nothing is left
+-- the numbers, if no word is left
 abbrev pub ended : ClusterNumbers → List (List ℕ) → Option ClusterNumbers
 ended numbers [] = Some numbers
 ended numbers (word ∷ words) = None
 
--- the last three keys, and all six
+-- the numbers of the last three keys, and of all six
 abbrev pub last_in : ℕ → ℕ → ℕ → List (List ℕ) → Option ClusterNumbers
 last_in nodes replicas groups words =
     option_and_then (λ shards. option_and_then (λ workers. option_and_then
@@ -40,11 +40,11 @@ abbrev pub first_line : List (List ℕ) → Option ClusterNumbers
 first_line [] = None
 first_line (word ∷ words) = if bytes_eq word (codes "cluster") then numbers_in_line words else None
 
--- A CLIENT: one of those so far, or the next one, up to the 64th.
+-- A CLIENT: one of those named so far, or the next one, up to the 64th.
 abbrev pub client_in : ℕ → List ℕ → Option ℕ
 client_in clients word = option_and_then (λ n. if nat_le n (suc clients) && nat_le n 64 then Some n else None) (id_in word)
 
--- the words of a call after its client's: object, class, method, input
+-- the words of a call after its client: object, class, method, input
 abbrev pub call_of : List (List ℕ) → ℕ → List (List ℕ) → Option PlannedCall
 call_of names client (object ∷ class ∷ method ∷ input ∷ []) =
     option_and_then
@@ -56,7 +56,7 @@ abbrev pub call_in : List (List ℕ) → ℕ → List (List ℕ) → Option Plan
 call_in names clients [] = None
 call_in names clients (client ∷ args) = option_and_then (λ c. call_of names c args) (client_in clients client)
 
--- EACH FURTHER LINE: `client`, or `map`, after this number of clients was named above it. A map
+-- EACH FURTHER LINE: `client` or `map`, if the lines above named this number of clients. A map
 -- keeps its line's number.
 abbrev pub step_in : List (List ℕ) → ℕ → ℕ → List (List ℕ) → Option PlannedStep
 step_in names number clients [] = None
@@ -67,13 +67,13 @@ step_in names number clients (word ∷ args) =
 abbrev pub step_of : List (List ℕ) → ℕ → ℕ → List ℕ → Option PlannedStep
 step_of names number clients line = step_in names number clients (words line)
 
--- how many clients are named after a step
+-- the number of clients that are named after a step
 abbrev pub clients_after : ℕ → PlannedStep → ℕ
 clients_after clients (Call call) = if nat_le call.client clients then clients else call.client
 clients_after clients (Map line nodes) = clients
 
--- THE LINES AFTER THE FIRST, the last of which had that number: their steps, or the number of the
--- first that is malformed.
+-- THE LINES AFTER THE FIRST, if the line above them has that number: their steps, or the number of
+-- the first malformed line.
 abbrev pub before_steps : PlannedStep → Result (List PlannedStep) ℕ → Result (List PlannedStep) ℕ
 before_steps step (Ok steps) = Ok (step ∷ steps)
 before_steps step (Err line) = Err line
@@ -87,8 +87,7 @@ steps_of names number clients [] = Ok []
 steps_of names number clients (line ∷ lines) =
     go_on (suc number) (λ step. steps_of names (suc number) (clients_after clients step) lines) (step_of names (suc number) clients line)
 
--- THE FILE, where the classes go by these names: its plan, or the number of its first malformed
--- line.
+-- THE FILE, if the classes have these names: its plan, or the number of its first malformed line.
 pub record FilePlan : Type 0 where
   pub numbers : ClusterNumbers
   pub steps : List PlannedStep
@@ -111,7 +110,7 @@ calls_of client [] = []
 calls_of client (Map line nodes ∷ steps) = calls_of client steps
 calls_of client (Call call ∷ steps) = if nat_le call.client client && nat_le client call.client then call ∷ calls_of client steps else calls_of client steps
 
--- how many clients are named in all
+-- the number of clients that all steps name
 abbrev pub clients_in : ℕ → List PlannedStep → ℕ
 clients_in clients [] = clients
 clients_in clients (step ∷ steps) = clients_in (clients_after clients step) steps

@@ -1,4 +1,4 @@
--- One more of what is put after a text, n times.
+-- What one more line, number or repetition appends to a text.
 use Rattle.std.proofs.Common.{◌≡◌, ℕ, ◌+◌, List, ◌++◌, Bool, false, ap, add-one, codes, slice_get, slice_index_or}
 use Rattle.sim_trace.specs.declared.column.Column.{Column}
 use Rattle.sim_trace.specs.declared.drawn_message.DrawnMessage.{DrawnMessage}

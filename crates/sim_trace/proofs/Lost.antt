@@ -1,4 +1,4 @@
--- The line of a message, where no step delivers it.
+-- The line of a message that no step delivers.
 use Rattle.std.proofs.Common.{◌≡◌, ◌<◌, ◌+◌, ◌++◌, ℕ, Bool, true, false, List, length, Some, refl, sym, ap, ◌∙◌, append-nil, get_or, slice_get}
 use Rattle.std.proofs.lemmas.Option.{slice_get_read}
 use Rattle.sim_trace.specs.declared.column.Column.{Column}

@@ -1,4 +1,4 @@
--- A list of marks is the definition's.
+-- A list of marks equals the definition.
 use Rattle.std.proofs.Common.{◌≡◌, ◌<◌, ℕ, suc, List, Bool, false, length, take, drop, ◌++◌, map, slice_index_or, sym, ◌∙◌, ap, subst, zero-add}
 use Rattle.std.proofs.Math.Seq.{take-append_seam}
 use Rattle.std.proofs.lemmas.List.{ext_get_or}
@@ -17,7 +17,7 @@ delivered_by messages steps arrived e h =
     ext_get_or false arrived (map f (range_with_len 0 n)) (e ∙ sym (length-map-range_with_len f 0 n))
     (subst P (sym e) (λ i lt. h i lt ∙ sym (get_or-map-range_with_len f 0 n i i false lt (zero-add i))))
 
--- the same, where a vector lent its marks
+-- the same for marks that a vector lends
 pub delivered_in : (messages : List DrawnMessage) (steps : List DrawnStep) (before arrived : List Bool) (n : ℕ) → n ≡ length arrived → n ≡ length messages →
     ((k : ℕ) → k < length messages → slice_index_or arrived k false ≡ list_any (λ s. names_it (suc k) s.what) steps) → take n (arrived ++ drop (length arrived) before) ≡ delivered messages steps
 delivered_in messages steps before arrived n same_length all h =

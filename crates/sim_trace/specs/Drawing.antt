@@ -1,5 +1,5 @@
--- The drawing of a run: above it the names of the columns, then a line for each step, and below it
--- one for each message that it sent and that no step delivers.
+-- The drawing of a run: the names of the columns, and then a line for each step. Below a step's
+-- line there is one for each message that the step sent and that no step delivers.
 use Rattle.std.specs.Prelude.{ℕ, zero, suc, ◌+◌, ◌-◌, ◌==◌, min, Bool, true, false, List, [], ◌∷◌, ◌++◌, length, map, Option, Some, None, if◌then◌else◌, slice_get, slice_index_or, slice_set, replicate, codes, string_bytes}
 use Rattle.std.specs.List.{list_any, range_with_len, before_first}
 use Rattle.std.specs.Fmt.{decimal}
@@ -19,14 +19,14 @@ label number = codes "m" ++ decimal number
 abbrev pub message_at : List DrawnMessage → ℕ → Option DrawnMessage
 message_at messages number = if number == 0 then None else slice_get messages (number - 1)
 
--- its kind is the first word of what it says, and stands with the number where it fits
+-- a message's kind is the first word of its text; the long label has the number and the kind
 abbrev pub kind : List ℕ → List ℕ
 kind text = before_first (λ c. c == 32) text
 
 abbrev pub long_label : ℕ → DrawnMessage → List ℕ
 long_label number l = codes "m" ++ (decimal number ++ (codes " " ++ kind (string_bytes l.text)))
 
--- WHICH COLUMNS' NODES ARE STOPPED after a step: their lines are dotted
+-- THE COLUMNS WHOSE NODES ARE STOPPED after a step: their lines are dotted
 abbrev pub stopped_after : List Column → What → List Bool → List Bool
 stopped_after columns (At column) stopped = stopped
 stopped_after columns (Asked client node) stopped = stopped
@@ -39,13 +39,13 @@ stopped_after columns (Resumed column) stopped = slice_set stopped (place_of col
 unfoldable pub message_row : List Column → List Bool → ℕ → Bool → DrawnMessage → List ℕ
 message_row columns stopped number arrives l = arrow_row stopped (place_of l.from columns) (place_of l.to columns) arrives (label number) (long_label number l)
 
--- and what it says
+-- a message that is delivered, and then its text
 abbrev pub delivery : List Column → List Bool → ℕ → Bool → Option DrawnMessage → List ℕ
 delivery columns stopped number arrives None = []
 delivery columns stopped number arrives (Some l) = message_row columns stopped number arrives l ++ string_bytes l.text
 
--- what happened: something at one column; a client asks a node; a message arrives, or comes to a
--- node that is stopped; a node stops or goes on
+-- the picture of an event: something at one column; a client asks a node; a message arrives, or
+-- gets to a node that is stopped; a node stops or goes on
 abbrev pub picture : List Column → List DrawnMessage → List Bool → What → List ℕ
 picture columns messages stopped (At column) = mark_row stopped (place_of column columns)
 picture columns messages stopped (Asked client node) = arrow_row stopped (place_of client columns) (place_of node columns) true (codes "req") (codes "req")
@@ -75,11 +75,11 @@ names_it number (Bounced n) = n == number
 names_it number (Stopped column) = false
 names_it number (Resumed column) = false
 
--- for each message, whether some step does
+-- for each message, whether some step does that
 abbrev pub delivered : List DrawnMessage → List DrawnStep → List Bool
 delivered messages steps = map (λ k. list_any (λ s. names_it (suc k) s.what) steps) (range_with_len 0 (length messages))
 
--- A message that no step delivers: a reply reaches its client, any other is lost.
+-- A message that no step delivers: a reply reaches its client, any other message is lost.
 abbrev pub fate : Column → List ℕ
 fate (Client c) = codes "\n"
 fate (Node n) = codes ", lost\n"
@@ -97,14 +97,14 @@ lost_row columns stopped number (Some l) = message_row columns stopped number (i
 abbrev pub lost_unless : Bool → List ℕ → List ℕ
 lost_unless has_arrived row = if has_arrived then [] else row
 
--- of `k` messages from one on, those that no step delivers
+-- the lines of the messages that no step delivers, among `k` messages from the given one on
 abbrev pub lost_rows : List Column → List DrawnMessage → List Bool → List Bool → ℕ → ℕ → List ℕ
 lost_rows columns messages stopped arrived first zero = []
 lost_rows columns messages stopped arrived first (suc k) =
     lost_rows columns messages stopped arrived first k
     ++ lost_unless (slice_index_or arrived (first + k) false) (lost_row columns stopped (first + k + 1) (slice_get messages (first + k)))
 
--- the steps, of which the first sent the messages from one on
+-- the lines of the steps; the first step sent the messages from the given one on
 abbrev pub sent_by : List DrawnMessage → ℕ → DrawnStep → ℕ
 sent_by messages first s = min s.sent (length messages - first)
 
@@ -115,7 +115,7 @@ rows columns messages arrived stopped first (s ∷ ss) =
     let after = stopped_after columns s.what stopped in
     step_row columns messages after first count s ++ lost_rows columns messages after arrived first count ++ rows columns messages arrived after (first + count) ss
 
--- the names of the columns, each in its cell, and of what stands after them
+-- the line of names: each column's name in its cell, and then `event`
 abbrev pub heading : List ℕ → List ℕ
 heading text = text ++ repeated (12 - length text) (codes " ")
 
