@@ -1,4 +1,4 @@
--- The calls of a session, and of all, one run of them after another.
+-- The calls of one session and of all sessions, first of some steps and then of more.
 use Rattle.std.proofs.Common.{◌≡◌, ◌++◌, ◌∷◌, [], ℕ, suc, ◌+◌, ◌-◌, ◌<◌, ◌≤◌, Bool, true, false, List, Result, take, drop, length, get_or, slice_index_or, slice_range, if◌then◌else◌, nat_le, ◌&&◌, refl, sym, ap, subst, ◌∙◌, append_assoc, arith}
 use Rattle.std.proofs.Math.Seq.{take-suc}
 use Rattle.std.proofs.lemmas.List.{append-nil, drop-take, take-append-drop, take-take}
@@ -16,7 +16,7 @@ kept : (b : Bool) (c : PlannedCall) (xs ys zs : List PlannedCall) → zs ≡ xs 
 kept true c xs ys zs e = ap (λ (l : List PlannedCall). c ∷ l) e
 kept false c xs ys zs e = e
 
--- the calls of two runs of steps
+-- the calls of two lists of steps
 pub calls_of-append : (client : ℕ) (xs ys : List PlannedStep) → calls_of client (xs ++ ys) ≡ calls_of client xs ++ calls_of client ys
 calls_of-append client [] ys = refl
 calls_of-append client (Map line nodes ∷ xs) ys = calls_of-append client xs ys
@@ -91,7 +91,7 @@ steps_between a b xs early =
     subst (λ (l : List PlannedStep). take a xs ++ l ≡ take b xs) d
     (subst (λ (l : List PlannedStep). l ++ drop a (take b xs) ≡ take b xs) (take-take a b xs early) (take-append-drop a (take b xs)))
 
--- a step more
+-- one more step
 pub called_next : (classes : Classes) (steps : List PlannedStep) (k : ℕ) (step : PlannedStep) (a b c : CallerState) → k < length steps → step ≡ get_or steps k step →
     HasCalled classes (take k steps) a b → HasCalled classes (step ∷ []) b c → HasCalled classes (take (k + 1) steps) a c
 called_next classes steps k step a b c within is m n =

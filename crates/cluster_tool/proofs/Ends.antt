@@ -1,4 +1,4 @@
--- The ends of all calls, by what each client's thread did.
+-- The ends of all calls, by the calls that each client's thread made.
 use Rattle.std.proofs.Common.{◌≡◌, ◌++◌, ◌∷◌, [], ℕ, zero, suc, ◌+◌, ◌<◌, ◌≤◌, ◌⊎◌, inl, inr, false, List, Result, Some, length, length-append, map, slice_index_or, refl, sym, ap, subst, ◌∙◌, arith}
 use Rattle.std.specs.List.{All, slice_get}
 use Rattle.std.proofs.Math.Seq.{get_or-append_seam}
@@ -15,7 +15,7 @@ use Rattle.cluster_tool.specs.Callers.{AllCalled, AreNew, CallerState, HasCalled
 use Rattle.osd.specs.declared.config.Config.{Config}
 use Rattle.cluster_tool.specs.Played.{AreDone, AreMapsMade}
 
--- a client whose calls ended so
+-- a client whose calls have these ends
 record IsThere (callers : List CallerState) (at : ℕ) (ends : List (Result PlacedReply ExecError)) : Type 0 where
   pub caller : CallerState
   pub is : slice_get callers at ≡ Some caller
@@ -41,7 +41,7 @@ ends_of classes steps client first last new called whole =
           (subst (λ (k : ℕ). AreCalls classes (calls_of k steps) e.more first.session last.session) new.session.client e.calls);
     }
 
--- new clients made all their calls, and kept how each ended
+-- new clients made all their calls, and kept the end of each
 pub all_ended : (classes : Classes) (steps : List PlannedStep) (clients : ℕ) (olds news : List CallerState) → AreNew clients olds → AllCalled classes steps olds news → All (λ (c : CallerState). c.lost ≡ false) news → AreAllEnds classes steps (map (λ (c : CallerState). c.ends) news)
 all_ended classes steps clients olds news new called whole before ends is =
     let f = found news before ends is in
@@ -78,14 +78,14 @@ each_more P xs n c at before one k d within = each_case P xs n c at before one k
 count_more : (xs : List CallerState) (n : ℕ) (c : CallerState) → length xs ≡ n → length (xs ++ c ∷ []) ≡ n + 1
 count_more xs n c at = length-append xs (c ∷ []) ∙ ap (λ (i : ℕ). i + 1) at
 
--- a new client more
+-- one more new client
 pub new_more : (n : ℕ) (xs ys : List CallerState) (c : CallerState) → AreNew n xs → IsNewCaller (suc n) c → ys ≡ xs ++ c ∷ [] → AreNew (n + 1) ys
 new_more n xs ys c are is grew = subst (λ (l : List CallerState). AreNew (n + 1) l) (sym grew) (record {
   count = count_more xs n c are.count;
   each = each_more (λ (k : ℕ) (x : CallerState). IsNewCaller (suc k) x) xs n c are.count are.each is;
 })
 
--- the ends of a client more
+-- the ends of one more client
 pub ends_more : {V : Type 0} (f : V → List (Result PlacedReply ExecError)) (vs ws : List V) (v : V) (cs : List CallerState) (c : CallerState) →
     ws ≡ vs ++ v ∷ [] → f v ≡ c.ends → map f vs ≡ map (λ (x : CallerState). x.ends) cs → map f ws ≡ map (λ (x : CallerState). x.ends) (cs ++ c ∷ [])
 ends_more {V} f vs ws v cs c grew one so =

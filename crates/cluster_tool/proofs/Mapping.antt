@@ -22,19 +22,19 @@ up_to steps k step within is =
     let w : suc k ≡ k + 1 = omega arith in
     subst (λ (i : ℕ). take i steps ≡ take k steps ++ (step ∷ [])) w u
 
--- a step more
+-- one more step
 made_next : (config : Config) (steps : List PlannedStep) (k : ℕ) (step : PlannedStep) → k < length steps → step ≡ get_or steps k step → AreMapsMade config (take k steps) → IsStepMade config step → AreMapsMade config (take (k + 1) steps)
 made_next config steps k step within is made one =
     subst (λ (l : List PlannedStep). AreMapsMade config l) (sym (up_to steps k step within is)) (more config (take k steps) step made one)
 
--- a map more, of the up nodes that the step has
+-- one more map, of the up nodes of the step
 pub made_map : (config : Config) (steps : List PlannedStep) (k : ℕ) (step : PlannedStep) (line : ℕ) (nodes up : List ℕ) (epoch : ℕ) → k < length steps → step ≡ get_or steps k step → step ≡ Map line nodes → up ≡ nodes →
     AreMapsMade config (take k steps) → WasMade config up epoch → AreMapsMade config (take (k + 1) steps)
 made_map config steps k step line nodes up epoch within is there same made one =
     made_next config steps k step within is made
     (subst (λ (s : PlannedStep). IsStepMade config s) (sym there) (record { epoch = epoch; made = subst (λ (l : List ℕ). WasMade config l epoch) same one }))
 
--- a call more
+-- one more call
 pub made_call : (config : Config) (steps : List PlannedStep) (k : ℕ) (step : PlannedStep) (call : PlannedCall) → k < length steps → step ≡ get_or steps k step → step ≡ Call call →
     AreMapsMade config (take k steps) → AreMapsMade config (take (k + 1) steps)
 made_call config steps k step call within is there made =

@@ -1,4 +1,4 @@
--- The end of a file, by what was printed.
+-- The end of a file, by the text that was printed.
 use Rattle.std.proofs.Common.{◌≡◌, ◌⊎◌, inl, inr, ℕ, List, Option, Some, Bool, Result, Ok, Err, IfOk, string_bytes, sym, subst}
 use Rattle.std.specs.Io.KnownBytes.{Appends}
 use Rattle.pg_log.specs.Log.{Classes}
@@ -30,7 +30,7 @@ was_printed is_shown classes names text printed Refused old new failed fails com
 was_printed is_shown classes names text printed NoMemory old new failed fails comes grew well = absurd (not_printed is_shown classes (plan_of names text) printed (inl comes))
 was_printed is_shown classes names text printed Unprinted old new failed fails comes grew well = absurd (not_printed is_shown classes (plan_of names text) printed (inr comes))
 
--- an outcome that was printed, or not for a write or a flush that failed
+-- a printout that was printed, or that was cut off because a write or a flush failed
 pub ends_so : (is_shown : Bool) (classes : Classes) (names : List (List ℕ)) (text printed : List ℕ) (ending result : ClusteringEnd) (old new : Option (List ℕ)) (failed fails : Bool) →
     IsPrintoutOf is_shown classes (plan_of names text) printed ending → Prints printed ending old new failed fails result → EndsSo is_shown classes names text old new failed fails result
 ends_so is_shown classes names text printed ending result old new failed fails comes (inl p) =
@@ -40,7 +40,7 @@ ends_so is_shown classes names text printed ending result old new failed fails c
     subst (λ (e : ClusteringEnd). EndsSo is_shown classes names text old new failed fails e) (sym p.0)
     (record { printed = printed; ending = ending; comes = comes; begun = p.1; failed = p.2 })
 
--- what was read is the plan, or the line
+-- the result of reading is the plan, or the line
 pub read_as : (is_shown : Bool) (classes : Classes) (r : Result FilePlan ℕ) (plan : FilePlan) (printed : List ℕ) (ending : ClusteringEnd) → IsReading r (APlan plan) → IsPrintoutOf is_shown classes (Ok plan) printed ending → IsPrintoutOf is_shown classes r printed ending
 read_as is_shown classes (Ok q) plan printed ending is comes = subst (λ (x : FilePlan). IsPrintoutOf is_shown classes (Ok x) printed ending) is comes
 read_as is_shown classes (Err line) plan printed ending is comes = absurd is

@@ -13,7 +13,7 @@ use Rattle.cluster_tool.specs.Answers.{AreAllEnds}
 use Rattle.cluster_tool.specs.declared.played.Played.{Played}
 use Rattle.cluster_tool.specs.declared.played.Played.TheVariants.{Done, MapRefused, NoMemory}
 
--- a map of these up nodes was made by the maps of a cluster of these numbers
+-- the maps of a cluster with these numbers made a map of these up nodes
 pub record IsMapMade (config : Config) (nodes : List ℕ) : Type 0 where
   pub epoch : ℕ
   pub made : WasMade config nodes epoch
@@ -28,8 +28,8 @@ abbrev pub AreMapsMade : Config → List PlannedStep → Type 0
 AreMapsMade config [] = ⊤
 AreMapsMade config (step ∷ steps) = IsStepMade config step × AreMapsMade config steps
 
--- The map of that line of the file was refused by the maps of a cluster of these numbers, and it is
--- the first: each map above it was made.
+-- The maps of a cluster with these numbers refused the map of that line of the file. It is the
+-- first one refused: each map above it was made.
 pub record IsMapRefused (config : Config) (steps : List PlannedStep) (line : ℕ) (why : MapError) : Type 0 where
   pub above : List PlannedStep
   pub nodes : List ℕ
@@ -44,9 +44,9 @@ pub record AreDone (classes : Classes) (config : Config) (steps : List PlannedSt
   pub ends : AreAllEnds classes steps all
   pub maps : AreMapsMade config steps
 
--- HOW A PLAN ENDS on a cluster of these numbers, with these classes: each call of each client has
--- its true end, and each map was made; or a map of the plan was refused, the first that is; or
--- memory was refused, or a thread for the workers.
+-- THE END OF A PLAN on a cluster with these numbers and classes: each call of each client has its
+-- true end, and each map was made; or a map of the plan was refused, the first such map; or memory
+-- was refused, or a thread for the workers.
 abbrev pub Plays : Classes → Config → List PlannedStep → Played → Type 0
 Plays classes config steps (Done all) = AreDone classes config steps (map (λ v. v.items) all.items)
 Plays classes config steps (MapRefused line why) = IsMapRefused config steps line why
