@@ -1,4 +1,4 @@
-ghost use Rattle.std.specs.Prelude.{◌≡◌, string_bytes};
+ghost use Rattle.std.specs.Prelude.{◌≡◌};
 
 use object_store::ObjectName;
 use pg_log::ClientId;
@@ -8,12 +8,12 @@ use std::marker::Model;
 /// word too: a class that isn't loaded has nothing else.
 #[derive(Drop)]
 pub struct PlannedCall {
-    client: ClientId,
-    object: ObjectName,
-    class: usize,
-    word: String,
-    method: String,
-    input: Vec<u8>,
+    pub(crate) client: ClientId,
+    pub(crate) object: ObjectName,
+    pub(crate) class: usize,
+    pub(crate) word: String,
+    pub(crate) method: String,
+    pub(crate) input: Vec<u8>,
 }
 
 impl Model for PlannedCall {
@@ -26,26 +26,6 @@ impl Model for PlannedCall {
 }
 
 impl PlannedCall {
-    pub(crate) fn new(
-        client: ClientId,
-        object: ObjectName,
-        class: usize,
-        word: String,
-        method: String,
-        input: Vec<u8>,
-    ) -> PlannedCall
-        ensures { result ≡ record { client = client; object = object; class = class; word = string_bytes word; method = string_bytes method; input = input.items } }
-    {
-        PlannedCall {
-            client,
-            object,
-            class,
-            word,
-            method,
-            input,
-        }
-    }
-
     /// Its client, 1 to 64.
     pub fn client(&self) -> ClientId
         ensures { result ≡ self.now.client }

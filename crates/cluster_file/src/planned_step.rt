@@ -49,11 +49,14 @@ fn call_of(
             let Some(input) = bytes_in(alloc, *input)? else {
                 return Ok(None);
             };
-            let word = String::from_str(alloc, *class)?;
-            let method = String::from_str(alloc, *method)?;
-            let class = class_of(names, *class);
-            let input = input.into_items();
-            Ok(Some(PlannedCall::new(client, object, class, word, method, input)))
+            Ok(Some(PlannedCall {
+                client,
+                object,
+                class: class_of(names, *class),
+                word: String::from_str(alloc, *class)?,
+                method: String::from_str(alloc, *method)?,
+                input: input.into_items(),
+            }))
         }
         _ => Ok(None),
     }

@@ -53,11 +53,11 @@ ended before after old new words (task.Run call e) Usage named (inr un) = absurd
 ended before after old new words (task.Sim s) Done named played = inr (inl (record { simulation = s; named = named; left = played.0; ended = played.1 }))
 ended before after old new words (task.Sim s) Refused named played = inr (inr (inr (inl (record { simulation = s; named = named; left = played.0; ended = played.1 }))))
 ended before after old new words (task.Sim s) Usage named played = absurd played.1
-ended before after old new words (task.Cluster c m) Done named ran =
-    inr (inr (inl (record { asked = c; is_measured = m; named = named; left = ran.0; ended = ran.1 })))
-ended before after old new words (task.Cluster c m) Refused named ran =
-    inr (inr (inr (inr (inl (record { asked = c; is_measured = m; named = named; left = ran.0; ended = ran.1 })))))
-ended before after old new words (task.Cluster c m) Usage named ran = absurd ran.1
+ended before after old new words (task.Cluster c) Done named ran =
+    inr (inr (inl (record { asked = c; named = named; left = ran.0; ended = ran.1 })))
+ended before after old new words (task.Cluster c) Refused named ran =
+    inr (inr (inr (inr (inl (record { asked = c; named = named; left = ran.0; ended = ran.1 })))))
+ended before after old new words (task.Cluster c) Usage named ran = absurd ran.1
 
 -- where they name none, and why was said
 pub explained : (files : Storage) (old new : Stream) (words : List Text) (e : Unparsed) (status : ExitStatus) → ((IsMemory e → ⊥) → AreForNone words)

@@ -92,7 +92,7 @@ TakesTask p (task.Class action is_explained) = TakesAction p action × (is_expla
 TakesTask p (task.Each image is_explained) = TakesEach p image.now × (is_explained ≡ is_set_in p (codes "explain"))
 TakesTask p (task.Run call is_explained) = TakesCall p call × (is_explained ≡ is_set_in p (codes "explain"))
 TakesTask p (task.Sim s) = TakesSim p s
-TakesTask p (task.Cluster c is_measured) = TakesCluster p c × (is_measured ≡ is_set_in p (codes "stats"))
+TakesTask p (task.Cluster c) = TakesCluster p c.clustering × (c.is_measured ≡ is_set_in p (codes "stats"))
 
 -- the subcommand of a task
 abbrev pub subcommand_for : Action → Text
@@ -107,7 +107,7 @@ name_for (task.Class action is_explained) = subcommand_for action
 name_for (task.Each image is_explained) = codes "verify"
 name_for (task.Run call is_explained) = codes "run"
 name_for (task.Sim s) = codes "sim"
-name_for (task.Cluster c is_measured) = codes "cluster"
+name_for (task.Cluster c) = codes "cluster"
 
 -- The subcommand that words name is a task's, and its arguments ask for that task.
 pub record Names (p : Parsed) (task : Task) : Type 0 where

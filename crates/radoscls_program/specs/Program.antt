@@ -12,7 +12,6 @@ use Rattle.class_tool.specs.declared.action_result.ActionResult.{ActionResult}
 use Rattle.class_tool.specs.declared.failure.Failure.{Failure}
 use Rattle.class_tool.specs.declared.failure.Failure.TheVariants.{NoMemory}
 use Rattle.sim.specs.declared.asked.Simulation.{Simulation}
-use Rattle.cluster_tool.specs.declared.asked.Clustering.{Clustering}
 use Rattle.radoscls_program.specs.Clustered.{ClusterEnds}
 use Rattle.radoscls_program.specs.Asked.{AreFor, AreForNone}
 use Rattle.radoscls_program.specs.Judged.{EachEnds}
@@ -20,6 +19,7 @@ use Rattle.radoscls_program.specs.Playing.{SimEnds}
 use Rattle.radoscls_program.specs.Streams.{Stream, Took, Lost, IsPrinted, failure_line}
 use Rattle.radoscls_program.specs.declared.status.ExitStatus.{ExitStatus}
 use Rattle.radoscls_program.specs.declared.status.ExitStatus.TheVariants.{Done, Refused, Usage}
+use Rattle.radoscls_program.specs.declared.task.ClusterTask.{ClusterTask}
 use Rattle.radoscls_program.specs.declared.task.Task.{Task}
 use Rattle.radoscls_program.specs.declared.task.Task.TheVariants as task
 use Rattle.radoscls_program.specs.Values.{FillFails, IsFilled}
@@ -117,11 +117,10 @@ pub record IsPlayed (before after : Storage) (old new : Stream) (words : List Te
 
 -- The words name a file of calls and maps, which was played so; no file changed.
 pub record IsRun (before after : Storage) (old new : Stream) (words : List Text) (status : ExitStatus) : Type 0 where
-  pub asked : Clustering
-  pub is_measured : Bool
-  pub named : AreFor words (task.Cluster asked is_measured)
+  pub asked : ClusterTask
+  pub named : AreFor words (task.Cluster asked)
   pub left : after ≡ before
-  pub ended : ClusterEnds before.disk old new asked status
+  pub ended : ClusterEnds before.disk old new asked.clustering status
 
 -- why the program ended with 0
 abbrev pub IsDone : Storage → Storage → Stream → Stream → List Text → Type 0
@@ -196,4 +195,4 @@ TaskEnds before after old new (task.Class action is_explained) status = Acts bef
 TaskEnds before after old new (task.Each image is_explained) status = (after ≡ before) × EachEnds before.disk old new image.now is_explained status
 TaskEnds before after old new (task.Run call is_explained) status = CallEnds before after old new call is_explained status
 TaskEnds before after old new (task.Sim simulation) status = (after ≡ before) × SimEnds before.disk old new simulation status
-TaskEnds before after old new (task.Cluster asked is_measured) status = (after ≡ before) × ClusterEnds before.disk old new asked status
+TaskEnds before after old new (task.Cluster asked) status = (after ≡ before) × ClusterEnds before.disk old new asked.clustering status

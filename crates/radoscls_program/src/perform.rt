@@ -11,13 +11,13 @@ ghost use Rattle.radoscls_program.specs.declared.status.ExitStatus.{ExitStatus a
 use crate::asked::asked;
 use crate::judging::judge;
 use crate::status::ExitStatus;
-use crate::task::Task;
+use crate::task::{ClusterTask, Task};
 use crate::threads::play_cluster;
 use crate::values::{call_with, filled};
 use class_tool::{
     Action, ActionResult, Failure, Files, MethodCall, Output, Reads, find, find_noted,
 };
-use cluster_tool::{Clustering, Figures, Meter};
+use cluster_tool::{Figures, Meter};
 use command_line::Unparsed;
 use sim::{Simulation, SimulationEnd, simulate};
 use std::alloc::Global;
@@ -152,20 +152,23 @@ fn play<F: Reads, O: Output>(
 fn measure<R: AllocGlobal + Threads + Wait + Clock + Sync, F: Reads, O: Output, E: io::Write>(
     rt: &R,
     files: &F,
-    asked: &Clustering<'_>,
-    is_measured: bool,
+    task: &ClusterTask<'_>,
     out: &mut O,
     err: &mut E,
 ) -> ExitStatus
-    ensures { ClusterEnds (F.disk files.now) (stream O.printed O.failed out.old) (stream O.printed O.failed out.new) asked.now result }
+    ensures { ClusterEnds (F.disk files.now) (stream O.printed O.failed out.old) (stream O.printed O.failed out.new) task.now.clustering result }
 {
     let figures = Figures::new();
-    let lines = if is_measured { Some(&mut *err) } else { None };
+    let lines = if task.is_measured {
+        Some(&mut *err)
+    } else {
+        None
+    };
     let mut meter = Meter::new(&figures, lines);
-    let status = play_cluster(rt, files, asked, &mut meter, out);
+    let status = play_cluster(rt, files, &task.clustering, &mut meter, out);
     // The meter wrote to `err` too.
     drop(meter);
-    if is_measured && status == ExitStatus::Done {
+    if task.is_measured && status == ExitStatus::Done {
         let _ = write!(err, "{figures}");
     }
     status
@@ -188,7 +191,7 @@ fn do_task<R: AllocGlobal + Threads + Wait + Clock + Sync, F: Files, O: Output, 
         Task::Each(image, is_explained) => judge(alloc, files, image, *is_explained, out),
         Task::Run(call, is_explained) => act_call(alloc, files, call, *is_explained, out),
         Task::Sim(simulation) => play(alloc, files, simulation, out),
-        Task::Cluster(asked, is_measured) => measure(rt, files, asked, *is_measured, out, err),
+        Task::Cluster(cluster) => measure(rt, files, cluster, out, err),
     }
 }
 

@@ -2,6 +2,15 @@ use class_tool::{Action, MethodCall};
 use cluster_tool::Clustering;
 use sim::Simulation;
 
+/// A file of calls and maps, to be played on a cluster in threads.
+#[derive(Drop)]
+pub(crate) struct ClusterTask<'a> {
+    /// The run.
+    pub(crate) clustering: Clustering<'a>,
+    /// True if its figures are written.
+    pub(crate) is_measured: bool,
+}
+
 /// A task that words ask for.
 #[derive(Drop)]
 pub(crate) enum Task<'a> {
@@ -14,5 +23,5 @@ pub(crate) enum Task<'a> {
     /// A file of events, played.
     Sim(Simulation<'a>),
     /// A file of calls and maps, played on a cluster in threads.
-    Cluster(Clustering<'a>, bool),
+    Cluster(ClusterTask<'a>),
 }
