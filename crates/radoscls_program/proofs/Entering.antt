@@ -6,14 +6,14 @@ use Rattle.command_line.specs.Parsed.{Text}
 use Rattle.class_tool.specs.declared.action.NamedValue.{NamedValue}
 use Rattle.radoscls_program.specs.Entries.{AreEntries, IsEntry}
 
--- one more
+-- one more entry
 one_more : (texts : List Text) (es : List NamedValue) (text : Text) (e : NamedValue) → AreEntries texts es → IsEntry text e → AreEntries (texts ++ text ∷ []) (es ++ e ∷ [])
 one_more [] [] text e are is = (is, tt)
 one_more [] (n ∷ ns) text e are is = absurd are
 one_more (t ∷ ts) [] text e are is = absurd are
 one_more (t ∷ ts) (n ∷ ns) text e are is = (are.0, one_more ts ns text e are.1 is)
 
--- a text among them that spells none
+-- a text among them that spells no entry
 one_spells_none : (first : List Text) (text : Text) (rest : List Text) → ((e : NamedValue) → IsEntry text e → ⊥)
     → (es : List NamedValue) → AreEntries (first ++ text ∷ rest) es → ⊥
 one_spells_none [] text rest none [] are = are
@@ -31,7 +31,7 @@ module _ {X : Type 0} (f : X → Text) where
       ap (λ n. map f (take n texts)) one ∙ ap (map f) (take-suc texts i d within) ∙ map-append f (take i texts) (get_or texts i d ∷ []) in
       subst (λ (ts : List Text). AreEntries ts (es ++ e ∷ [])) (sym longer) (one_more (map f (take i texts)) es (f (get_or texts i d)) e are is)
 
-  -- where the next text spells none, they spell none
+  -- if the next text spells no entry, the texts spell none
   pub next_enters_none : (texts : List X) (i : ℕ) (d : X) → i < length texts → ((e : NamedValue) → IsEntry (f (get_or texts i d)) e → ⊥)
       → (es : List NamedValue) → AreEntries (map f texts) es → ⊥
   next_enters_none texts i d within none es are =

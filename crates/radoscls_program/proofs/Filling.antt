@@ -9,7 +9,7 @@ use Rattle.command_line.specs.Parsed.{Text}
 use Rattle.radoscls_program.specs.Values.{AreValues, EntriesFail, IsValue, ValueFails, entry_texts, filled_texts}
 use Rattle.radoscls_program.specs.declared.values.FilledEntry.{FilledEntry}
 
--- one more
+-- one more value
 one_more : (disk : Option Disk) (es fs : List (Text × Text)) (e f : Text × Text) → AreValues disk es fs → f.0 ≡ e.0 → IsValue disk e.1 f.1
     → AreValues disk (es ++ e ∷ []) (fs ++ f ∷ [])
 one_more disk [] [] e f are name value = (name, value, tt)
@@ -30,7 +30,7 @@ next_filled disk es i d fs f within are name value =
     (subst (λ (ys : List (Text × Text)). AreValues disk (map entry_texts (take i es) ++ entry_texts (get_or es i d) ∷ []) ys) (sym more)
     (one_more disk (map entry_texts (take i es)) (map filled_texts fs) (entry_texts (get_or es i d)) (filled_texts f) are name value))
 
--- the next one fails
+-- the next value fails
 pub next_fails : (disk : Option Disk) (es : List NamedValue) (i : ℕ) (d : NamedValue) (e : Failure) → i < length es → ValueFails disk (get_or es i d).value.now e
     → EntriesFail disk (map entry_texts es) e
 next_fails disk es i d e within (inl memory) = inl memory

@@ -29,8 +29,8 @@ pub record TakesPacking (p : Parsed) (asked : Packing) : Type 0 where
   pub rules : option_and_then rules_named (one_in p (codes "rules")) ≡ Some asked.rules
   pub methods : AreRaw (all_in p (codes "METHOD")) asked.methods.items
 
--- `run` takes, but for the object: the file IN of the image, METHOD, the bytes that --input spells,
--- and the client of the number --caller.
+-- `run` takes, not counting the object: the file IN of the image, METHOD, the bytes that --input
+-- spells, and the client with the number --caller.
 pub record TakesPlain (p : Parsed) (call : Plain) : Type 0 where
   pub image : one_in p (codes "IN") ≡ Some call.image.now
   pub method : one_in p (codes "METHOD") ≡ Some call.method.now
@@ -40,14 +40,14 @@ pub record TakesPlain (p : Parsed) (call : Plain) : Type 0 where
 abbrev pub plain_of : MethodCall → Plain
 plain_of call = record { image = call.image; method = call.method; input = call.input; caller = call.caller }
 
--- The object is that of a file, --load, or that of words.
+-- The object is that of the file --load, or that of words.
 abbrev pub loads_alone : Parsed → Bool
 loads_alone p =
     is_none (one_in p (codes "load"))
     || (is_none (one_in p (codes "object")) && ((length (all_in p (codes "xattr")) == 0) && (length (all_in p (codes "key")) == 0)))
 
 -- `run` takes that, the object's data --object, an xattr of each --xattr and a key of each --key,
--- the files --load and --save, and whether --show is there. Values may be files'.
+-- the files --load and --save, and whether --show is there. A file may hold a value.
 pub record TakesCall (p : Parsed) (call : MethodCall) : Type 0 where
   pub plain : TakesPlain p (plain_of call)
   pub data_text : one_in p (codes "object") ≡ option_map (λ t. t.now) call.data
@@ -58,9 +58,9 @@ pub record TakesCall (p : Parsed) (call : MethodCall) : Type 0 where
   pub alone : loads_alone p ≡ true
   pub shown : call.is_shown ≡ is_set_in p (codes "show")
 
--- Each action but a call takes: to tell whether a class is safe, the file IN, without --all; to
--- assemble a text, the file IN and the file OUT of the image; to pack raw code, as `pack`; to give
--- the text of a class, the file IN, with slots if --slots is there.
+-- The arguments of each action but a call: to tell whether a class is safe, the file IN, without
+-- --all; to assemble a text, the file IN and the file OUT of the image; to pack raw code, those of
+-- `pack`; to give the text of a class, the file IN, with slots if --slots is there.
 abbrev pub TakesAction : Parsed → Action → Type 0
 TakesAction p (Verify image) = (one_in p (codes "IN") ≡ Some image.now) × (is_set_in p (codes "all") ≡ false)
 TakesAction p (Run call) = ⊥

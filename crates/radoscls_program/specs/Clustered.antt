@@ -11,7 +11,7 @@ use Rattle.radoscls_program.specs.Streams.{Stream, IsPrinted, failure_line}
 use Rattle.radoscls_program.specs.declared.status.ExitStatus.{ExitStatus}
 use Rattle.radoscls_program.specs.declared.status.ExitStatus.TheVariants.{Done, Refused, Usage}
 
--- it was played to that ending
+-- the file was played to that end
 abbrev pub Ran : Option Disk → Stream → Stream → Clustering → ClusteringEnd → Type 0
 Ran disk old new c ending = Clusters disk c old.printed new.printed old.failed new.failed ending
 
@@ -23,9 +23,9 @@ IsCut disk old new c = (middle : Stream) × Ran disk old middle c ending.NoMemor
 abbrev pub IsBarred : Option Disk → Stream → Stream → Clustering → Type 0
 IsBarred disk old new c = (failure : Failure) × ClusteringFails disk c failure × IsPrinted old new (failure_line failure)
 
--- The ends of a run of a file: each call was made, and its line printed by the answer that its
--- session gave; or a line is bad, the cluster or a map is refused, a write or a flush failed,
--- memory was refused, or nothing was done.
+-- The ends of a run of a file: each call was made, and its line shows the answer that its session
+-- gave; or a line is bad, the cluster or a map is refused, a write or a flush failed, memory was
+-- refused, or nothing was done.
 abbrev pub ClusterEnds : Option Disk → Stream → Stream → Clustering → ExitStatus → Type 0
 ClusterEnds disk old new c Done = Ran disk old new c ending.Done
 ClusterEnds disk old new c Refused =

@@ -5,7 +5,7 @@ use Rattle.command_line.specs.Parsed.{Text}
 use Rattle.class_tool.specs.declared.action.NamedValue.{NamedValue}
 use Rattle.radoscls_program.specs.Tenants.{image_in, is_equals, name_in}
 
--- a text spells that entry: its name stands before the first `=`, its value after it
+-- a text spells that entry: the name is before the first `=`, and the value after it
 pub record IsEntry (text : Text) (e : NamedValue) : Type 0 where
   pub ends : list_any is_equals text ≡ true
   pub name : e.name.now ≡ name_in text

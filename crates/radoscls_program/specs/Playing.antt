@@ -11,7 +11,7 @@ use Rattle.radoscls_program.specs.Streams.{Stream, IsPrinted, failure_line}
 use Rattle.radoscls_program.specs.declared.status.ExitStatus.{ExitStatus}
 use Rattle.radoscls_program.specs.declared.status.ExitStatus.TheVariants.{Done, Refused, Usage}
 
--- it was played to that ending
+-- the file was played to that end
 abbrev pub Plays : Option Disk → Stream → Stream → Simulation → SimulationEnd → Type 0
 Plays disk old new s ending = Simulates disk s old.printed new.printed old.failed new.failed ending
 

@@ -1,4 +1,4 @@
--- The ends of the program, and the text and files that it wrote.
+-- How the program ends, and the text and the files that it writes.
 use Rattle.std.specs.Prelude.{◌≡◌, ◌⊎◌, ◌++◌, ℕ, Bool, List, [], Option, Result, Ok, Err, true, false}
 use Rattle.std.specs.Borrow.{Bor}
 use Rattle.command_line.specs.Parsed.{Text}
@@ -24,7 +24,7 @@ use Rattle.radoscls_program.specs.declared.task.Task.{Task}
 use Rattle.radoscls_program.specs.declared.task.Task.TheVariants as task
 use Rattle.radoscls_program.specs.Values.{FillFails, IsFilled}
 
--- The words ask for that action; of a call, with its values in hexadecimal.
+-- The words ask for that action; a call has its values in hexadecimal.
 pub record IsCallNamed (disk : Option Disk) (words : List Text) (action : Action) (is_explained : Bool) : Type 0 where
   pub call : MethodCall
   pub named : AreFor words (task.Run call is_explained)
@@ -39,7 +39,7 @@ IsNamed disk words action is_explained = AreFor words (task.Class action is_expl
 abbrev pub IsEachNamed : List Text → Text → Bool → Type 0
 IsEachNamed words image is_explained = (file : Bor Text) × AreFor words (task.Each file is_explained) × (image ≡ file.now)
 
--- There was a true answer to the action that the words name, and its lines were printed.
+-- The action that the words name has a result, and its lines were printed.
 pub record IsAnswered (before after : Storage) (old new : Stream) (words : List Text) : Type 0 where
   pub action : Action
   pub is_explained : Bool
@@ -48,13 +48,13 @@ pub record IsAnswered (before after : Storage) (old new : Stream) (words : List 
   pub settles : Settles before after action answer
   pub printed : Took old new (result_text answer)
 
--- what is printed after a failure's line, where that is asked for
+-- the note after a failure's line, if it is asked for
 abbrev pub IsNoteAsked : Bool → Option Disk → Action → Failure → List ℕ → Type 0
 IsNoteAsked false disk action failure note = note ≡ []
 IsNoteAsked true disk action failure note = IsNote disk action failure note
 
--- There was a reason against the action that the words name, and its line was printed, with
--- --explain the note below it.
+-- The action that the words name failed, and the line of its failure was printed; with --explain a
+-- note follows.
 pub record IsFailed (before after : Storage) (old new : Stream) (words : List Text) : Type 0 where
   pub action : Action
   pub is_explained : Bool
@@ -65,8 +65,8 @@ pub record IsFailed (before after : Storage) (old new : Stream) (words : List Te
   pub noted : IsNoteAsked is_explained before.disk action failure note
   pub printed : IsPrinted old new (failure_line failure ++ note)
 
--- There was a true answer, a beginning of its lines was printed, and a write or a flush of standard
--- output failed.
+-- The action has a result, a beginning of its lines was printed, and a write or a flush of
+-- standard output failed.
 pub record IsUnprinted (before after : Storage) (old new : Stream) (words : List Text) : Type 0 where
   pub action : Action
   pub is_explained : Bool
@@ -75,7 +75,7 @@ pub record IsUnprinted (before after : Storage) (old new : Stream) (words : List
   pub settles : Settles before after action answer
   pub unprinted : Lost old new (result_text answer)
 
--- what is printed after the line of a value's file that can't be read, if that is asked for
+-- the note after the line for a value's file that can't be read, if it is asked for
 abbrev pub IsFileNoteAsked : Bool → Failure → List ℕ → Type 0
 IsFileNoteAsked false failure note = note ≡ []
 IsFileNoteAsked true failure note = IsSystemNote failure note
@@ -100,7 +100,7 @@ pub record IsValueless (before after : Storage) (old new : Stream) (words : List
 abbrev pub IsUnread : Storage → Storage → Stream → Stream → Type 0
 IsUnread before after old new = (after ≡ before) × IsPrinted old new (failure_line NoMemory)
 
--- The words name a class, whose methods were judged so; no file changed.
+-- The words name a class, and its methods were judged with this end; no file changed.
 pub record IsEach (before after : Storage) (old new : Stream) (words : List Text) (status : ExitStatus) : Type 0 where
   pub image : Text
   pub is_explained : Bool
@@ -108,14 +108,14 @@ pub record IsEach (before after : Storage) (old new : Stream) (words : List Text
   pub left : after ≡ before
   pub ended : EachEnds before.disk old new image is_explained status
 
--- The words name a file of events, which was played so; no file changed.
+-- The words name a file of events, and it was played with this end; no file changed.
 pub record IsPlayed (before after : Storage) (old new : Stream) (words : List Text) (status : ExitStatus) : Type 0 where
   pub simulation : Simulation
   pub named : AreFor words (task.Sim simulation)
   pub left : after ≡ before
   pub ended : SimEnds before.disk old new simulation status
 
--- The words name a file of calls and maps, which was played so; no file changed.
+-- The words name a file of calls and maps, and it was played with this end; no file changed.
 pub record IsRun (before after : Storage) (old new : Stream) (words : List Text) (status : ExitStatus) : Type 0 where
   pub asked : ClusterTask
   pub named : AreFor words (task.Cluster asked)
@@ -135,13 +135,13 @@ IsRefused before after old new words =
     ⊎ IsPlayed before after old new words Refused ⊎ IsRun before after old new words Refused ⊎ IsValueless before after old new words
     ⊎ IsEach before after old new words Refused
 
--- The words are at fault or ask for help; nothing was done or printed on standard output.
+-- The words have a fault or ask for help; nothing was done or printed on standard output.
 pub record IsUsage (before after : Storage) (old new : Stream) (words : List Text) : Type 0 where
   pub unasked : AreForNone words
   pub left : after ≡ before
   pub silent : new ≡ old
 
--- how an ending came about
+-- what each exit status says
 abbrev pub Ends : Storage → Storage → Stream → Stream → List Text → ExitStatus → Type 0
 Ends before after old new words Done = IsDone before after old new words
 Ends before after old new words Refused = IsRefused before after old new words
@@ -154,11 +154,12 @@ IsUnstarted before after old new Done = ⊥
 IsUnstarted before after old new Refused = IsUnread before after old new
 IsUnstarted before after old new Usage = (after ≡ before) × (new ≡ old)
 
--- how a process ends: as words ask, or without words
+-- the end of a process: as its words ask, or without words
 abbrev pub Starts : Storage → Storage → Stream → Stream → ExitStatus → Type 0
 Starts before after old new status = ((words : List Text) × Ends before after old new words status) ⊎ IsUnstarted before after old new status
 
--- an answer or a failure's line was printed; or a beginning of it was, and a write or a flush failed
+-- the lines of a result or a failure were printed; or a beginning of them was printed, and a write
+-- or a flush failed
 abbrev pub Responds : Stream → Stream → Result ActionResult Failure → List ℕ → ExitStatus → Type 0
 Responds old new (Ok answer) note Done = Took old new (result_text answer)
 Responds old new (Ok answer) note Refused = Lost old new (result_text answer)
@@ -167,8 +168,8 @@ Responds old new (Err failure) note Done = ⊥
 Responds old new (Err failure) note Refused = IsPrinted old new (failure_line failure ++ note)
 Responds old new (Err failure) note Usage = ⊥
 
--- what is done of a task: an action is answered or fails, and that is printed; methods are judged, a
--- file of events, or of calls and maps, is played, and no file changes
+-- what a task does: an action has a result or fails, and that is printed; methods are judged, or a
+-- file of events or of calls and maps is played, and no file changes
 abbrev pub Found : Storage → Storage → Action → Bool → Result ActionResult Failure → List ℕ → Type 0
 Found before after action is_explained (Ok answer) note = Settles before after action answer
 Found before after action is_explained (Err failure) note = Fails before after action failure × IsNoteAsked is_explained before.disk action failure note
@@ -185,7 +186,7 @@ pub record ActsOn (before after : Storage) (old new : Stream) (call : MethodCall
   pub values : IsFilled before.disk call filled
   pub acts : Acts before after old new (Run filled) is_explained status
 
--- or a line says why not
+-- the end of a call: it is made, or a line says why not
 abbrev pub CallEnds : Storage → Storage → Stream → Stream → MethodCall → Bool → ExitStatus → Type 0
 CallEnds before after old new call is_explained status =
     ActsOn before after old new call is_explained status ⊎ ((status ≡ Refused) × IsUnfilled before after old new call is_explained)

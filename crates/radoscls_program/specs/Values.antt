@@ -1,4 +1,4 @@
--- The values of a call: digits as words have them, no byte for `-`, or after `@` a file's bytes.
+-- The values of a call: the digits of a word, no bytes for `-`, or the bytes of the file after `@`.
 use Rattle.std.specs.Prelude.{◌≡◌, ◌⊎◌, ◌++◌, ⊤, ℕ, Bool, true, false, List, [], ◌∷◌, Option, Some, None, option_map, string_bytes, map}
 use Rattle.std.specs.Borrow.{Bor}
 use Rattle.hex.specs.Hex.{encode_lower}
@@ -12,8 +12,8 @@ use Rattle.radoscls_program.specs.Inputs.{file_of, is_input}
 use Rattle.radoscls_program.specs.declared.values.FilledCall.{FilledCall}
 use Rattle.radoscls_program.specs.declared.values.FilledEntry.{FilledEntry}
 
--- the digits are those of the file's bytes; of a longer file those of the first 65,537, more than
--- any value may have
+-- the digits are those of the file's bytes; of a longer file, those of the first 65,537 bytes,
+-- which are more than any value may have
 pub record IsFileValue (disk : Option Disk) (file digits : Text) : Type 0 where
   pub bytes : List ℕ
   pub begun : IsBeginning disk file 65537 bytes
@@ -82,7 +82,7 @@ pub record HasValues (disk : Option Disk) (call : MethodCall) (filled : FilledCa
   pub xattrs : AreValues disk (map entry_texts call.xattrs.items) (map filled_texts filled.xattrs.items)
   pub keys : AreValues disk (map entry_texts call.keys.items) (map filled_texts filled.keys.items)
 
--- One is the other with its values in hexadecimal.
+-- The one call is the other with its values in hexadecimal.
 pub record IsFilled (disk : Option Disk) (call filled : MethodCall) : Type 0 where
   pub image : filled.image.now ≡ call.image.now
   pub method : filled.method.now ≡ call.method.now
