@@ -1,4 +1,4 @@
--- A group of one request tells why a call is refused, and that both are of one outcome.
+-- A group of one request tells why a call is refused, and it has the same outcome as the call.
 use Rattle.std.proofs.Common.{◌≡◌, ◌⊎◌, inl, inr, ℕ, ℤ, ◌^◌, ◌<◌, true, false, cond, nat_lt, List, [], ◌∷◌, length, Option, Some, None, Err, refl, ap, sym, ◌∙◌, subst, SFits, arith}
 use Rattle.std.specs.List.{AllByRecursion}
 use Rattle.std.specs.FinMap as fin
@@ -23,7 +23,7 @@ use Rattle.pg_log.specs.Log.{Reply, outcome, outcome_of_method}
 use Rattle.pg_log.specs.Refusals.{answer_of, append_answer, refusal_of_method}
 use Rattle.class_tool.specs.declared.log.Logged.{Logged}
 use Rattle.class_tool.specs.Log.{CallRefused, IsLogged, first_request, refusal_of}
-use Rattle.class_tool.specs.Reply.{IsOneOutcome}
+use Rattle.class_tool.specs.RunReport.{IsOneOutcome}
 
 no_method : (m : Option ClassMethod) (r : ClientRequest) → answer_of None (refusal_of_method m r) 0 ≡ Err NoMethod → m ≡ None
 no_method None r e = refl
@@ -34,7 +34,7 @@ too_long : (m : Option ClassMethod) (r : ClientRequest) → answer_of None (refu
 too_long None r e = cc
 too_long (Some m) r e = (m, refl, grind (arith, nat_tests, e))
 
--- a refused append is a refused call of the name
+-- a refused append is a refused call, with the same name
 pub call_refused : (class : List ClassMethod) (method input : List ℕ) (caller : ℕ) (e : LogError) (x : CallError) → refusal_of x ≡ e
     → (append_answer (class ∷ []) [] (first_request caller method input) ≡ Err e) ⊎ (e ≡ NoMemory) → CallRefused class method input x
 call_refused class method input caller e call.NoMethod named (inl answer) =
@@ -62,7 +62,7 @@ method_outcome m o object r e = ap (λ w. outcome_of_method w object r) e
 same_code : (a b : ℤ) → SFits w64 a → SFits w64 b → cast_unsigned w64 a ≡ cast_unsigned w64 b → a ≡ b
 same_code a b ha hb e = sym (to_z-of_z w64 a ha) ∙ ap (cast_signed w64) e ∙ to_z-of_z w64 b hb
 
--- the entry and the call are of one outcome
+-- the entry and the call have the same outcome
 pub one_outcome : OutcomesAreOne → (class : List ClassMethod) (name : List ℕ) (caller : ℕ) (input : List ℕ) (o : Outcome) (l : Logged) → IsClass class
     → Answers class name None caller input o → IsLogged class (first_request caller name input) l → SFits w64 l.code → SFits w64 o.code → IsOneOutcome o l
 one_outcome outcomes class name caller input o l is a logged hl ho =

@@ -70,7 +70,7 @@ refused_in law (Some disk) name bytes (failure.ObjectLine line) b r = absurd r
 refused_in law (Some disk) name bytes (failure.Object error) b r = absurd r
 refused_in law (Some disk) name bytes (failure.Call error) b r = absurd r
 
--- why a beginning says no class, the file can't be read as one
+-- the reason why a beginning is of no class is the reason why the file is of none
 pub read_fails : ReadLaw → (disk : Option Disk) (name bytes : List ℕ) (e : Failure) → IsBeginning disk name (IMAGE_LIMIT + 1) bytes → IsMemory e ⊎ SayNone bytes e → ReadFails disk name e
 read_fails law disk name bytes failure.CannotRead b (inl m) = absurd m
 read_fails law disk name bytes failure.CannotRead b (inr r) = absurd r
@@ -98,7 +98,7 @@ verdict_in disk name source refusal class same read verdict =
       verdict = subst (λ (c : Class). (refusal ≡ out_of_memory) ⊎ (class_verdict c ≡ Some refusal)) same verdict;
     }
 
--- the note of a beginning that says no class is that of the file
+-- the note of a beginning of no class is the note of the file
 pub note_in : (disk : Option Disk) (name bytes : List ℕ) (e : Failure) (note : List ℕ) → IsBeginning disk name (IMAGE_LIMIT + 1) bytes → IsMemory e ⊎ SayNone bytes e → IsFaultNote bytes e note → IsReadNote disk name e note
 note_in None name bytes (failure.Text error) note b o is = record { text = bytes; held = tt; same = is }
 note_in (Some disk) name bytes (failure.Text error) note b (inl lack) is =

@@ -1,4 +1,4 @@
--- A name that is printed as text is one.
+-- A name that is printed as text is a text.
 use Rattle.std.proofs.Common.{◌≡◌, ℕ, zero, suc, ◌<◌, Bool, true, false, ◌||◌, ◌&&◌, List, [], ◌∷◌, refl, arith}
 use Rattle.std.specs.Prelude.{not, IsUtf8}
 use Rattle.std.specs.List.{list_any}

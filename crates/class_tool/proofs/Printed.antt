@@ -28,7 +28,7 @@ part_begun a b c n k text first begun =
       grew = part_more a b c n (min begun.count k) text first (subst (Appends b c) (take_both begun.count k (drop n text)) begun.grew);
     }
 
--- where a part isn't full, the text is at its end
+-- if a part isn't full, the text is at its end
 pub part_last : (n k : ℕ) (text : List ℕ) → length (take k (drop n text)) < k → take (n + k) text ≡ text
 part_last n k text short =
     take_all (n + k) text (omega (arith, length-take k (drop n text), length-drop n text))

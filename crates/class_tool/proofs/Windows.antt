@@ -7,7 +7,7 @@ use Rattle.std.specs.Fmt.{WritesInCalls}
 use Rattle.class_tool.specs.Window.{Sees, shown}
 use Rattle.class_tool.specs.declared.window.Window.{Window}
 
--- what is added
+-- the text that is added
 pub filled : (room at count : ℕ) (front rest : List ℕ) → length front ≡ at → at ≤ room → count ≡ min (length rest) (room - at) → front ++ take count rest ≡ take room (front ++ rest)
 filled room at count front rest e within is =
     let same : count ≡ min (room - at) (length rest) = omega arith in
@@ -54,7 +54,7 @@ seen_all room w (part ∷ parts) v within calls =
     let fits : length (shown calls.0) ≤ room = rw calls.1.shown (omega (arith, length-take room (shown w ++ drop w.skip part))) in
     seen_more room w calls.0 v part (concat parts) calls.1 (seen_all room calls.0 parts v fits calls.2)
 
--- what a window that showed nothing shows of a text
+-- the part of a text that an empty window shows
 pub seen : (room skip : ℕ) (w v : Window) (text : List ℕ) → shown w ≡ [] → w.skip ≡ skip → WritesInCalls (Sees room) w text v → shown v ≡ take room (drop skip text)
 seen room skip w v text none is written =
     let fits : length (shown w) ≤ room = omega (arith, ap length none) in

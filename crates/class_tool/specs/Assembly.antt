@@ -9,13 +9,13 @@ use Rattle.class_tool.specs.Image.{IsClassIn, IsFaultOf}
 use Rattle.class_tool.specs.declared.failure.Failure.{Failure}
 use Rattle.class_tool.specs.declared.failure.Failure.TheVariants.{CannotRead, CannotWrite, NoMemory, Text, Image, Verdict, InputNotHex, ObjectNotHex, ObjectLine, Object, Call}
 
--- the bytes are the image of the class that the text is
+-- the bytes are the image of the text's class
 pub record Spells (text : List ℕ) (bytes : List ℕ) : Type 0 where
   pub class : Class
   pub read : IsClassText text class
   pub image : IsImage bytes class
 
--- the file holds a class's text, whose image those bytes are
+-- the file holds a class's text, and the bytes are the image of that class
 pub record IsSourceIn (disk : Option Disk) (name : List ℕ) (bytes : List ℕ) : Type 0 where
   pub text : List ℕ
   pub held : Holds disk name text
@@ -48,7 +48,7 @@ TextFails disk name (ObjectLine line) = ⊥
 TextFails disk name (Object error) = ⊥
 TextFails disk name (Call error) = ⊥
 
--- Why a text has no image: memory was refused, or it is one of no class.
+-- Why a text has no image: memory was refused, or it is no class's text.
 abbrev pub ImageFails : List ℕ → Failure → Type 0
 ImageFails text CannotRead = ⊥
 ImageFails text CannotWrite = ⊥
@@ -62,7 +62,7 @@ ImageFails text (ObjectLine line) = ⊥
 ImageFails text (Object error) = ⊥
 ImageFails text (Call error) = ⊥
 
--- the file holds a text, which has no image
+-- the file holds a text that has no image
 pub record SourceFails (disk : Option Disk) (name : List ℕ) (failure : Failure) : Type 0 where
   pub text : List ℕ
   pub held : Holds disk name text
@@ -75,8 +75,7 @@ pub record WriteFails (before after : Storage) (text image : List ℕ) (failure 
   pub source : IsSourceIn before.disk text bytes
   pub fails : FailsToWrite before after image
 
--- Why no image was written, in the order in which it is tried. Before the write every file is as it
--- was.
+-- Why no image was written, in the order of the checks. Before the write every file is as it was.
 abbrev pub AssembleFails : Storage → Storage → List ℕ → List ℕ → Failure → Type 0
 AssembleFails before after text image failure =
     ((after ≡ before) × (TextFails before.disk text failure ⊎ SourceFails before.disk text failure)) ⊎ WriteFails before after text image failure

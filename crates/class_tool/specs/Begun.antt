@@ -1,4 +1,4 @@
--- The object that a call begins with: that of a file that is named for it, or else of words.
+-- The object that a call begins with: from the file that is named for it, or else from words.
 use Rattle.std.specs.Prelude.{◌≡◌, ◌⊎◌, ℕ, List, Option, Some, None, Ok, Err}
 use Rattle.std.specs.Borrow.{Bor}
 use Rattle.object_store.specs.Object.{PlainObject}
@@ -6,7 +6,7 @@ use Rattle.class_tool.specs.Assembly.{TextFails}
 use Rattle.class_tool.specs.Files.{Disk, Holds}
 use Rattle.class_tool.specs.Given.{object_before}
 use Rattle.class_tool.specs.Saved.{spelled_object}
-use Rattle.class_tool.specs.declared.action.Call.{Call}
+use Rattle.class_tool.specs.declared.action.MethodCall.{MethodCall}
 use Rattle.class_tool.specs.declared.failure.Failure.{Failure}
 use Rattle.class_tool.specs.declared.failure.Failure.TheVariants.{NoMemory}
 
@@ -16,24 +16,24 @@ pub record IsSpelledIn (disk : Option Disk) (name : List ℕ) (object : PlainObj
   pub held : Holds disk name text
   pub spelled : spelled_object text ≡ Ok object
 
-abbrev pub BeginsBy : Option (Bor (List ℕ)) → Option Disk → Call → PlainObject → Type 0
+abbrev pub BeginsBy : Option (Bor (List ℕ)) → Option Disk → MethodCall → PlainObject → Type 0
 BeginsBy None disk call object = object_before call ≡ Ok object
 BeginsBy (Some file) disk call object = IsSpelledIn disk file.now object
 
-abbrev pub Begins : Option Disk → Call → PlainObject → Type 0
+abbrev pub Begins : Option Disk → MethodCall → PlainObject → Type 0
 Begins disk call object = BeginsBy call.load disk call object
 
--- the file holds a text, a line of which is bad
+-- the file holds a text that has a bad line
 pub record IsMisspelledIn (disk : Option Disk) (name : List ℕ) (failure : Failure) : Type 0 where
   pub text : List ℕ
   pub held : Holds disk name text
   pub bad : spelled_object text ≡ Err failure
 
--- Why there is no object: memory was refused; the file can't be read, is no text, or a line of it is
--- bad; or words spell none.
-abbrev pub NoneBegins : Option (Bor (List ℕ)) → Option Disk → Call → Failure → Type 0
+-- Why there is no object: memory was refused; the file can't be read, is no text, or a line of it
+-- is bad; or words spell none.
+abbrev pub NoneBegins : Option (Bor (List ℕ)) → Option Disk → MethodCall → Failure → Type 0
 NoneBegins None disk call failure = object_before call ≡ Err failure
 NoneBegins (Some file) disk call failure = TextFails disk file.now failure ⊎ IsMisspelledIn disk file.now failure
 
-abbrev pub BeginFails : Option Disk → Call → Failure → Type 0
+abbrev pub BeginFails : Option Disk → MethodCall → Failure → Type 0
 BeginFails disk call failure = (failure ≡ NoMemory) ⊎ NoneBegins call.load disk call failure

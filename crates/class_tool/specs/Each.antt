@@ -6,14 +6,14 @@ use Rattle.verifier.specs.RuleNumber.{refusal_text}
 use Rattle.verifier.specs.Verdict.{method_verdict}
 use Rattle.verifier.specs.declared.refusal.Refusal.{Refusal}
 use Rattle.verifier.specs.declared.rule.Rule.{Rule}
-use Rattle.class_tool.specs.Answer.{method_line}
+use Rattle.class_tool.specs.ActionResult.{method_line}
 use Rattle.class_tool.specs.Explained.{source_note}
 use Rattle.class_tool.specs.Files.{Disk}
 use Rattle.class_tool.specs.Image.{IsSourceOf, class_of}
 use Rattle.class_tool.specs.declared.each.Verdicts.{Verdicts}
 use Rattle.class_tool.specs.declared.image.Source.{Source}
 
--- the note below a refusal's line, where that is asked for
+-- the note below a refusal's line, if it is asked for
 abbrev pub note_if : Bool → Source → Refusal → List ℕ
 note_if false source refusal = []
 note_if true source refusal = source_note source refusal
@@ -21,23 +21,23 @@ note_if true source refusal = source_note source refusal
 abbrev pub refused_lines : Bool → Source → Refusal → List ℕ
 refused_lines is_explained source refusal = refusal_text refusal ++ codes "\n" ++ note_if is_explained source refusal
 
--- of the method of a number, by its verdict
+-- the lines of the method with that number, by its verdict
 abbrev pub verdict_lines : Bool → Source → ℕ → ClassMethod → Option (ℕ × Rule) → List ℕ
 verdict_lines is_explained source number m None = method_line m
 verdict_lines is_explained source number m (Some at) = refused_lines is_explained source (record { method = number; slot = at.0; rule = at.1 })
 
--- of methods, the first of which has that number
+-- the lines of all methods; the first has that number
 abbrev pub each_lines : Bool → Source → ℕ → List ClassMethod → List ℕ
 each_lines is_explained source number [] = []
 each_lines is_explained source number (m ∷ ms) =
     verdict_lines is_explained source number m (method_verdict (class_of source).rules m) ++ each_lines is_explained source (number + 1) ms
 
--- no rule refuses one
+-- no rule refuses any of the methods
 abbrev pub are_accepted : RuleSet → List ClassMethod → Bool
 are_accepted rules [] = true
 are_accepted rules (m ∷ ms) = is_none (method_verdict rules m) && are_accepted rules ms
 
--- those lines are of the class whose image or text the file holds
+-- the lines are those of the class whose image or text the file holds
 pub record AreVerdicts (disk : Option Disk) (name : List ℕ) (is_explained : Bool) (verdicts : Verdicts) : Type 0 where
   pub source : Source
   pub read : IsSourceOf disk name source

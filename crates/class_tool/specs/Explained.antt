@@ -18,7 +18,7 @@ use Rattle.class_tool.specs.declared.failure.Failure.TheVariants as failure
 use Rattle.class_tool.specs.declared.image.Source.{Source}
 use Rattle.class_tool.specs.declared.image.Source.TheVariants as sources
 
--- the note of a class's refusal, and where a text was read the line of the refused instruction
+-- the note of a class's refusal; if a text was read, with the line of the refused instruction
 abbrev pub source_note : Source → Refusal → List ℕ
 source_note (sources.Image class) refusal = refusal_note class refusal
 source_note (sources.Text class text) refusal = refusal_note class refusal ++ unless_memory refusal.rule (source_text (string_bytes text) refusal.method refusal.slot)
@@ -33,12 +33,13 @@ pub record IsRefusalNote (disk : Option Disk) (name : List ℕ) (refusal : Refus
 abbrev pub image_wanted : List ℕ
 image_wanted = codes "  wanted: an image, which begins with RCL1 or RCL2, or a class's text in UTF-8\n  see docs/IMAGE.md\n"
 
--- nothing where memory was refused
+-- the note of an image that was refused; empty if memory was refused
 abbrev pub image_note : DecodeError → List ℕ
 image_note decode.NoMemory = []
 image_note error = image_wanted
 
--- of bytes that say no class: of a text its line and what is wanted there, of an image what is wanted
+-- the note of bytes of no class: for a text its line and what is wanted there, for an image what is
+-- wanted
 abbrev pub IsFaultNote : List ℕ → Failure → List ℕ → Type 0
 IsFaultNote bytes (failure.Text error) note = note ≡ fault_text bytes error
 IsFaultNote bytes (failure.Image error) note = note ≡ image_note error.error
@@ -50,31 +51,31 @@ pub record IsTextNote (disk : Option Disk) (name : List ℕ) (error : AsmError) 
   pub held : Holds disk name text
   pub same : note ≡ fault_text text error
 
--- the same of a file's bytes
+-- the same for a file's bytes
 abbrev pub IsReadNote : Option Disk → List ℕ → Failure → List ℕ → Type 0
 IsReadNote disk name (failure.Text error) note = IsTextNote disk name error note
 IsReadNote disk name (failure.Image error) note = note ≡ image_note error.error
 IsReadNote disk name why note = note ≡ []
 
--- of a failed load the note of the refusal, or of bytes that say no class
+-- for a failed load: the note of the refusal, or of bytes of no class
 abbrev pub IsLoadNote : Option Disk → List ℕ → Failure → List ℕ → Type 0
 IsLoadNote disk name (failure.Verdict refusal) note = IsRefusalNote disk name refusal note
 IsLoadNote disk name why note = IsReadNote disk name why note
 
--- of a file that can't be read or written what the system says of it, of which nothing is claimed,
--- and else nothing
+-- for a file that can't be read or written: what the system says of it, and nothing is claimed of
+-- that; for any other failure nothing
 abbrev pub IsSystemNote : Failure → List ℕ → Type 0
 IsSystemNote failure.CannotRead note = ⊤
 IsSystemNote failure.CannotWrite note = ⊤
 IsSystemNote why note = note ≡ []
 
--- of `asm` and `dis` both that and the note of bytes that say no class
+-- for `asm` and `dis`: that, and the note of bytes of no class
 abbrev pub IsFileNote : Option Disk → List ℕ → Failure → List ℕ → Type 0
 IsFileNote disk name failure.CannotRead note = ⊤
 IsFileNote disk name failure.CannotWrite note = ⊤
 IsFileNote disk name why note = IsReadNote disk name why note
 
--- of `verify` that of a load too
+-- for `verify`: the note of a failed load too
 abbrev pub IsVerifyNote : Option Disk → List ℕ → Failure → List ℕ → Type 0
 IsVerifyNote disk name failure.CannotRead note = ⊤
 IsVerifyNote disk name failure.CannotWrite note = ⊤
@@ -95,17 +96,17 @@ abbrev pub IsCallNote : Failure → List ℕ → Type 0
 IsCallNote failure.CannotRead note = ⊤
 IsCallNote why note = note ≡ call_wanted why
 
--- the class is safe, and the call is refused; of a file that can't be read what the system says
+-- the class is safe, and the call is refused; for a file that can't be read, what the system says
 pub record IsSafeNote (disk : Option Disk) (name : List ℕ) (why : Failure) (note : List ℕ) : Type 0 where
   pub class : List ClassMethod
   pub safe : IsSafeIn disk name class
   pub same : IsCallNote why note
 
--- of `run` the note of `verify` where that refuses its class
+-- for `run`: the note of `verify` if that refuses its class
 abbrev pub IsRunNote : Option Disk → List ℕ → Failure → List ℕ → Type 0
 IsRunNote disk name why note = IsVerifyNote disk name why note ⊎ IsSafeNote disk name why note
 
--- bytes are no image, or methods no class
+-- the bytes are no image, or the methods make no class
 abbrev pub IsImageFailure : Failure → Type 0
 IsImageFailure (failure.Image error) = ⊤
 IsImageFailure why = ⊥
@@ -115,13 +116,13 @@ abbrev pub raw_line : Option RawMethod → List ℕ
 raw_line None = []
 raw_line (Some raw) = codes "  method " ++ raw.name.now ++ codes ", " ++ raw.code.now ++ codes "\n"
 
--- of `pack` the method that is refused
+-- for `pack`: the method that is refused
 abbrev pub IsPackNote : List RawMethod → Failure → List ℕ → Type 0
 IsPackNote raws (failure.Image error) note = note ≡ raw_line (slice_get raws error.methods)
 IsPackNote raws why note = IsSystemNote why note
 
--- The note of a failure: where and why `verify` or `run` refuses a class; the line of a text that is
--- refused; the name of a file that could not be read or written, and the system's reason.
+-- The note of a failure: where and why `verify` or `run` refuses a class; the line of a text that
+-- is refused; the name of a file that could not be read or written, and the system's reason.
 abbrev pub IsNote : Option Disk → Action → Failure → List ℕ → Type 0
 IsNote disk (action.Verify image) why note = IsVerifyNote disk image.now why note
 IsNote disk (action.Run call) why note = IsRunNote disk call.image.now why note

@@ -17,39 +17,39 @@ storage disk failed files = record { disk = disk files; failed = failed files }
 abbrev pub unwritten : Storage
 unwritten = record { disk = None; failed = false }
 
--- the file of that name holds those bytes, where that is known
+-- the file with that name holds those bytes, if files are known
 abbrev pub Holds : Option Disk → List ℕ → List ℕ → Type 0
 Holds None name bytes = ⊤
 Holds (Some disk) name bytes = disk name ≡ Some bytes
 
--- the bytes are the first ones of the file of that name, at most that many, if its content is known
+-- the bytes are the first ones of the file with that name, at most that many, if files are known
 abbrev pub IsBeginning : Option Disk → List ℕ → ℕ → List ℕ → Type 0
 IsBeginning None name most bytes = ⊤
 IsBeginning (Some disk) name most bytes = (file : List ℕ) × (disk name ≡ Some file) × (bytes ≡ take most file)
 
--- there is no file of that name that can be read, where that is known
+-- no file with that name can be read, if files are known
 abbrev pub IsUnreadable : Option Disk → List ℕ → Type 0
 IsUnreadable None name = ⊤
 IsUnreadable (Some disk) name = disk name ≡ None
 
--- after a write the file of that name holds those bytes, where that is known
+-- after a write the file with that name holds those bytes, if files are known
 abbrev pub IsWritten : Option Disk → List ℕ → List ℕ → Type 0
 IsWritten None name bytes = ⊤
 IsWritten (Some disk) name bytes = disk name ≡ Some bytes
 
--- each file but that of a name is as it was, where that was known
+-- each file but the one with that name is as it was, if files are known
 abbrev pub OthersStay : Option Disk → Option Disk → List ℕ → Type 0
 OthersStay None after name = ⊤
 OthersStay (Some before) None name = ⊥
 OthersStay (Some before) (Some after) name = (other : List ℕ) → other ≢ name → after other ≡ before other
 
--- A file was written: it holds those bytes, every other is as it was, and no write failed.
+-- A file was written: it holds those bytes, every other file is as it was, and no write failed.
 pub record Writes (before after : Storage) (name bytes : List ℕ) : Type 0 where
   pub written : IsWritten after.disk name bytes
   pub others : OthersStay before.disk after.disk name
   pub well : after.failed ≡ before.failed
 
--- A write of a file failed; every other is as it was.
+-- A write of a file failed; every other file is as it was.
 pub record FailsToWrite (before after : Storage) (name : List ℕ) : Type 0 where
   pub failed : after.failed ≡ true
   pub others : OthersStay before.disk after.disk name

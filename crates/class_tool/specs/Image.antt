@@ -17,7 +17,7 @@ use Rattle.class_tool.specs.declared.failure.Failure.TheVariants.{CannotRead, Ca
 use Rattle.class_tool.specs.declared.image.Source.{Source}
 use Rattle.class_tool.specs.declared.image.Source.TheVariants as sources
 
--- a byte is zero, as in an image the second of the number of methods is
+-- a byte is zero; in an image, the second byte of the number of methods always is
 abbrev pub has_zero : List ℕ → Bool
 has_zero bytes = list_any (λ b. b == 0) bytes
 
@@ -32,7 +32,7 @@ pub record IsText (bytes : List ℕ) : Type 0 where
   pub short : length bytes ≤ IMAGE_LIMIT
   pub utf8 : IsUtf8 bytes
 
--- the text is one of no class, and this is the first line that is refused and the least fault there
+-- the text is no class's; this is its first refused line, with the least fault there
 pub record IsFaultOf (text : List ℕ) (error : AsmError) : Type 0 where
   pub first : read_class_text text ≡ Err error
   pub none : (class : Class) → IsClassText text class → ⊥
@@ -41,7 +41,7 @@ abbrev pub class_of : Source → Class
 class_of (sources.Image class) = class
 class_of (sources.Text class text) = class
 
--- bytes say the class as an image, or as a text
+-- the bytes are an image of the class, or a text of it
 abbrev pub Says : List ℕ → Source → Type 0
 Says bytes (sources.Image class) = IsImage bytes class
 Says bytes (sources.Text class text) = (string_bytes text ≡ bytes) × IsText bytes × IsClassText bytes class
@@ -53,7 +53,8 @@ IsMemory (Text error) = error ≡ no_memory
 IsMemory (Image error) = error.error ≡ decode.NoMemory
 IsMemory why = ⊥
 
--- bytes say no class: a text by its first fault, an image by the first refusal in reading order
+-- the bytes are of no class: a text is refused by its first fault, an image by the first refusal in
+-- reading order
 abbrev pub SayNone : List ℕ → Failure → Type 0
 SayNone bytes (Text error) = IsText bytes × IsFaultOf bytes error
 SayNone bytes (Image error) = (IsText bytes → ⊥) × (image_of bytes ≡ Err error)
@@ -65,7 +66,7 @@ pub record IsImageIn (disk : Option Disk) (name : List ℕ) (class : Class) : Ty
   pub held : Holds disk name bytes
   pub image : IsImage bytes class
 
--- the file holds that text, which is the class's
+-- the file holds that text, and it is the class's
 pub record IsTextIn (disk : Option Disk) (name : List ℕ) (class : Class) (text : List ℕ) : Type 0 where
   pub held : Holds disk name text
   pub is : IsText text
@@ -75,13 +76,13 @@ pub record IsTextIn (disk : Option Disk) (name : List ℕ) (class : Class) (text
 abbrev pub IsClassIn : Option Disk → List ℕ → Class → Type 0
 IsClassIn disk name class = IsImageIn disk name class ⊎ ((text : List ℕ) × IsTextIn disk name class text)
 
--- the same, of what was read
+-- the same of what was read
 abbrev pub IsSourceOf : Option Disk → List ℕ → Source → Type 0
 IsSourceOf disk name (sources.Image class) = IsImageIn disk name class
 IsSourceOf disk name (sources.Text class text) = IsTextIn disk name class (string_bytes text)
 
--- the methods are those of a class whose image or text the file holds, no rule refuses it, and each
--- method is safe
+-- the file holds the image or the text of a class with these methods, no rule refuses the class,
+-- and each method is safe
 pub record IsSafeIn (disk : Option Disk) (name : List ℕ) (class : List ClassMethod) : Type 0 where
   pub written : Class
   pub image : IsClassIn disk name written
@@ -89,7 +90,7 @@ pub record IsSafeIn (disk : Option Disk) (name : List ℕ) (class : List ClassMe
   pub accepted : class_verdict written ≡ None
   pub safe : AllByRecursion IsSafe class
 
--- the file's bytes say no class
+-- the file's bytes are of no class
 pub record IsRefusedIn (disk : Option Disk) (name : List ℕ) (failure : Failure) : Type 0 where
   pub bytes : List ℕ
   pub held : Holds disk name bytes
@@ -101,7 +102,7 @@ pub record IsVerdictIn (disk : Option Disk) (name : List ℕ) (refusal : Refusal
   pub image : IsClassIn disk name class
   pub verdict : (refusal ≡ out_of_memory) ⊎ (class_verdict class ≡ Some refusal)
 
--- Why no class was read: the file can't be read, memory was refused, or the file's bytes say none.
+-- Why no class was read: the file can't be read, memory was refused, or its bytes are of no class.
 abbrev pub ReadFails : Option Disk → List ℕ → Failure → Type 0
 ReadFails disk name CannotRead = IsUnreadable disk name
 ReadFails disk name why = IsMemory why ⊎ IsRefusedIn disk name why
@@ -120,6 +121,6 @@ VerdictFails disk name (ObjectLine line) = ⊥
 VerdictFails disk name (Object error) = ⊥
 VerdictFails disk name (Call error) = ⊥
 
--- Why no safe class was read: none was read, or that which was read is not safe.
+-- Why no safe class was read: no class was read, or the class that was read is not safe.
 abbrev pub LoadFails : Option Disk → List ℕ → Failure → Type 0
 LoadFails disk name failure = ReadFails disk name failure ⊎ VerdictFails disk name failure

@@ -1,9 +1,10 @@
 -- A reader must believe Files (what files hold, and what a write changes), Image, Assembly,
--- Packing, Run, Each and Answer (what each command answers, and why it fails), Given, Saved and Begun
--- (the object that words and a text spell), Log and Reply (which call a reply is of, and what is printed of it), Shown,
--- Failure and Explained (the other texts), and Output (what a print that failed left). System
--- names a field for contracts; Window says what a window on a text shows, which no command cites.
-pub mod Answer
+-- Packing, Run, Each and ActionResult (the result of each command, and why it fails), Given, Saved
+-- and Begun (the object that words and a text spell), Log and RunReport (which call a report is of,
+-- and how it prints), Shown, Failure and Explained (the other texts), and Output (the text that a
+-- failed print left). System names a field for contracts; Window says what a window on a text
+-- shows, which no command cites.
+pub mod ActionResult
 pub mod Assembly
 pub mod Begun
 pub mod Each
@@ -15,7 +16,7 @@ pub mod Image
 pub mod Log
 pub mod Output
 pub mod Packing
-pub mod Reply
+pub mod RunReport
 pub mod Run
 pub mod Saved
 pub mod Shown

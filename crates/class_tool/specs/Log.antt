@@ -18,18 +18,18 @@ use Rattle.class_tool.specs.declared.failure.Failure.TheVariants as failure
 abbrev pub first_request : ℕ → List ℕ → List ℕ → ClientRequest
 first_request caller method input = record { client = caller; number = 1; object = codes "o"; class = 0; method = method; input = input }
 
--- this is the reply of the request in a group that has that class and that request alone
+-- this is the reply to the request in a group that has that class and that request alone
 abbrev pub IsLogged : List ClassMethod → ClientRequest → Logged → Type 0
 IsLogged class r logged =
     reply_at (class ∷ []) (r ∷ []) 0 ≡ Some (record { code = cast_unsigned w64 logged.code; output = logged.output.items })
 
--- the log's refusal that has the name of a call's
+-- the log's refusal with the same name as a refusal of a call
 abbrev pub refusal_of : CallError → LogError
 refusal_of call.NoMethod = NoMethod
 refusal_of call.InputTooLong = InputTooLong
 refusal_of call.NoMemory = NoMemory
 
--- the log's refusal has the name of a call's
+-- the log's refusal has the same name as the refusal of a call
 abbrev pub IsCallRefusal : LogError → Type 0
 IsCallRefusal LogFull = ⊥
 IsCallRefusal StaleNumber = ⊥
@@ -38,14 +38,14 @@ IsCallRefusal NoClass = ⊥
 IsCallRefusal NoMethod = ⊤
 IsCallRefusal InputTooLong = ⊤
 
--- why a method of a class isn't called on an input: there is none of that name, the input is longer
--- than it takes, or memory was refused
+-- why a method of a class isn't called on an input: no method has that name, the input is longer
+-- than the method takes, or memory was refused
 abbrev pub CallRefused : List ClassMethod → List ℕ → List ℕ → CallError → Type 0
 CallRefused class method input call.NoMethod = method_named class method ≡ None
 CallRefused class method input call.InputTooLong = InputPasses class method input
 CallRefused class method input call.NoMemory = ⊤
 
--- a call's failure is its refusal, or want of memory in the program
+-- a call fails because it is refused, or because the program runs out of memory
 abbrev pub LogFails : List ClassMethod → List ℕ → List ℕ → Failure → Type 0
 LogFails class method input failure.CannotRead = ⊥
 LogFails class method input failure.CannotWrite = ⊥

@@ -10,7 +10,7 @@ writer_of p = p.writer
 abbrev pub has_failed : {W : Type 0} → Printer W → Bool
 has_failed p = p.failed
 
--- The printed text grew by a beginning of that text, if it was known.
+-- If the printed text was known, it grew by a beginning of that text.
 pub record Begins (old new : Option (List ℕ)) (text : List ℕ) : Type 0 where
   pub count : ℕ
   pub grew : Appends old new (take count text)

@@ -29,7 +29,7 @@ pub record IsMethodIn (disk : Option Disk) (raw : RawMethod) (method : ClassMeth
   pub in_cap : method.in_cap ≡ raw.in_cap
   pub out_cap : method.out_cap ≡ raw.out_cap
 
--- a method for each that was asked for, in their order
+-- a method for each one that was asked for, in their order
 abbrev pub AreMethodsIn : Option Disk → List RawMethod → List ClassMethod → Type 0
 AreMethodsIn disk [] [] = ⊤
 AreMethodsIn disk [] (method ∷ methods) = ⊥
@@ -78,8 +78,8 @@ pub record MethodsFail (disk : Option Disk) (raws : List RawMethod) (failure : F
   pub read : AreMethodsIn disk first methods
   pub why : CodeFails disk next.code.now (length first) failure
 
--- Why methods have no image: memory was refused, or they are no class, by the first refusal in the
--- order of its fields.
+-- Why methods have no image: memory was refused, or they make no class, by the first refusal in the
+-- order of a class's fields.
 abbrev pub ClassFails : RuleSet → List ClassMethod → Failure → Type 0
 ClassFails rules methods CannotRead = ⊥
 ClassFails rules methods CannotWrite = ⊥
@@ -93,21 +93,20 @@ ClassFails rules methods (ObjectLine line) = ⊥
 ClassFails rules methods (Object error) = ⊥
 ClassFails rules methods (Call error) = ⊥
 
--- all methods were read, and have no image
+-- all methods were read, and they have no image
 pub record PackedFails (disk : Option Disk) (rules : RuleSet) (raws : List RawMethod) (failure : Failure) : Type 0 where
   pub methods : List ClassMethod
   pub read : AreMethodsIn disk raws methods
   pub why : ClassFails rules methods failure
 
--- the class was right, and a write of the image failed
+-- the class was right, and the write of the image failed
 pub record PackWriteFails (before after : Storage) (asked : Packing) (failure : Failure) : Type 0 where
   pub said : failure ≡ CannotWrite
   pub bytes : List ℕ
   pub packed : IsPackedOf before.disk asked.rules asked.methods.items bytes
   pub fails : FailsToWrite before after asked.image.now
 
--- Why no image was written, in the order in which it is tried. Before the write every file is as it
--- was.
+-- Why no image was written, in the order of the checks. Before the write every file is as it was.
 abbrev pub PackFails : Storage → Storage → Packing → Failure → Type 0
 PackFails before after asked failure =
     ((after ≡ before) × (MethodsFail before.disk asked.methods.items failure ⊎ PackedFails before.disk asked.rules asked.methods.items failure)) ⊎ PackWriteFails before after asked failure

@@ -1,4 +1,4 @@
--- Why a call came to nothing.
+-- Why a call failed.
 use Rattle.std.specs.Prelude.{◌≡◌, ◌⊎◌, ℕ, List, Option, Ok, IsErr}
 use Rattle.hex.specs.Hex.{decode_of}
 use Rattle.bpf_decode.specs.Class.{ClassMethod}
@@ -7,29 +7,29 @@ use Rattle.class_tool.specs.Files.{Disk, Storage}
 use Rattle.class_tool.specs.Begun.{BeginFails, Begins}
 use Rattle.class_tool.specs.Image.{IsSafeIn, LoadFails}
 use Rattle.class_tool.specs.Log.{LogFails}
-use Rattle.class_tool.specs.Reply.{Reports}
+use Rattle.class_tool.specs.RunReport.{Reports}
 use Rattle.class_tool.specs.Saved.{SaveFails, Saves}
-use Rattle.class_tool.specs.declared.action.Call.{Call}
+use Rattle.class_tool.specs.declared.action.MethodCall.{MethodCall}
 use Rattle.class_tool.specs.declared.failure.Failure.{Failure}
-use Rattle.class_tool.specs.declared.reply.Reply.{Reply}
+use Rattle.class_tool.specs.declared.run_report.RunReport.{RunReport}
 use Rattle.class_tool.specs.declared.failure.Failure.TheVariants.{InputNotHex, NoMemory}
 
--- the class was loaded, and the input is not hex; or memory was refused
-pub record InputFails (disk : Option Disk) (call : Call) (failure : Failure) : Type 0 where
+-- the class was loaded, and the input is not in hexadecimal; or memory was refused
+pub record InputFails (disk : Option Disk) (call : MethodCall) (failure : Failure) : Type 0 where
   pub class : List ClassMethod
   pub loaded : IsSafeIn disk call.image.now class
   pub why : (failure ≡ NoMemory) ⊎ ((failure ≡ InputNotHex) × IsErr (decode_of call.input.now))
 
 -- the class was loaded and the input was read, and there is no such object
-pub record ObjectFails (disk : Option Disk) (call : Call) (failure : Failure) : Type 0 where
+pub record ObjectFails (disk : Option Disk) (call : MethodCall) (failure : Failure) : Type 0 where
   pub class : List ClassMethod
   pub loaded : IsSafeIn disk call.image.now class
   pub input : List ℕ
   pub read : decode_of call.input.now ≡ Ok input
   pub why : BeginFails disk call failure
 
--- all of that was read, and the call is refused; or memory was
-pub record CallFails (disk : Option Disk) (call : Call) (failure : Failure) : Type 0 where
+-- class, input and object were read, and the call or memory for it was refused
+pub record CallFails (disk : Option Disk) (call : MethodCall) (failure : Failure) : Type 0 where
   pub class : List ClassMethod
   pub loaded : IsSafeIn disk call.image.now class
   pub input : List ℕ
@@ -38,21 +38,21 @@ pub record CallFails (disk : Option Disk) (call : Call) (failure : Failure) : Ty
   pub begun : Begins disk call object
   pub why : LogFails class call.method.now input failure
 
--- Why a call came to nothing, in the order in which it is tried: by its class, by its input, by its
--- object, by the call itself.
-abbrev pub RunFails : Option Disk → Call → Failure → Type 0
+-- Why a call failed, in the order of the checks: because of its class, its input, its object or the
+-- call itself.
+abbrev pub RunFails : Option Disk → MethodCall → Failure → Type 0
 RunFails disk call failure = LoadFails disk call.image.now failure ⊎ InputFails disk call failure ⊎ ObjectFails disk call failure ⊎ CallFails disk call failure
 
 -- the call was made, and its object is not saved
-pub record IsUnsaved (before after : Storage) (call : Call) (failure : Failure) : Type 0 where
-  pub reply : Reply
-  pub made : Reports before.disk call reply
-  pub unsaved : SaveFails before after call.save reply.after failure
+pub record IsUnsaved (before after : Storage) (call : MethodCall) (failure : Failure) : Type 0 where
+  pub report : RunReport
+  pub made : Reports before.disk call report
+  pub unsaved : SaveFails before after call.save report.after failure
 
--- Why a call came to nothing, or its object is not saved. Before the write every file is as it was.
-abbrev pub SavedRunFails : Storage → Storage → Call → Failure → Type 0
+-- Why a call failed, or why its object is not saved. Before the write every file is as it was.
+abbrev pub SavedRunFails : Storage → Storage → MethodCall → Failure → Type 0
 SavedRunFails before after call failure = ((after ≡ before) × RunFails before.disk call failure) ⊎ IsUnsaved before after call failure
 
--- The call was made, and its object is saved where a file is named for it.
-abbrev pub SavedReports : Storage → Storage → Call → Reply → Type 0
-SavedReports before after call reply = Reports before.disk call reply × Saves before after call.save reply.after
+-- The call was made, and its object is saved if a file is named for it.
+abbrev pub SavedReports : Storage → Storage → MethodCall → RunReport → Type 0
+SavedReports before after call report = Reports before.disk call report × Saves before after call.save report.after

@@ -12,7 +12,7 @@ use Rattle.class_tool.specs.declared.given.Part.TheVariants.{Xattrs, Keys}
 use Rattle.class_tool.specs.declared.failure.Failure.{Failure}
 use Rattle.class_tool.specs.declared.failure.Failure.TheVariants.{CannotWrite, NoMemory, ObjectLine, ObjectNotHex}
 
--- `-` is no digits
+-- `-` means no digits
 abbrev pub digits_of : List ℕ → List ℕ
 digits_of word = if bytes_eq word (codes "-") then [] else word
 
@@ -21,7 +21,7 @@ abbrev pub of_data : List (List ℕ) → Result Content Failure
 of_data (word ∷ value ∷ []) = if bytes_eq word (codes "data") then with_data (digits_of value) else Err ObjectNotHex
 of_data words = Err ObjectNotHex
 
--- each other one has an xattr or a key, in any order; of one name the last counts
+-- each further line has an xattr or a key, in any order; if a name repeats, its last line counts
 abbrev pub part_named : List ℕ → Option Part
 part_named word = if bytes_eq word (codes "xattr") then Some Xattrs else if bytes_eq word (codes "key") then Some Keys else None
 
@@ -45,7 +45,7 @@ abbrev pub of_words : PlainObject → List (List ℕ) → Result Content Failure
 of_words None words = of_data words
 of_words (Some content) words = of_entry content words
 
--- a line that spells none, or too much for an object, is refused by its number
+-- a line that spells neither, or that makes the object too large, is refused by its number
 abbrev pub at_line : ℕ → Result Content Failure → Result Content Failure
 at_line number (Ok content) = Ok content
 at_line number (Err e) = Err (ObjectLine number)
@@ -69,13 +69,13 @@ pub record IsSaved (before after : Storage) (name : List ℕ) (object : PlainObj
   pub same : spelled_object (shown_text true object) ≡ Ok object
   pub writes : Writes before after name (shown_text true object)
 
--- where a file is named for it
+-- the object is saved if a file is named for it
 abbrev pub Saves : Storage → Storage → Option (Bor (List ℕ)) → PlainObject → Type 0
 Saves before after None object = after ≡ before
 Saves before after (Some file) object = IsSaved before after file.now object
 
--- why it is not: memory was refused, or the text would be read back otherwise, and no file changed;
--- or the write failed
+-- why it is not saved: memory was refused, or the text would be read back as another object, and no
+-- file changed; or the write failed
 abbrev pub IsUnwritten : Storage → Storage → List ℕ → PlainObject → Failure → Type 0
 IsUnwritten before after name object failure =
     ((failure ≡ NoMemory) × (after ≡ before))

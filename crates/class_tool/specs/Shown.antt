@@ -5,7 +5,7 @@ use Rattle.std.specs.FinMap as fin
 use Rattle.hex.specs.Hex.{encode_lower}
 use Rattle.object_store.specs.Object.{Content, PlainObject}
 
--- digits as they are printed, with a sign for none
+-- digits as they are printed, or `-` if there are none
 abbrev pub or_dash : List ℕ → List ℕ
 or_dash [] = codes "-"
 or_dash (digit ∷ digits) = digit ∷ digits
@@ -14,8 +14,7 @@ or_dash (digit ∷ digits) = digit ∷ digits
 abbrev pub is_printable : ℕ → Bool
 is_printable b = nat_le 33 b && (nat_le b 126 && not (b == 61))
 
--- a name is printed as text where that can be read again as the same name, else in hexadecimal
--- after 0x
+-- a name is printed as text if it can be read again as the same name, else as 0x and hexadecimal
 abbrev pub is_text : List ℕ → Bool
 is_text name = not (slice_index name 0 == 48 && slice_index name 1 == 120) && not (list_any (λ b. not (is_printable b)) name)
 
@@ -29,12 +28,12 @@ data_line bytes = codes "data " ++ or_dash (encode_lower bytes) ++ codes "\n"
 abbrev pub entry_line : List ℕ → List ℕ × List ℕ → List ℕ
 entry_line word entry = word ++ name_text entry.0 ++ codes " " ++ or_dash (encode_lower entry.1) ++ codes "\n"
 
--- its data, then its xattrs and its keys, each in the order of their names
+-- the line of its data, then those of its xattrs and of its keys, each in the order of their names
 abbrev pub content_text : Content → List ℕ
 content_text content =
     data_line content.bytes ++ flat_map (entry_line (codes "xattr ")) (fin.entries content.xattrs) ++ flat_map (entry_line (codes "key ")) (fin.entries content.omap)
 
--- what is shown of an object, where that is asked for
+-- the lines that show an object, if they are asked for
 abbrev pub shown_text : Bool → PlainObject → List ℕ
 shown_text false object = []
 shown_text true None = []

@@ -6,7 +6,7 @@ use Rattle.class_tool.specs.declared.window.Window.{Window}
 abbrev pub shown : Window → List ℕ
 shown w = take w.len w.bytes
 
--- what it shows once more of the text was written to it, and how many bytes it still skips
+-- what a window shows after more of the text was written to it, and how many bytes it still skips
 pub record Sees (room : ℕ) (old : Window) (text : List ℕ) (new : Window) : Type 0 where
   pub skip : new.skip ≡ old.skip - length text
   pub shown : shown new ≡ take room (shown old ++ drop old.skip text)

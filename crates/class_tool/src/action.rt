@@ -3,7 +3,7 @@ use pg_log::ClientId;
 
 /// A name and a value that an object has, as words spell them.
 #[derive(Clone, Copy)]
-pub struct Entry<'a> {
+pub struct NamedValue<'a> {
     /// The name: after `0x` in hexadecimal, else as it stands.
     pub name: &'a str,
     /// The value, in hexadecimal.
@@ -12,7 +12,7 @@ pub struct Entry<'a> {
 
 /// A call of a method of an image's class, on the object that words or a file spell, or on none.
 #[derive(Drop)]
-pub struct Call<'a> {
+pub struct MethodCall<'a> {
     /// The file of the image.
     pub image: &'a str,
     /// The name of the method.
@@ -25,14 +25,14 @@ pub struct Call<'a> {
     /// object.
     pub data: Option<&'a str>,
     /// Its xattrs, set in this order.
-    pub xattrs: Vec<Entry<'a>>,
+    pub xattrs: Vec<NamedValue<'a>>,
     /// The keys of its omap, set in this order.
-    pub keys: Vec<Entry<'a>>,
+    pub keys: Vec<NamedValue<'a>>,
     /// The file whose text spells the object before the call, in place of those.
     pub load: Option<&'a str>,
     /// The file that becomes the text of the object after it.
     pub save: Option<&'a str>,
-    /// True if the reply shows all that the object holds after the call.
+    /// True if the report shows all that the object holds after the call.
     pub is_shown: bool,
 }
 
@@ -68,7 +68,7 @@ pub enum Action<'a> {
     /// Tell whether the class in a file is safe.
     Verify { image: &'a str },
     /// A call.
-    Run(Call<'a>),
+    Run(MethodCall<'a>),
     /// The image of the class whose text is in a file, into another file.
     Assemble { text: &'a str, image: &'a str },
     /// The image of a class of raw code.

@@ -3,7 +3,7 @@ ghost use Rattle.std.specs.Prelude.{◌≡◌, ◌+◌, ◌<◌, ◌^◌, [], If
 ghost use Rattle.std.specs.List.{AllByRecursion};
 ghost use Rattle.bpf_decode.specs.Class.{IsMethod};
 ghost use Rattle.class_tool.specs.Each.{AreVerdicts, are_accepted, each_lines, note_if, refused_lines, verdict_lines};
-ghost use Rattle.class_tool.specs.Answer.{method_line};
+ghost use Rattle.class_tool.specs.ActionResult.{method_line};
 ghost use Rattle.verifier.specs.Verdict.{method_verdict};
 ghost use Rattle.class_tool.specs.Explained.{IsFileNote, IsReadNote};
 ghost use Rattle.class_tool.specs.Image.{ReadFails, class_of};

@@ -2,24 +2,24 @@
 ghost use Rattle.std.specs.Prelude.{◌≡◌, ◌⊎◌, [], IfOk, IfErr, OnErr, OnOk, slice_get, string_bytes};
 ghost use Rattle.class_advice.specs.Note.{unless_memory};
 ghost use Rattle.class_advice.specs.Source.{source_text};
-ghost use Rattle.class_tool.specs.Answer.{Settles, Fails};
+ghost use Rattle.class_tool.specs.ActionResult.{Settles, Fails};
 ghost use Rattle.class_tool.specs.Assembly.{AssembleFails, Assembles, IsTextOf};
 ghost use Rattle.class_tool.specs.Explained.{IsCallNote, IsFileNote, IsImageFailure, IsLoadNote, IsNote, IsPackNote, IsRunNote, IsSystemNote, IsVerifyNote, call_wanted, raw_line, source_note};
 ghost use Rattle.class_tool.specs.Files.{storage};
 ghost use Rattle.class_tool.specs.Image.{IsSafeIn, LoadFails, ReadFails};
 ghost use Rattle.class_tool.specs.Packing.{PackFails, Packs};
-ghost use Rattle.class_tool.specs.Reply.{Reports};
+ghost use Rattle.class_tool.specs.RunReport.{Reports};
 ghost use Rattle.class_tool.specs.Run.{RunFails, SavedReports, SavedRunFails};
 
-use crate::action::{Action, Call, Packing, RawMethod};
-use crate::answer::Answer;
+use crate::action::{Action, MethodCall, Packing, RawMethod};
+use crate::action_result::ActionResult;
 use crate::assembly::{assemble, disassemble};
 use crate::failure::Failure;
 use crate::files::{Files, Reads};
 use crate::image::{Source, read_source};
 use crate::packing::pack;
-use crate::reply::Reply;
 use crate::run::{keep, run_safe};
+use crate::run_report::RunReport;
 use bpf_decode::ImageError;
 use class_advice::{refusal_note, source_text};
 use interp::CallError;
@@ -165,9 +165,9 @@ fn add_unread<F: Files>(alloc: Global, files: &F, failure: &Failure, note: &mut 
 fn run_noted<F: Files>(
     alloc: Global,
     files: &F,
-    asked: &Call<'_>,
+    asked: &MethodCall<'_>,
     note: &mut String,
-) -> Result<Reply, Failure>
+) -> Result<RunReport, Failure>
     requires { string_bytes note.old ≡ [] }
     ensures ok { IfOk result (Reports (F.disk files.now) asked.now) }
     ensures err { IfErr result (RunFails (F.disk files.now) asked.now) }
@@ -176,7 +176,7 @@ fn run_noted<F: Files>(
 {
     let class = verify_noted(alloc, files, asked.image, note)?;
     match run_safe(alloc, files, class, asked) {
-        Ok(reply) => Ok(reply),
+        Ok(report) => Ok(report),
         Err(failure) => {
             *note = String::from_str(alloc, call_wanted(&failure))?;
             add_unread(alloc, files, &failure, note);
@@ -189,17 +189,17 @@ fn run_noted<F: Files>(
 fn save_noted<F: Files>(
     alloc: Global,
     files: &mut F,
-    asked: &Call<'_>,
+    asked: &MethodCall<'_>,
     note: &mut String,
-) -> Result<Reply, Failure>
+) -> Result<RunReport, Failure>
     requires { string_bytes note.old ≡ [] }
     ensures ok { IfOk result (SavedReports (storage F.disk F.failed files.old) (storage F.disk F.failed files.new) asked.now) }
     ensures err { IfErr result (SavedRunFails (storage F.disk F.failed files.old) (storage F.disk F.failed files.new) asked.now) }
     ensures noted { IfErr result (λ e. IsRunNote (F.disk files.old) asked.now.image.now e (string_bytes note.new)) }
 {
-    let reply = run_noted(alloc, files, asked, note)?;
-    match keep(alloc, files, asked, &reply) {
-        Ok(()) => Ok(reply),
+    let report = run_noted(alloc, files, asked, note)?;
+    match keep(alloc, files, asked, &report) {
+        Ok(()) => Ok(report),
         Err(failure) => {
             add_fault(alloc, files, failure, note);
             Err(failure)
@@ -318,7 +318,7 @@ pub fn find_noted<F: Files>(
     files: &mut F,
     action: &Action<'_>,
     note: &mut String,
-) -> Result<Answer, Failure>
+) -> Result<ActionResult, Failure>
     requires { string_bytes note.old ≡ [] }
     ensures settles { IfOk result (Settles (storage F.disk F.failed files.old) (storage F.disk F.failed files.new) action.now) }
     ensures fails { IfErr result (Fails (storage F.disk F.failed files.old) (storage F.disk F.failed files.new) action.now) }
@@ -326,26 +326,26 @@ pub fn find_noted<F: Files>(
 {
     match action {
         Action::Verify { image } => match verify_noted(alloc, files, image, note) {
-            Ok(class) => Ok(Answer::Accepted(class)),
+            Ok(class) => Ok(ActionResult::Accepted(class)),
             Err(failure) => Err(failure),
         },
         Action::Run(asked) => match save_noted(alloc, files, asked, note) {
-            Ok(reply) => Ok(Answer::Ran(reply)),
+            Ok(report) => Ok(ActionResult::Ran(report)),
             Err(failure) => Err(failure),
         },
         Action::Assemble { text, image } => {
             match assemble_noted(alloc, files, text, image, note) {
-                Ok(()) => Ok(Answer::Assembled),
+                Ok(()) => Ok(ActionResult::Assembled),
                 Err(failure) => Err(failure),
             }
         }
         Action::Pack(asked) => match pack_noted(alloc, files, asked, note) {
-            Ok(()) => Ok(Answer::Assembled),
+            Ok(()) => Ok(ActionResult::Assembled),
             Err(failure) => Err(failure),
         },
         Action::Disassemble { image, has_slots } => {
             match disassemble_noted(alloc, files, image, *has_slots, note) {
-                Ok(text) => Ok(Answer::Disassembled(text)),
+                Ok(text) => Ok(ActionResult::Disassembled(text)),
                 Err(failure) => Err(failure),
             }
         }

@@ -5,7 +5,7 @@ ghost use Rattle.object_store.specs.Returned.{Gives as Answered};
 ghost use Rattle.object_store.specs.declared.store_error.StoreError.{StoreError as AStoreError};
 ghost use Rattle.class_tool.specs.Given.{Gives, bytes_in, content_in, name_in, object_before, of_change, set_in, with_data, with_entries, with_words};
 
-use crate::action::{Call, Entry};
+use crate::action::{MethodCall, NamedValue};
 use crate::failure::Failure;
 use hex::FromHexError;
 use object_store::{Object, StoreError, calls};
@@ -86,7 +86,7 @@ fn with_entries(
     alloc: Global,
     part: Part,
     object: Object,
-    entries: &[Entry<'_>],
+    entries: &[NamedValue<'_>],
 ) -> Result<Object, Failure>
     ensures { Gives (λ o. o) result (with_entries part object entries.now) }
 {
@@ -109,8 +109,8 @@ pub(crate) fn with_data(alloc: Global, text: &str) -> Result<Object, Failure>
 fn content_in(
     alloc: Global,
     text: &str,
-    xattrs: &[Entry<'_>],
-    keys: &[Entry<'_>],
+    xattrs: &[NamedValue<'_>],
+    keys: &[NamedValue<'_>],
 ) -> Result<Object, Failure>
     ensures { Gives (λ o. o) result (content_in text.now xattrs.now keys.now) }
 {
@@ -121,7 +121,10 @@ fn content_in(
 
 /// The object before a call, or the first refusal: of its data, then of its xattrs, then of its
 /// keys.
-pub(crate) fn object_before(alloc: Global, asked: &Call<'_>) -> Result<Option<Object>, Failure>
+pub(crate) fn object_before(
+    alloc: Global,
+    asked: &MethodCall<'_>,
+) -> Result<Option<Object>, Failure>
     ensures { Gives (λ o. o) result (object_before asked.now) }
 {
     let text = match asked.data {

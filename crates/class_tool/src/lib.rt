@@ -3,11 +3,11 @@
 //! Its answer is true of the files as they were, and a failure says why, the first reason in a
 //! stated order. `verify_each` tells it of each method. Only an image is written, or a call's
 //! object, to the file that is named for it, and only if it is right. An answer and a failure print
-//! as the lines of `answer_text` and `failure_text`.
+//! as the lines of `result_text` and `failure_text`.
 #![tactic(auto)]
 
 mod action;
-mod answer;
+mod action_result;
 mod assembly;
 mod each;
 mod explained;
@@ -19,15 +19,15 @@ mod input;
 mod log;
 mod output;
 mod packing;
-mod reply;
 mod run;
+mod run_report;
 mod saved;
 mod shown;
 mod tool;
 mod window;
 
-pub use action::{Action, Call, Entry, Packing, RawMethod};
-pub use answer::Answer;
+pub use action::{Action, MethodCall, NamedValue, Packing, RawMethod};
+pub use action_result::ActionResult;
 pub use assembly::read_text;
 pub use each::{Verdicts, verify_each};
 pub use explained::find_noted;
@@ -35,5 +35,5 @@ pub use failure::Failure;
 pub use files::{Files, Reads, SystemFiles};
 pub use image::load;
 pub use output::{Output, Printer};
-pub use reply::{Holdings, Reply};
+pub use run_report::{Holdings, RunReport};
 pub use tool::find;

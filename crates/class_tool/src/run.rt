@@ -5,7 +5,7 @@ ghost use Rattle.interp.specs.Plain.{Answers};
 ghost use Rattle.interp.specs.declared.outcome.Outcome.{Outcome as AnOutcome};
 ghost use Rattle.class_tool.specs.Image.{IsSafeIn};
 ghost use Rattle.class_tool.specs.Log.{IsLogged, LogFails, first_request};
-ghost use Rattle.class_tool.specs.Reply.{IsOneOutcome, IsReplyOf, Reports};
+ghost use Rattle.class_tool.specs.RunReport.{IsOneOutcome, IsReportOf, Reports};
 ghost use Rattle.class_tool.specs.Assembly.{TextFails};
 ghost use Rattle.class_tool.specs.Begun.{BeginFails, Begins, IsMisspelledIn, IsSpelledIn};
 ghost use Rattle.class_tool.specs.Files.{storage};
@@ -13,7 +13,7 @@ ghost use Rattle.class_tool.specs.Saved.{SaveFails, Saves};
 ghost use Rattle.class_tool.specs.Run.{RunFails, SavedReports, SavedRunFails};
 ghost use Rattle.class_tool.specs.declared.log.Logged.{Logged as ALogged};
 
-use crate::action::Call;
+use crate::action::MethodCall;
 use crate::assembly::read_text;
 use crate::failure::Failure;
 use crate::files::{Files, Reads};
@@ -21,7 +21,7 @@ use crate::given::object_before;
 use crate::image::load;
 use crate::input::decode_input;
 use crate::log::{Logged, append};
-use crate::reply::Reply;
+use crate::run_report::RunReport;
 use crate::saved::{save, spelled_object};
 use bpf_machine::outcomes;
 use interp::Outcome;
@@ -33,7 +33,7 @@ use verifier::VerifiedClass;
 fn call(
     alloc: Global,
     class: &VerifiedClass,
-    asked: &Call<'_>,
+    asked: &MethodCall<'_>,
     object: Option<&Object>,
     input: &[u8],
 ) -> Result<Outcome, Failure>
@@ -55,31 +55,31 @@ fn are_codes(logged: &Logged, outcome: &Outcome)
     let _codes = (logged.code, outcome.code);
 }
 
-/// Appends the request of a call to an empty group, and gives the reply of its entry and of the
-/// call's outcome.
+/// Appends the request of a call to an empty group, and gives the report of its log entry and of
+/// the call's outcome.
 fn log(
     alloc: Global,
     class: VerifiedClass,
-    asked: &Call<'_>,
+    asked: &MethodCall<'_>,
     input: Vec<u8>,
     outcome: &Outcome,
-) -> Result<Reply, Failure>
-    ensures ok { IfOk result (λ reply. (logged : ALogged) × IsLogged class (first_request asked.now.caller asked.now.method.now input.items) logged × FitsSigned w64 logged.code × FitsSigned w64 outcome.now.code × IsReplyOf asked.now.is_shown logged outcome.now reply) }
+) -> Result<RunReport, Failure>
+    ensures ok { IfOk result (λ report. (logged : ALogged) × IsLogged class (first_request asked.now.caller asked.now.method.now input.items) logged × FitsSigned w64 logged.code × FitsSigned w64 outcome.now.code × IsReportOf asked.now.is_shown logged outcome.now report) }
     ensures err { IfErr result (LogFails class asked.now.method.now input.items) }
 {
     let logged = append(alloc, class, asked.caller, asked.method, input)?;
     are_codes(&logged, outcome);
-    Ok(Reply::new(alloc, &logged, outcome, asked.is_shown)?)
+    Ok(RunReport::new(alloc, &logged, outcome, asked.is_shown)?)
 }
 
 /// Makes the call on no object, then appends the same request to an empty group.
 fn call_and_log(
     alloc: Global,
     class: VerifiedClass,
-    asked: &Call<'_>,
+    asked: &MethodCall<'_>,
     input: Vec<u8>,
-) -> Result<Reply, Failure>
-    ensures ok { IfOk result (λ reply. (outcome : AnOutcome) × (logged : ALogged) × Answers class asked.now.method.now None asked.now.caller input.items outcome × IsLogged class (first_request asked.now.caller asked.now.method.now input.items) logged × IsOneOutcome outcome logged × IsReplyOf asked.now.is_shown logged outcome reply) }
+) -> Result<RunReport, Failure>
+    ensures ok { IfOk result (λ report. (outcome : AnOutcome) × (logged : ALogged) × Answers class asked.now.method.now None asked.now.caller input.items outcome × IsLogged class (first_request asked.now.caller asked.now.method.now input.items) logged × IsOneOutcome outcome logged × IsReportOf asked.now.is_shown logged outcome report) }
     ensures err { IfErr result (LogFails class asked.now.method.now input.items) }
 {
     let outcome = call(alloc, &class, asked, None, &input)?;
@@ -89,34 +89,42 @@ fn call_and_log(
     log(alloc, class, asked, input, &outcome)
 }
 
-/// The reply of a call's own outcome.
-fn reply_beside(alloc: Global, asked: &Call<'_>, outcome: &Outcome) -> Result<Reply, AllocError>
-    ensures { IfOk result (λ reply. (logged : ALogged) × IsOneOutcome outcome.now logged × IsReplyOf asked.now.is_shown logged outcome.now reply) }
+/// The report of a call's own outcome.
+fn report_beside(
+    alloc: Global,
+    asked: &MethodCall<'_>,
+    outcome: &Outcome,
+) -> Result<RunReport, AllocError>
+    ensures { IfOk result (λ report. (logged : ALogged) × IsOneOutcome outcome.now logged × IsReportOf asked.now.is_shown logged outcome.now report) }
 {
     let answered = Logged {
         code: outcome.code,
         output: Vec::from_slice(alloc, &outcome.output)?,
     };
-    Reply::new(alloc, &answered, outcome, asked.is_shown)
+    RunReport::new(alloc, &answered, outcome, asked.is_shown)
 }
 
 /// Makes the call on an object.
 fn call_beside(
     alloc: Global,
     class: &VerifiedClass,
-    asked: &Call<'_>,
+    asked: &MethodCall<'_>,
     object: &Object,
     input: &[u8],
-) -> Result<Reply, Failure>
-    ensures ok { IfOk result (λ reply. (outcome : AnOutcome) × (logged : ALogged) × Answers class.now asked.now.method.now (Some object.now) asked.now.caller input.now outcome × IsOneOutcome outcome logged × IsReplyOf asked.now.is_shown logged outcome reply) }
+) -> Result<RunReport, Failure>
+    ensures ok { IfOk result (λ report. (outcome : AnOutcome) × (logged : ALogged) × Answers class.now asked.now.method.now (Some object.now) asked.now.caller input.now outcome × IsOneOutcome outcome logged × IsReportOf asked.now.is_shown logged outcome report) }
     ensures err { IfErr result (LogFails class.now asked.now.method.now input.now) }
 {
     let outcome = call(alloc, class, asked, Some(object), input)?;
-    Ok(reply_beside(alloc, asked, &outcome)?)
+    Ok(report_beside(alloc, asked, &outcome)?)
 }
 
 /// The object before a call: that of the file that is named for it, or else that of words.
-fn begun<F: Reads>(alloc: Global, files: &F, asked: &Call<'_>) -> Result<Option<Object>, Failure>
+fn begun<F: Reads>(
+    alloc: Global,
+    files: &F,
+    asked: &MethodCall<'_>,
+) -> Result<Option<Object>, Failure>
     ensures ok { IfOk result (Begins (F.disk files.now) asked.now) }
     ensures err { IfErr result (BeginFails (F.disk files.now) asked.now) }
 {
@@ -141,8 +149,8 @@ pub(crate) fn run_safe<F: Reads>(
     alloc: Global,
     files: &F,
     class: VerifiedClass,
-    asked: &Call<'_>,
-) -> Result<Reply, Failure>
+    asked: &MethodCall<'_>,
+) -> Result<RunReport, Failure>
     requires { IsSafeIn (F.disk files.now) asked.now.image.now class }
     ensures ok { IfOk result (Reports (F.disk files.now) asked.now) }
     ensures err { IfErr result (RunFails (F.disk files.now) asked.now) }
@@ -155,7 +163,7 @@ pub(crate) fn run_safe<F: Reads>(
 }
 
 /// Loads the class and makes the call.
-pub fn run<F: Reads>(alloc: Global, files: &F, asked: &Call<'_>) -> Result<Reply, Failure>
+pub fn run<F: Reads>(alloc: Global, files: &F, asked: &MethodCall<'_>) -> Result<RunReport, Failure>
     ensures ok { IfOk result (Reports (F.disk files.now) asked.now) }
     ensures err { IfErr result (RunFails (F.disk files.now) asked.now) }
 {
@@ -167,27 +175,27 @@ pub fn run<F: Reads>(alloc: Global, files: &F, asked: &Call<'_>) -> Result<Reply
 pub(crate) fn keep<F: Files>(
     alloc: Global,
     files: &mut F,
-    asked: &Call<'_>,
-    reply: &Reply,
+    asked: &MethodCall<'_>,
+    report: &RunReport,
 ) -> Result<(), Failure>
-    ensures ok { IfOk result (λ _. Saves (storage F.disk F.failed files.old) (storage F.disk F.failed files.new) asked.now.save reply.now.after) }
-    ensures err { IfErr result (SaveFails (storage F.disk F.failed files.old) (storage F.disk F.failed files.new) asked.now.save reply.now.after) }
+    ensures ok { IfOk result (λ _. Saves (storage F.disk F.failed files.old) (storage F.disk F.failed files.new) asked.now.save report.now.after) }
+    ensures err { IfErr result (SaveFails (storage F.disk F.failed files.old) (storage F.disk F.failed files.new) asked.now.save report.now.after) }
 {
-    save(alloc, files, asked.save, reply.after.as_ref())
+    save(alloc, files, asked.save, report.after.as_ref())
 }
 
 /// The same, and the object is saved where a file is named for it.
 pub fn run_and_save<F: Files>(
     alloc: Global,
     files: &mut F,
-    asked: &Call<'_>,
-) -> Result<Reply, Failure>
+    asked: &MethodCall<'_>,
+) -> Result<RunReport, Failure>
     ensures ok { IfOk result (SavedReports (storage F.disk F.failed files.old) (storage F.disk F.failed files.new) asked.now) }
     ensures err { IfErr result (SavedRunFails (storage F.disk F.failed files.old) (storage F.disk F.failed files.new) asked.now) }
 {
-    let reply = run(alloc, files, asked)?;
-    match keep(alloc, files, asked, &reply) {
-        Ok(()) => Ok(reply),
+    let report = run(alloc, files, asked)?;
+    match keep(alloc, files, asked, &report) {
+        Ok(()) => Ok(report),
         Err(failure) => Err(failure),
     }
 }

@@ -1,11 +1,11 @@
 ghost use Rattle.std.specs.Prelude.{IfOk, IfErr, string_bytes};
-ghost use Rattle.class_tool.specs.Answer.{Settles, Fails};
+ghost use Rattle.class_tool.specs.ActionResult.{Settles, Fails};
 ghost use Rattle.class_tool.specs.Assembly.{AssembleFails, Assembles, IsTextOf};
 ghost use Rattle.class_tool.specs.Files.{storage};
 ghost use Rattle.class_tool.specs.Image.{ReadFails};
 
 use crate::action::Action;
-use crate::answer::Answer;
+use crate::action_result::ActionResult;
 use crate::assembly::{assemble, disassemble};
 use crate::failure::Failure;
 use crate::files::Files;
@@ -40,30 +40,34 @@ fn disassembled<F: Files>(
 /// Does what is asked for. The answer is true of the files as they were. No file is written but the
 /// one that is named for the image of a text or of raw code, and that one only where it is right, or
 /// for a call's object; a failure says why, the first reason in the order of `Fails`.
-pub fn find<F: Files>(alloc: Global, files: &mut F, action: &Action<'_>) -> Result<Answer, Failure>
+pub fn find<F: Files>(
+    alloc: Global,
+    files: &mut F,
+    action: &Action<'_>,
+) -> Result<ActionResult, Failure>
     ensures settles { IfOk result (Settles (storage F.disk F.failed files.old) (storage F.disk F.failed files.new) action.now) }
     ensures fails { IfErr result (Fails (storage F.disk F.failed files.old) (storage F.disk F.failed files.new) action.now) }
 {
     match action {
         Action::Verify { image } => match load(alloc, files, image) {
-            Ok(class) => Ok(Answer::Accepted(class)),
+            Ok(class) => Ok(ActionResult::Accepted(class)),
             Err(failure) => Err(failure),
         },
         Action::Run(asked) => match run_and_save(alloc, files, asked) {
-            Ok(reply) => Ok(Answer::Ran(reply)),
+            Ok(report) => Ok(ActionResult::Ran(report)),
             Err(failure) => Err(failure),
         },
         Action::Assemble { text, image } => match assembled(alloc, files, text, image) {
-            Ok(()) => Ok(Answer::Assembled),
+            Ok(()) => Ok(ActionResult::Assembled),
             Err(failure) => Err(failure),
         },
         Action::Pack(asked) => match pack(alloc, files, asked) {
-            Ok(()) => Ok(Answer::Assembled),
+            Ok(()) => Ok(ActionResult::Assembled),
             Err(failure) => Err(failure),
         },
         Action::Disassemble { image, has_slots } => {
             match disassembled(alloc, files, image, *has_slots) {
-                Ok(text) => Ok(Answer::Disassembled(text)),
+                Ok(text) => Ok(ActionResult::Disassembled(text)),
                 Err(failure) => Err(failure),
             }
         }

@@ -3,13 +3,13 @@ use Rattle.std.specs.Prelude.{◌≡◌, ◌++◌, ℕ, suc, ◌&&◌, nat_le, i
 use Rattle.std.specs.Option.{option_map, option_and_then}
 use Rattle.std.specs.Str.{bytes_eq}
 use Rattle.file_words.specs.Words.{words, ended_lines_of, number_in, numbers_in, id_in, object_in, bytes_in, class_of}
-use Rattle.cluster_file.specs.declared.config.Numbers.{Numbers}
+use Rattle.cluster_file.specs.declared.cluster_numbers.ClusterNumbers.{ClusterNumbers}
 use Rattle.cluster_file.specs.Planned.{PlannedCall}
-use Rattle.cluster_file.specs.declared.step.Step.{Step}
-use Rattle.cluster_file.specs.declared.step.Step.TheVariants.{Call, Map}
+use Rattle.cluster_file.specs.declared.planned_step.PlannedStep.{PlannedStep}
+use Rattle.cluster_file.specs.declared.planned_step.PlannedStep.TheVariants.{Call, Map}
 
--- THE FIRST LINE: `cluster`, and then each key with a number. Which numbers a cluster may have is
--- no matter of form.
+-- THE FIRST LINE: `cluster`, and then each key with a number. A number outside a cluster's limits
+-- doesn't make the line malformed.
 abbrev pub value_in : List ℕ → List ℕ → List ℕ → Option ℕ
 value_in key word value = if bytes_eq word key then number_in value else None
 
@@ -18,33 +18,33 @@ abbrev pub field_in : List ℕ → List (List ℕ) → Option (ℕ × List (List
 field_in key (word ∷ value ∷ rest) = option_map (λ n. (n, rest)) (value_in key word value)
 field_in key _ = None
 
--- nothing is left
-abbrev pub ended : Numbers → List (List ℕ) → Option Numbers
+-- the numbers, if no word is left
+abbrev pub ended : ClusterNumbers → List (List ℕ) → Option ClusterNumbers
 ended numbers [] = Some numbers
 ended numbers (word ∷ words) = None
 
--- the last three keys, and all six
-abbrev pub last_in : ℕ → ℕ → ℕ → List (List ℕ) → Option Numbers
+-- the numbers of the last three keys, and of all six
+abbrev pub last_in : ℕ → ℕ → ℕ → List (List ℕ) → Option ClusterNumbers
 last_in nodes replicas groups words =
     option_and_then (λ shards. option_and_then (λ workers. option_and_then
     (λ tries. ended record { nodes = nodes; replicas = replicas; groups = groups; shards = shards.0; workers = workers.0; tries = tries.0 } tries.1)
     (field_in (codes "tries") workers.1)) (field_in (codes "workers") shards.1)) (field_in (codes "shards") words)
 
-abbrev pub numbers_in_line : List (List ℕ) → Option Numbers
+abbrev pub numbers_in_line : List (List ℕ) → Option ClusterNumbers
 numbers_in_line words =
     option_and_then (λ nodes. option_and_then (λ replicas. option_and_then
     (λ groups. last_in nodes.0 replicas.0 groups.0 groups.1)
     (field_in (codes "groups") replicas.1)) (field_in (codes "replicas") nodes.1)) (field_in (codes "nodes") words)
 
-abbrev pub first_line : List (List ℕ) → Option Numbers
+abbrev pub first_line : List (List ℕ) → Option ClusterNumbers
 first_line [] = None
 first_line (word ∷ words) = if bytes_eq word (codes "cluster") then numbers_in_line words else None
 
--- A CLIENT: one of those so far, or the next one, up to the 64th.
+-- A CLIENT: one of those named so far, or the next one, up to the 64th.
 abbrev pub client_in : ℕ → List ℕ → Option ℕ
 client_in clients word = option_and_then (λ n. if nat_le n (suc clients) && nat_le n 64 then Some n else None) (id_in word)
 
--- the words of a call after its client's: object, class, method, input
+-- the words of a call after its client: object, class, method, input
 abbrev pub call_of : List (List ℕ) → ℕ → List (List ℕ) → Option PlannedCall
 call_of names client (object ∷ class ∷ method ∷ input ∷ []) =
     option_and_then
@@ -56,44 +56,43 @@ abbrev pub call_in : List (List ℕ) → ℕ → List (List ℕ) → Option Plan
 call_in names clients [] = None
 call_in names clients (client ∷ args) = option_and_then (λ c. call_of names c args) (client_in clients client)
 
--- EACH FURTHER LINE: `client`, or `map`, after this number of clients was named above it. A map
+-- EACH FURTHER LINE: `client` or `map`, if the lines above named this number of clients. A map
 -- keeps its line's number.
-abbrev pub step_in : List (List ℕ) → ℕ → ℕ → List (List ℕ) → Option Step
+abbrev pub step_in : List (List ℕ) → ℕ → ℕ → List (List ℕ) → Option PlannedStep
 step_in names number clients [] = None
 step_in names number clients (word ∷ args) =
     if bytes_eq word (codes "client") then option_map Call (call_in names clients args) else
     if bytes_eq word (codes "map") then option_map (Map number) (numbers_in args) else None
 
-abbrev pub step_of : List (List ℕ) → ℕ → ℕ → List ℕ → Option Step
+abbrev pub step_of : List (List ℕ) → ℕ → ℕ → List ℕ → Option PlannedStep
 step_of names number clients line = step_in names number clients (words line)
 
--- how many clients are named after a step
-abbrev pub clients_after : ℕ → Step → ℕ
+-- the number of clients that are named after a step
+abbrev pub clients_after : ℕ → PlannedStep → ℕ
 clients_after clients (Call call) = if nat_le call.client clients then clients else call.client
 clients_after clients (Map line nodes) = clients
 
--- THE LINES AFTER THE FIRST, the last of which had that number: their steps, or the number of the
--- first that is malformed.
-abbrev pub before_steps : Step → Result (List Step) ℕ → Result (List Step) ℕ
+-- THE LINES AFTER THE FIRST, if the line above them has that number: their steps, or the number of
+-- the first malformed line.
+abbrev pub before_steps : PlannedStep → Result (List PlannedStep) ℕ → Result (List PlannedStep) ℕ
 before_steps step (Ok steps) = Ok (step ∷ steps)
 before_steps step (Err line) = Err line
 
-abbrev pub go_on : ℕ → (Step → Result (List Step) ℕ) → Option Step → Result (List Step) ℕ
+abbrev pub go_on : ℕ → (PlannedStep → Result (List PlannedStep) ℕ) → Option PlannedStep → Result (List PlannedStep) ℕ
 go_on number rest None = Err number
 go_on number rest (Some step) = before_steps step (rest step)
 
-abbrev pub steps_of : List (List ℕ) → ℕ → ℕ → List (List ℕ) → Result (List Step) ℕ
+abbrev pub steps_of : List (List ℕ) → ℕ → ℕ → List (List ℕ) → Result (List PlannedStep) ℕ
 steps_of names number clients [] = Ok []
 steps_of names number clients (line ∷ lines) =
     go_on (suc number) (λ step. steps_of names (suc number) (clients_after clients step) lines) (step_of names (suc number) clients line)
 
--- THE FILE, where the classes go by these names: its plan, or the number of its first malformed
--- line.
+-- THE FILE, if the classes have these names: its plan, or the number of its first malformed line.
 pub record FilePlan : Type 0 where
-  pub numbers : Numbers
-  pub steps : List Step
+  pub numbers : ClusterNumbers
+  pub steps : List PlannedStep
 
-abbrev pub plan_after : Option Numbers → Result (List Step) ℕ → Result FilePlan ℕ
+abbrev pub plan_after : Option ClusterNumbers → Result (List PlannedStep) ℕ → Result FilePlan ℕ
 plan_after None steps = Err 1
 plan_after (Some numbers) (Ok steps) = Ok record { numbers = numbers; steps = steps }
 plan_after (Some numbers) (Err line) = Err line
@@ -106,12 +105,12 @@ abbrev pub plan_of : List (List ℕ) → List ℕ → Result FilePlan ℕ
 plan_of names text = plan_in names (ended_lines_of text)
 
 -- the calls of a client, in their order
-abbrev pub calls_of : ℕ → List Step → List PlannedCall
+abbrev pub calls_of : ℕ → List PlannedStep → List PlannedCall
 calls_of client [] = []
 calls_of client (Map line nodes ∷ steps) = calls_of client steps
 calls_of client (Call call ∷ steps) = if nat_le call.client client && nat_le client call.client then call ∷ calls_of client steps else calls_of client steps
 
--- how many clients are named in all
-abbrev pub clients_in : ℕ → List Step → ℕ
+-- the number of clients that all steps name
+abbrev pub clients_in : ℕ → List PlannedStep → ℕ
 clients_in clients [] = clients
 clients_in clients (step ∷ steps) = clients_in (clients_after clients step) steps

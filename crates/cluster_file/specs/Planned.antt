@@ -1,8 +1,8 @@
 -- A call as a file plans it.
 use Rattle.std.specs.Prelude.{ℕ, List}
 
--- A CALL: which client makes it, on which object, of which class (its id, and its word in the
--- file) and method, with which input.
+-- A CALL: its client, its object, its class (by its id, and by its word in the file), its method
+-- and its input.
 pub record PlannedCall : Type 0 where
   pub client : ℕ
   pub object : List ℕ

@@ -1,4 +1,4 @@
--- What is printed of a cluster file.
+-- The text that is printed of a cluster file.
 use Rattle.std.specs.Prelude.{ℕ, suc, List, [], ◌∷◌, ◌++◌, Option, Some, None, codes}
 use Rattle.std.specs.Fmt.{decimal, signed_decimal}
 use Rattle.std.specs.Int.{w64, cast_signed}
@@ -6,26 +6,26 @@ use Rattle.hex.specs.Hex.{encode_lower}
 use Rattle.placement.specs.Placement.{group_of}
 use Rattle.cluster_file.specs.Plan.{calls_of}
 use Rattle.cluster_file.specs.Planned.{PlannedCall}
-use Rattle.cluster_file.specs.declared.step.Step.{Step}
+use Rattle.cluster_file.specs.declared.planned_step.PlannedStep.{PlannedStep}
 
--- How a call ended: with its place, code and output, or refused, for a reason as it is printed.
+-- How a call ended: with a place, a code and an output; or refused, with the reason's text.
 pub data CallEnd : Type 0 where
   Replied : ℕ → ℕ → List ℕ → CallEnd
   Refused : List ℕ → CallEnd
 
--- hexadecimal digits, or `-` where there are none
+-- hexadecimal digits, or `-` if there are none
 abbrev pub digits_or_dash : List ℕ → List ℕ
 digits_or_dash [] = codes "-"
 digits_or_dash (digit ∷ digits) = digit ∷ digits
 
--- how it ended: ` place 0 code 0 output -`, or ` refused 7 InputTooLong`
+-- the end of a call: ` place 0 code 0 output -`, or ` refused 7 InputTooLong`
 abbrev pub end_text : CallEnd → List ℕ
 end_text (Replied place code output) =
     codes " place " ++ (decimal place ++ (codes " code " ++ (signed_decimal (cast_signed w64 code) ++ (codes " output " ++ (digits_or_dash (encode_lower output) ++ codes "\n")))))
 end_text (Refused reason) = codes " refused " ++ (reason ++ codes "\n")
 
--- what was asked, where it is shown: the group of the object, and the request in the words of the
--- file, ` group 12 request a lock lock -`
+-- the request of a call, if it is shown: the group of the object, and the request in the words of
+-- the file, ` group 12 request a lock lock -`
 abbrev pub asked_text : ℕ → PlannedCall → List ℕ
 asked_text groups call =
     codes " group " ++ (decimal (group_of call.object groups) ++ (codes " request " ++ (call.object ++ (codes " " ++ (call.word
@@ -35,12 +35,12 @@ abbrev pub asked_if : Option ℕ → PlannedCall → List ℕ
 asked_if None call = []
 asked_if (Some groups) call = asked_text groups call
 
--- whose call it is: `client 1 call 0`
+-- the client and the number of a call: `client 1 call 0`
 abbrev pub head_text : ℕ → ℕ → List ℕ
 head_text client number = codes "client " ++ (decimal client ++ (codes " call " ++ decimal number))
 
--- THE LINE OF A CALL: `client 1 call 0 place 0 code 0 output -`. Where the number of groups is
--- given, what was asked stands in it.
+-- THE LINE OF A CALL: `client 1 call 0 place 0 code 0 output -`. If the number of groups is given,
+-- the line shows the request.
 abbrev pub call_line : Option ℕ → ℕ → ℕ → PlannedCall → CallEnd → List ℕ
 call_line groups client number call end = head_text client number ++ (asked_if groups call ++ end_text end)
 
@@ -50,13 +50,13 @@ call_lines groups client number [] ends = []
 call_lines groups client number (call ∷ calls) [] = []
 call_lines groups client number (call ∷ calls) (end ∷ ends) = call_line groups client number call end ++ call_lines groups client (suc number) calls ends
 
--- ALL LINES of these steps, by client from one on: the calls of each from 0 on.
-abbrev pub all_lines : Option ℕ → List Step → ℕ → List (List CallEnd) → List ℕ
+-- ALL LINES of these steps: client by client from the given one on, each client's calls from 0 on.
+abbrev pub all_lines : Option ℕ → List PlannedStep → ℕ → List (List CallEnd) → List ℕ
 all_lines groups steps client [] = []
 all_lines groups steps client (ends ∷ others) = call_lines groups client 0 (calls_of client steps) ends ++ all_lines groups steps (suc client) others
 
--- A LINE THAT IS MALFORMED, and one that is refused, each alone: `line 3: bad`, `line 3: refused 1
--- NoneUp`.
+-- The text of a malformed line and of a refused one, each printed alone: `line 3: bad`,
+-- `line 3: refused 1 NoneUp`.
 abbrev pub bad_line : ℕ → List ℕ
 bad_line number = codes "line " ++ decimal number ++ codes ": bad\n"
 

@@ -5,14 +5,14 @@
 //! if memory is refused. `cluster_tool` runs a plan in threads.
 #![tactic(auto)]
 
-mod call;
-mod config;
+mod cluster_numbers;
 mod plan;
-mod step;
+mod planned_call;
+mod planned_step;
 mod text;
 
-pub use call::Call;
-pub use config::Numbers;
+pub use cluster_numbers::ClusterNumbers;
 pub use plan::{Plan, Reading, read_plan};
-pub use step::Step;
+pub use planned_call::PlannedCall;
+pub use planned_step::PlannedStep;
 pub use text::{bad_line, push_asked, push_head, push_refused, push_replied, refused_line};

@@ -2,8 +2,8 @@ ghost use Rattle.std.specs.Prelude.{◌≡◌, IfOk, map};
 ghost use Rattle.cluster_file.specs.Reading.{IsReading, StepsRead};
 ghost use Rattle.cluster_file.specs.Plan.{clients_in, plan_of};
 
-use crate::config::{Numbers, first_line};
-use crate::step::{Step, read_step};
+use crate::cluster_numbers::{ClusterNumbers, first_line};
+use crate::planned_step::{PlannedStep, read_step};
 use file_words::{ended_lines, words};
 use std::alloc::{AllocError, Global};
 use std::marker::Model;
@@ -12,8 +12,8 @@ use std::marker::Model;
 /// their order.
 #[derive(Drop)]
 pub struct Plan {
-    numbers: Numbers,
-    steps: Vec<Step>,
+    numbers: ClusterNumbers,
+    steps: Vec<PlannedStep>,
     clients: u32,
     ghost counted: { clients ≡ clients_in 0 steps.items },
 }
@@ -27,7 +27,7 @@ impl Model for Plan {
 }
 
 impl Plan {
-    fn new(numbers: Numbers, steps: Vec<Step>, clients: u32) -> Plan
+    fn new(numbers: ClusterNumbers, steps: Vec<PlannedStep>, clients: u32) -> Plan
         requires { clients ≡ clients_in 0 steps.items }
         ensures { result ≡ record { numbers = numbers; steps = steps.items } }
     {
@@ -39,14 +39,14 @@ impl Plan {
     }
 
     /// The numbers of the first line.
-    pub fn numbers(&self) -> Numbers
+    pub fn numbers(&self) -> ClusterNumbers
         ensures { result ≡ self.now.numbers }
     {
         self.numbers
     }
 
     /// The steps of the lines after the first, in their order.
-    pub fn steps(&self) -> &[Step]
+    pub fn steps(&self) -> &[PlannedStep]
         ensures { result.now ≡ self.now.steps }
     {
         &self.steps
@@ -82,7 +82,7 @@ fn read_steps(
     alloc: Global,
     names: &[&str],
     lines: &[&str],
-    steps: &mut Vec<Step>,
+    steps: &mut Vec<PlannedStep>,
 ) -> Result<Ended, AllocError>
     ensures { IfOk result (λ e. StepsRead (map (λ n. n.now) names.now) (map (λ l. l.now) lines.now) steps.old.items steps.new.items e) }
 {

@@ -3,7 +3,7 @@ ghost use Rattle.std.specs.Int.{w64, cast_unsigned};
 ghost use Rattle.placement.specs.Placement.{is_group_count};
 ghost use Rattle.cluster_file.specs.Text.{Replied, Refused, asked_text, bad_line, digits_or_dash, end_text, head_text, refused_line};
 
-use crate::call::Call;
+use crate::planned_call::PlannedCall;
 use placement::group_of;
 use std::alloc::{AllocError, Global};
 use std::fmt::Display;
@@ -46,7 +46,7 @@ pub fn push_asked(
     alloc: Global,
     text: &mut String,
     groups: u64,
-    call: &Call,
+    call: &PlannedCall,
 ) -> Result<(), AllocError>
     requires { IsTrue (is_group_count groups) }
     ensures { OnOk result (string_bytes text.new ≡ string_bytes text.old ++ asked_text groups call.now) }

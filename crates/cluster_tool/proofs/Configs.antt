@@ -3,7 +3,7 @@ use Rattle.std.proofs.Common.{◌≡◌, Bool, true, false, Some, None, IsTrue, 
 use Rattle.std.proofs.lemmas.Option.{none-some, same_Some}
 use Rattle.osd.specs.Limits.{is_within_limits}
 use Rattle.osd.specs.declared.config.Config.{Config}
-use Rattle.cluster_file.specs.declared.config.Numbers.{Numbers}
+use Rattle.cluster_file.specs.declared.cluster_numbers.ClusterNumbers.{ClusterNumbers}
 use Rattle.cluster_tool.specs.Config.{config_of, same_numbers}
 
 inner : (b : Bool) (x c : Config) → is_within_limits x ≡ b → (if b then Some x else None) ≡ Some c → IsTrue (is_within_limits c)
@@ -14,5 +14,5 @@ outer : (a : Bool) (x c : Config) → (if a then (if is_within_limits x then Som
 outer true x c e = inner (is_within_limits x) x c refl e
 outer false x c e = absurd (none-some c e)
 
-pub within_limits : (n : Numbers) (c : Config) → config_of n ≡ Some c → IsTrue (is_within_limits c)
+pub within_limits : (n : ClusterNumbers) (c : Config) → config_of n ≡ Some c → IsTrue (is_within_limits c)
 within_limits n c e = outer (nat_le n.tries (2 ^ 32 - 1)) (same_numbers n) c e

@@ -1,4 +1,4 @@
--- Where no call is left that ended, no line is left.
+-- If no ended call is left, no line is left.
 use Rattle.std.proofs.Common.{◌≡◌, ◌≤◌, [], ◌∷◌, ℕ, zero, suc, List, Bor, Option, Result, drop, length, map, refl, ap, ◌∙◌, arith}
 use Rattle.cluster_file.specs.Planned.{PlannedCall}
 use Rattle.cluster_file.specs.Text.{call_lines}

@@ -1,4 +1,4 @@
--- The end of a file, by what was printed.
+-- The end of a file, by the text that was printed.
 use Rattle.std.proofs.Common.{◌≡◌, ◌⊎◌, inl, inr, ℕ, List, Option, Some, Bool, Result, Ok, Err, IfOk, string_bytes, sym, subst}
 use Rattle.std.specs.Io.KnownBytes.{Appends}
 use Rattle.pg_log.specs.Log.{Classes}
@@ -12,9 +12,9 @@ use Rattle.cluster_file.specs.declared.plan.Reading.TheVariants.{Plan as APlan, 
 use Rattle.cluster_tool.specs.Clustering.{IsPrintoutOf, EndsSo, Prints}
 use Rattle.cluster_tool.specs.Config.{config_of}
 use Rattle.cluster_tool.specs.Played.{IsMapRefused}
-use Rattle.cluster_tool.specs.declared.tool.Ending.{Ending}
+use Rattle.cluster_tool.specs.declared.tool.ClusteringEnd.{ClusteringEnd}
 use Rattle.cluster_tool.specs.declared.tool.Printout.{Printout}
-use Rattle.cluster_tool.specs.declared.tool.Ending.TheVariants.{Done, Bad, Refused, NoMemory, Unprinted}
+use Rattle.cluster_tool.specs.declared.tool.ClusteringEnd.TheVariants.{Done, Bad, Refused, NoMemory, Unprinted}
 
 not_printed : (is_shown : Bool) (classes : Classes) (r : Result FilePlan ℕ) (printed : List ℕ) → IsPrintoutOf is_shown classes r printed NoMemory ⊎ IsPrintoutOf is_shown classes r printed Unprinted → ⊥
 not_printed is_shown classes (Ok plan) printed (inl comes) = comes
@@ -22,7 +22,7 @@ not_printed is_shown classes (Ok plan) printed (inr comes) = comes
 not_printed is_shown classes (Err line) printed (inl comes) = comes
 not_printed is_shown classes (Err line) printed (inr comes) = comes
 
-was_printed : (is_shown : Bool) (classes : Classes) (names : List (List ℕ)) (text printed : List ℕ) (ending : Ending) (old new : Option (List ℕ)) (failed fails : Bool) →
+was_printed : (is_shown : Bool) (classes : Classes) (names : List (List ℕ)) (text printed : List ℕ) (ending : ClusteringEnd) (old new : Option (List ℕ)) (failed fails : Bool) →
     IsPrintoutOf is_shown classes (plan_of names text) printed ending → Appends old new printed → fails ≡ failed → EndsSo is_shown classes names text old new failed fails ending
 was_printed is_shown classes names text printed Done old new failed fails comes grew well = record { printed = printed; comes = comes; grew = grew; well = well }
 was_printed is_shown classes names text printed Bad old new failed fails comes grew well = record { printed = printed; comes = comes; grew = grew; well = well }
@@ -30,18 +30,18 @@ was_printed is_shown classes names text printed Refused old new failed fails com
 was_printed is_shown classes names text printed NoMemory old new failed fails comes grew well = absurd (not_printed is_shown classes (plan_of names text) printed (inl comes))
 was_printed is_shown classes names text printed Unprinted old new failed fails comes grew well = absurd (not_printed is_shown classes (plan_of names text) printed (inr comes))
 
--- an outcome that was printed, or not for a write or a flush that failed
-pub ends_so : (is_shown : Bool) (classes : Classes) (names : List (List ℕ)) (text printed : List ℕ) (ending result : Ending) (old new : Option (List ℕ)) (failed fails : Bool) →
+-- a printout that was printed, or that was cut off because a write or a flush failed
+pub ends_so : (is_shown : Bool) (classes : Classes) (names : List (List ℕ)) (text printed : List ℕ) (ending result : ClusteringEnd) (old new : Option (List ℕ)) (failed fails : Bool) →
     IsPrintoutOf is_shown classes (plan_of names text) printed ending → Prints printed ending old new failed fails result → EndsSo is_shown classes names text old new failed fails result
 ends_so is_shown classes names text printed ending result old new failed fails comes (inl p) =
-    subst (λ (e : Ending). EndsSo is_shown classes names text old new failed fails e) (sym p.0)
+    subst (λ (e : ClusteringEnd). EndsSo is_shown classes names text old new failed fails e) (sym p.0)
     (was_printed is_shown classes names text printed ending old new failed fails comes p.1 p.2)
 ends_so is_shown classes names text printed ending result old new failed fails comes (inr p) =
-    subst (λ (e : Ending). EndsSo is_shown classes names text old new failed fails e) (sym p.0)
+    subst (λ (e : ClusteringEnd). EndsSo is_shown classes names text old new failed fails e) (sym p.0)
     (record { printed = printed; ending = ending; comes = comes; begun = p.1; failed = p.2 })
 
--- what was read is the plan, or the line
-pub read_as : (is_shown : Bool) (classes : Classes) (r : Result FilePlan ℕ) (plan : FilePlan) (printed : List ℕ) (ending : Ending) → IsReading r (APlan plan) → IsPrintoutOf is_shown classes (Ok plan) printed ending → IsPrintoutOf is_shown classes r printed ending
+-- the result of reading is the plan, or the line
+pub read_as : (is_shown : Bool) (classes : Classes) (r : Result FilePlan ℕ) (plan : FilePlan) (printed : List ℕ) (ending : ClusteringEnd) → IsReading r (APlan plan) → IsPrintoutOf is_shown classes (Ok plan) printed ending → IsPrintoutOf is_shown classes r printed ending
 read_as is_shown classes (Ok q) plan printed ending is comes = subst (λ (x : FilePlan). IsPrintoutOf is_shown classes (Ok x) printed ending) is comes
 read_as is_shown classes (Err line) plan printed ending is comes = absurd is
 
@@ -54,6 +54,6 @@ pub map_refused : {E : Type 0} (is_shown : Bool) (classes : Classes) (plan : Fil
     IsMapRefused config plan.steps line why → IfOk r (λ o. o.ending ≡ Refused) → IfOk r (λ o. string_bytes o.text ≡ refused_line line (map_error_text why)) →
     IfOk r (λ o. IsPrintoutOf is_shown classes (Ok plan) (string_bytes o.text) o.ending)
 map_refused is_shown classes plan config line why (Ok o) is refused ends text =
-    subst (λ (e : Ending). IsPrintoutOf is_shown classes (Ok plan) (string_bytes o.text) e) (sym ends)
+    subst (λ (e : ClusteringEnd). IsPrintoutOf is_shown classes (Ok plan) (string_bytes o.text) e) (sym ends)
     (inr (record { config = config; is = is; comes = inr (record { line = line; why = why; refused = refused; text = text }) }))
 map_refused is_shown classes plan config line why (Err e) is refused ends text = tt

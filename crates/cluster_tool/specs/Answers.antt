@@ -4,15 +4,15 @@ use Rattle.pg_log.specs.Log.{Classes}
 use Rattle.cluster_file.specs.Planned.{PlannedCall}
 use Rattle.cluster_file.specs.Plan.{calls_of}
 use Rattle.cluster_file.specs.Text.{CallEnd, Replied, Refused}
-use Rattle.cluster_file.specs.declared.step.Step.{Step}
+use Rattle.cluster_file.specs.declared.planned_step.PlannedStep.{PlannedStep}
 use Rattle.rados_client.specs.Promise.{IsCall}
 use Rattle.rados_client.specs.Refusals.{exec_error_text}
 use Rattle.rados_client.specs.Session.{PlacedReply, SessionState, next_request}
 use Rattle.rados_client.specs.declared.exec_error.ExecError.{ExecError}
 
--- THE CALLS OF A SESSION, one after another, from the one state of it to the other. Each ended as
--- `exec` promises (`IsCall`) of the request that the session sent for it: a reply is true by a
--- legal list of requests to these classes, which begins with all that the session had seen of it
+-- THE CALLS OF A SESSION, one after another, from its old state to its new one. Each call ended as
+-- `exec` promises (`IsCall`) for the request that the session sent: a reply is true by a legal list
+-- of requests to these classes, and that list begins with all that the session had seen of it
 -- before; a refusal for class, method or input is the request's.
 abbrev pub AreCalls : Classes → List PlannedCall → List (Result PlacedReply ExecError) → SessionState → SessionState → Type 0
 AreCalls classes [] [] old new = new ≡ old
@@ -22,22 +22,23 @@ AreCalls classes (call ∷ calls) (end ∷ ends) old new =
     (next : SessionState) × IsCall classes old next (next_request old call.object call.class call.method call.input) end
     × AreCalls classes calls ends next new
 
--- the session of the client of that number, which has called nothing and knows nothing
+-- the session of the client with that number, which has called nothing and knows nothing
 pub record IsNewSession (number : ℕ) (s : SessionState) : Type 0 where
   pub client : s.client ≡ number
   pub used : s.used ≡ 0
   pub last : s.last ≡ None
   pub seen : s.contact.seen ≡ []
 
--- A CLIENT'S CALLS: a new session of that client made them in their order, and so each ended.
+-- A CLIENT'S CALLS: a new session of that client made them in their order, and these are their
+-- ends.
 pub record AreEndsOf (classes : Classes) (client : ℕ) (planned : List PlannedCall) (ends : List (Result PlacedReply ExecError)) : Type 0 where
   pub first : SessionState
   pub last : SessionState
   pub new : IsNewSession client first
   pub calls : AreCalls classes planned ends first last
 
--- THE ENDS OF ALL CALLS of these steps: of each client's, the first client's first.
-abbrev pub AreAllEnds : Classes → List Step → List (List (Result PlacedReply ExecError)) → Type 0
+-- THE ENDS OF ALL CALLS of these steps: a list for each client, the first client's first.
+abbrev pub AreAllEnds : Classes → List PlannedStep → List (List (Result PlacedReply ExecError)) → Type 0
 AreAllEnds classes steps all =
     (before : ℕ) (ends : List (Result PlacedReply ExecError)) → slice_get all before ≡ Some ends
     → AreEndsOf classes (suc before) (calls_of (suc before) steps) ends

@@ -20,8 +20,8 @@ use Rattle.cluster_tool.specs.Answers.{shown}
 use Rattle.cluster_tool.specs.Config.{config_of}
 use Rattle.cluster_tool.specs.Played.{AreDone, IsMapRefused}
 use Rattle.cluster_tool.specs.declared.asked.Clustering.{Clustering}
-use Rattle.cluster_tool.specs.declared.tool.Ending.{Ending}
-use Rattle.cluster_tool.specs.declared.tool.Ending.TheVariants.{Done, Bad, Refused, NoMemory, Unprinted}
+use Rattle.cluster_tool.specs.declared.tool.ClusteringEnd.{ClusteringEnd}
+use Rattle.cluster_tool.specs.declared.tool.ClusteringEnd.TheVariants.{Done, Bad, Refused, NoMemory, Unprinted}
 
 -- A number of its first line is outside its limits.
 pub record IsLimit (plan : FilePlan) (printed : List ℕ) : Type 0 where
@@ -34,11 +34,11 @@ pub record IsWithin (plan : FilePlan) (P : Config → Type 0) : Type 0 where
   pub is : config_of plan.numbers ≡ Some config
   pub comes : P config
 
--- how many groups there are, where the lines of calls show what was asked
+-- the number of groups, if the lines of calls show the requests
 abbrev pub groups_if : Bool → Config → Option ℕ
 groups_if is_shown config = if is_shown then Some config.groups else None
 
--- Each call and each map was made: the lines of the calls' ends, which are true.
+-- Each call and each map was made: the lines of the calls' ends are printed, and the ends are true.
 pub record IsMade (is_shown : Bool) (classes : Classes) (plan : FilePlan) (printed : List ℕ) (config : Config) : Type 0 where
   pub all : List (List (Result PlacedReply ExecError))
   pub done : AreDone classes config plan.steps all
@@ -55,14 +55,14 @@ pub record IsMapLine (plan : FilePlan) (printed : List ℕ) (config : Config) : 
 abbrev pub IsNoRoom : List ℕ → Type 0
 IsNoRoom printed = printed ≡ refused_line 1 (config_error_text config_error.NoMemory)
 
--- THE CLUSTER OR A MAP IS REFUSED: a number of the first line is outside its limits; or none is,
--- and memory for the cluster or a map was refused.
+-- THE CLUSTER OR A MAP IS REFUSED: a number of the first line is outside its limits; or all are
+-- within, and memory for the cluster was refused, or a map was.
 abbrev pub IsRefused : FilePlan → List ℕ → Type 0
 IsRefused plan printed = IsLimit plan printed ⊎ IsWithin plan (λ config. IsNoRoom printed ⊎ IsMapLine plan printed config)
 
--- WHAT COMES of a file's text, where memory lasts: what its plan comes to; or, before anything is
--- done, the line that is malformed first alone.
-abbrev pub IsPrintoutOf : Bool → Classes → Result FilePlan ℕ → List ℕ → Ending → Type 0
+-- THE PRINTOUT OF A FILE'S TEXT, if memory suffices: the printout of its plan; or, if a line is
+-- malformed, the line that names the first such line, and nothing is done.
+abbrev pub IsPrintoutOf : Bool → Classes → Result FilePlan ℕ → List ℕ → ClusteringEnd → Type 0
 IsPrintoutOf is_shown classes (Ok plan) printed Done = IsWithin plan (λ config. IsMade is_shown classes plan printed config)
 IsPrintoutOf is_shown classes (Ok plan) printed Bad = ⊥
 IsPrintoutOf is_shown classes (Ok plan) printed Refused = IsRefused plan printed
@@ -74,51 +74,51 @@ IsPrintoutOf is_shown classes (Err line) printed Refused = ⊥
 IsPrintoutOf is_shown classes (Err line) printed NoMemory = ⊥
 IsPrintoutOf is_shown classes (Err line) printed Unprinted = ⊥
 
--- that was printed, whole, and no write or flush failed
-pub record IsShown (is_shown : Bool) (classes : Classes) (names : List (List ℕ)) (text : List ℕ) (old new : Option (List ℕ)) (failed fails : Bool) (ending : Ending) : Type 0 where
+-- all of the printout was printed, and no write or flush failed
+pub record IsShown (is_shown : Bool) (classes : Classes) (names : List (List ℕ)) (text : List ℕ) (old new : Option (List ℕ)) (failed fails : Bool) (ending : ClusteringEnd) : Type 0 where
   pub printed : List ℕ
   pub comes : IsPrintoutOf is_shown classes (plan_of names text) printed ending
   pub grew : Appends old new printed
   pub well : fails ≡ failed
 
--- a beginning of that was printed, and a write or a flush failed
+-- a beginning of the printout was printed, and a write or a flush failed
 pub record IsBegun (is_shown : Bool) (classes : Classes) (names : List (List ℕ)) (text : List ℕ) (old new : Option (List ℕ)) (fails : Bool) : Type 0 where
   pub printed : List ℕ
-  pub ending : Ending
+  pub ending : ClusteringEnd
   pub comes : IsPrintoutOf is_shown classes (plan_of names text) printed ending
   pub begun : Begins old new printed
   pub failed : fails ≡ true
 
--- a text was printed and that is how it ended; or a beginning of it was, and a write or a flush
--- failed
-abbrev pub Prints : List ℕ → Ending → Option (List ℕ) → Option (List ℕ) → Bool → Bool → Ending → Type 0
+-- a text was printed, and the end is the given one; or a beginning of the text was printed, and a
+-- write or a flush failed
+abbrev pub Prints : List ℕ → ClusteringEnd → Option (List ℕ) → Option (List ℕ) → Bool → Bool → ClusteringEnd → Type 0
 Prints printed ending old new failed fails result =
     ((result ≡ ending) × Appends old new printed × (fails ≡ failed)) ⊎ ((result ≡ Unprinted) × Begins old new printed × (fails ≡ true))
 
--- how a file ends: that was printed; or nothing was, for want of memory; or a beginning of it was,
--- and a write or a flush failed
-abbrev pub EndsSo : Bool → Classes → List (List ℕ) → List ℕ → Option (List ℕ) → Option (List ℕ) → Bool → Bool → Ending → Type 0
+-- the end of a file: its printout was printed; or memory was refused, and nothing was printed; or a
+-- write or a flush failed, and a beginning of the printout was printed
+abbrev pub EndsSo : Bool → Classes → List (List ℕ) → List ℕ → Option (List ℕ) → Option (List ℕ) → Bool → Bool → ClusteringEnd → Type 0
 EndsSo is_shown classes names text old new failed fails Done = IsShown is_shown classes names text old new failed fails Done
 EndsSo is_shown classes names text old new failed fails Bad = IsShown is_shown classes names text old new failed fails Bad
 EndsSo is_shown classes names text old new failed fails Refused = IsShown is_shown classes names text old new failed fails Refused
 EndsSo is_shown classes names text old new failed fails NoMemory = (new ≡ old) × (fails ≡ failed)
 EndsSo is_shown classes names text old new failed fails Unprinted = IsBegun is_shown classes names text old new fails
 
--- WHAT A CLUSTER FILE COMES TO: with the built-in classes and those of the tenants' files, the text
--- that the file holds.
-pub record Clusters (disk : Option Disk) (c : Clustering) (old new : Option (List ℕ)) (failed fails : Bool) (ending : Ending) : Type 0 where
+-- A CLUSTER FILE IS PLAYED: the text that the file holds, with the built-in classes and those of
+-- the tenants' files.
+pub record Clusters (disk : Option Disk) (c : Clustering) (old new : Option (List ℕ)) (failed fails : Bool) (ending : ClusteringEnd) : Type 0 where
   pub classes : Classes
   pub loaded : AreClasses disk c.tenants.items classes
   pub text : List ℕ
   pub held : Holds disk c.file.now text
   pub ends : EndsSo c.is_shown classes (names_of c.tenants.items) text old new failed fails ending
 
--- the classes were had, and the file can't be read or is no text; or memory was refused
+-- the classes were loaded, and the file can't be read or is no text; or memory was refused
 pub record FileFails (disk : Option Disk) (c : Clustering) (failure : Failure) : Type 0 where
   pub classes : Classes
   pub loaded : AreClasses disk c.tenants.items classes
   pub why : TextFails disk c.file.now failure
 
--- Why nothing was done, in the order in which it is tried: by the classes, by the file.
+-- Why nothing was done, in the order of the checks: because of the classes, or of the file.
 abbrev pub ClusteringFails : Option Disk → Clustering → Failure → Type 0
 ClusteringFails disk c failure = ClassesFail disk c.tenants.items failure ⊎ FileFails disk c failure

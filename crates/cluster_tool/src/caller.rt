@@ -2,7 +2,7 @@ ghost use Rattle.std.specs.Prelude.{◌≡◌, ◌∷◌, [], false, IfOk};
 ghost use Rattle.cluster_tool.specs.Callers.{HasCalled, MadeCall};
 
 use crate::figures::{Figures, now};
-use cluster_file::{Call, Step};
+use cluster_file::{PlannedCall, PlannedStep};
 use osd::ClusterName;
 use rados_client::{ClassId, ExecError, Reply, Session};
 use std::alloc::{AllocError, Global};
@@ -55,7 +55,7 @@ impl<'a, N: ClusterName, R: Wait> Caller<'a, N, R> {
 
 impl<'a, N: ClusterName, R: Wait + Clock> Caller<'a, N, R> {
     /// Makes its calls of these steps, one after another.
-    pub fn call_all(&mut self, alloc: Global, clock: &R, figures: &Figures, steps: &[Step])
+    pub fn call_all(&mut self, alloc: Global, clock: &R, figures: &Figures, steps: &[PlannedStep])
         ensures { HasCalled N.classes steps.now self.old self.new }
     {
         for step in steps {
@@ -64,23 +64,23 @@ impl<'a, N: ClusterName, R: Wait + Clock> Caller<'a, N, R> {
     }
 
     /// Makes the step's call, if it is a call of this client.
-    fn take_step(&mut self, alloc: Global, clock: &R, figures: &Figures, step: &Step)
+    fn take_step(&mut self, alloc: Global, clock: &R, figures: &Figures, step: &PlannedStep)
         ensures { HasCalled N.classes (step.now ∷ []) self.old self.new }
     {
         match step {
-            Step::Call(call) => {
+            PlannedStep::Call(call) => {
                 if call.client() == self.session.client() {
                     let start = now(clock);
                     self.call(alloc, call);
                     figures.note_call(clock, start);
                 }
             }
-            Step::Map(_, _) => {}
+            PlannedStep::Map(_, _) => {}
         }
     }
 
     /// Makes a call, and keeps how it ended.
-    fn call(&mut self, alloc: Global, call: &Call)
+    fn call(&mut self, alloc: Global, call: &PlannedCall)
         ensures { MadeCall N.classes call.now self.old self.new }
     {
         let end = self.session.exec(

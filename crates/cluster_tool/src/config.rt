@@ -1,11 +1,11 @@
 ghost use Rattle.std.specs.Prelude.{◌≡◌};
 ghost use Rattle.cluster_tool.specs.Config.{config_of};
 
-use cluster_file::Numbers;
+use cluster_file::ClusterNumbers;
 use osd::Config;
 
 /// The cluster that a first line's numbers make, if each is within its limits.
-pub(crate) fn config_of(numbers: Numbers) -> Option<Config>
+pub(crate) fn config_of(numbers: ClusterNumbers) -> Option<Config>
     ensures { result ≡ config_of numbers }
 {
     if numbers.tries > u64::from(u32::MAX) {

@@ -21,4 +21,4 @@ mod tool;
 pub use asked::Clustering;
 pub use figures::Figures;
 pub use meter::Meter;
-pub use tool::{Ending, cluster};
+pub use tool::{ClusteringEnd, cluster};

@@ -8,7 +8,7 @@ use crate::crossing::{caller_crosses, figures_cross};
 use crate::figures::Figures;
 use crate::meter::Meter;
 use crate::played::Played;
-use cluster_file::{Plan, Step};
+use cluster_file::{Plan, PlannedStep};
 use map_book::MapError;
 use osd::{ClusterName, ClusterParts, NoMemory, Running, running_crosses};
 use pg_log::ClassTable;
@@ -158,10 +158,10 @@ fn callers<'a, N: ClusterName, R: Wait>(
 }
 
 /// The number of these steps that are calls.
-fn count_calls(steps: &[Step]) -> u64 {
+fn count_calls(steps: &[PlannedStep]) -> u64 {
     let mut calls: u64 = 0;
     for step in steps {
-        if let Step::Call(_) = step {
+        if let PlannedStep::Call(_) = step {
             calls = calls.wrapping_add(1);
         }
     }
@@ -173,7 +173,7 @@ fn call_all<'a, N: ClusterName + Send + Sync, R: Threads + Wait + Clock + Sync>(
     alloc: Global,
     running: &'a Running<N, R>,
     figures: &Figures,
-    steps: &[Step],
+    steps: &[PlannedStep],
     callers: &mut Vec<Caller<'a, N, R>>,
 )
     ensures { AllCalled N.classes steps.now callers.old.items callers.new.items }
@@ -201,7 +201,7 @@ fn play_steps<'a, N: ClusterName + Send + Sync, R: Threads + Wait + Clock + Sync
     alloc: Global,
     running: &'a Running<N, R>,
     meter: &mut Meter<'_, E>,
-    steps: &[Step],
+    steps: &[PlannedStep],
     callers: &mut Vec<Caller<'a, N, R>>,
 ) -> Option<(usize, MapError)>
     ensures none { IfNone result (AllCalled N.classes steps.now callers.old.items callers.new.items) }
@@ -214,14 +214,14 @@ fn play_steps<'a, N: ClusterName + Send + Sync, R: Threads + Wait + Clock + Sync
     meter.begin(running.runtime(), count_calls(steps));
     for at in 0..end {
         match &steps[at] {
-            Step::Map(line, nodes) => {
+            PlannedStep::Map(line, nodes) => {
                 call_all(alloc, running, figures, &steps[from..at], callers);
                 if let Err(why) = running.new_map(nodes.items()) {
                     return Some((*line, why));
                 }
                 from = at;
             }
-            Step::Call(_) => {
+            PlannedStep::Call(_) => {
                 if meter.is_due(at - from) {
                     call_all(alloc, running, figures, &steps[from..at], callers);
                     meter.look(running.runtime());

@@ -8,7 +8,7 @@ ghost use Rattle.std.proofs.Props.{props};
 ghost use Rattle.cluster_tool.specs.Answers.{shown};
 ghost use Rattle.cluster_tool.specs.Clustering.{groups_if};
 
-use cluster_file::{Call, Step, push_asked, push_head, push_refused, push_replied};
+use cluster_file::{PlannedCall, PlannedStep, push_asked, push_head, push_refused, push_replied};
 use osd::Config;
 use rados_client::{ExecError, Reply};
 use std::alloc::{AllocError, Global};
@@ -40,13 +40,13 @@ fn push_end(
 fn calls_of<'a>(
     alloc: Global,
     client: usize,
-    steps: &'a [Step],
-) -> Result<Vec<&'a Call>, AllocError>
+    steps: &'a [PlannedStep],
+) -> Result<Vec<&'a PlannedCall>, AllocError>
     ensures { IfOk result (λ v. map (λ c. c.now) v.items ≡ calls_of client steps.now) }
 {
     let mut calls = Vec::new(alloc);
     for step in steps {
-        if let Step::Call(call) = step {
+        if let PlannedStep::Call(call) = step {
             if call.client().get() as usize == client {
                 calls.push(call)?;
             }
@@ -59,7 +59,7 @@ fn calls_of<'a>(
 #[derive(Clone, Copy)]
 struct Client<'a> {
     number: usize,
-    calls: &'a [&'a Call],
+    calls: &'a [&'a PlannedCall],
     ends: &'a [Result<Reply, ExecError>],
 }
 
@@ -73,7 +73,7 @@ struct Form {
 
 impl Form {
     /// Appends what a call asked, if that is shown.
-    fn push_asked(&self, text: &mut String, call: &Call) -> Result<(), AllocError>
+    fn push_asked(&self, text: &mut String, call: &PlannedCall) -> Result<(), AllocError>
         ensures { OnOk result (string_bytes text.new ≡ string_bytes text.old ++ asked_if self.now.groups call.now) }
     {
         match self.groups {
@@ -86,7 +86,7 @@ impl Form {
     fn push_call(
         &self,
         text: &mut String,
-        call: &Call,
+        call: &PlannedCall,
         end: &Result<Reply, ExecError>,
     ) -> Result<(), AllocError>
         ensures { OnOk result (string_bytes text.new ≡ string_bytes text.old ++ (asked_if self.now.groups call.now ++ end_text (shown end.now))) }
@@ -131,7 +131,7 @@ impl Form {
         &self,
         text: &mut String,
         number: usize,
-        steps: &[Step],
+        steps: &[PlannedStep],
         ends: &[Result<Reply, ExecError>],
     ) -> Result<(), AllocError>
         ensures { OnOk result (string_bytes text.new ≡ string_bytes text.old ++ call_lines self.now.groups number 0 (calls_of number steps.now) (map shown ends.now)) }
@@ -151,7 +151,7 @@ impl Form {
 pub(crate) fn lines_of(
     alloc: Global,
     groups: Option<u64>,
-    steps: &[Step],
+    steps: &[PlannedStep],
     ends: &[Vec<Result<Reply, ExecError>>],
 ) -> Result<String, AllocError>
     requires { IfSome groups (λ n. IsTrue (is_group_count n)) }

@@ -25,7 +25,7 @@ use tenant_classes::{class_names, classes};
 
 /// The end of a file.
 #[derive(Clone, Copy, Drop)]
-pub enum Ending {
+pub enum ClusteringEnd {
     /// Each call was made, refused ones too, and all lines were printed.
     Done,
     /// A line is malformed; its line was printed alone, and nothing was done.
@@ -50,7 +50,7 @@ struct Extras<'a, 'b, E> {
 #[derive(Drop)]
 struct Printout {
     text: String,
-    ending: Ending,
+    ending: ClusteringEnd,
 }
 
 /// Loads the classes, reads the file whole, and plays its plan. Requests go to `lock` (0), `obj`
@@ -73,7 +73,7 @@ pub fn cluster<
     asked: &Clustering<'_>,
     meter: &mut Meter<'_, E>,
     out: &mut O,
-) -> Result<Ending, Failure>
+) -> Result<ClusteringEnd, Failure>
     ensures ends { IfOk result (Clusters (F.disk files.now) asked.now (O.printed out.old) (O.printed out.new) (O.failed out.old) (O.failed out.new)) }
     ensures fails { IfErr result (ClusteringFails (F.disk files.now) asked.now) }
     ensures silent { OnErr result (out.new ≡ out.old) }
@@ -88,18 +88,18 @@ pub fn cluster<
     };
     match settle(rt, table, &names, &text, extras) {
         Ok(printout) => Ok(print(printout, out)),
-        Err(_) => Ok(Ending::NoMemory),
+        Err(_) => Ok(ClusteringEnd::NoMemory),
     }
 }
 
 /// Prints a file's outcome.
-fn print<O: Output>(printout: Printout, out: &mut O) -> Ending
+fn print<O: Output>(printout: Printout, out: &mut O) -> ClusteringEnd
     ensures { Prints (string_bytes printout.text) printout.ending (O.printed out.old) (O.printed out.new) (O.failed out.old) (O.failed out.new) result }
 {
     let ending = printout.ending;
     match out.print(printout.text.as_str()) {
         Ok(()) => ending,
-        Err(_) => Ending::Unprinted,
+        Err(_) => ClusteringEnd::Unprinted,
     }
 }
 
@@ -118,19 +118,19 @@ fn settle<R: AllocGlobal + Threads + Wait + Clock + Sync + Drop, E: io::Write>(
         Reading::Plan(plan) => settle_plan(rt, table, &plan, extras),
         Reading::Bad(line) => Ok(Printout {
             text: bad_line(alloc, line)?,
-            ending: Ending::Bad,
+            ending: ClusteringEnd::Bad,
         }),
     }
 }
 
 /// A cluster or a map that is refused, at that line.
 fn refused<E: Display + Drop>(alloc: Global, line: usize, why: E) -> Result<Printout, AllocError>
-    ensures ending { IfOk result (λ o. o.ending ≡ Ending.Refused) }
+    ensures ending { IfOk result (λ o. o.ending ≡ ClusteringEnd.Refused) }
     ensures text { IfOk result (λ o. IfSome (E.output why) (λ reason. string_bytes o.text ≡ refused_line line reason)) }
 {
     Ok(Printout {
         text: refused_line(alloc, line, why)?,
-        ending: Ending::Refused,
+        ending: ClusteringEnd::Refused,
     })
 }
 
@@ -155,7 +155,7 @@ fn settle_plan<R: AllocGlobal + Threads + Wait + Clock + Sync + Drop, E: io::Wri
     match play::<Brand, R, E>(rt, parts, table, plan, extras.meter) {
         Ok(Played::Done(ends)) => Ok(Printout {
             text: lines_of(alloc, groups, plan.steps(), &ends)?,
-            ending: Ending::Done,
+            ending: ClusteringEnd::Done,
         }),
         Ok(Played::MapRefused(line, why)) => refused(alloc, line, why),
         Ok(Played::NoMemory) => Err(AllocError),

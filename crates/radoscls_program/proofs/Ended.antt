@@ -5,12 +5,12 @@ use Rattle.command_line.specs.declared.unparsed.Unparsed.{Unparsed}
 use Rattle.class_tool.specs.Files.{Storage}
 use Rattle.class_tool.specs.declared.action.Action.{Action}
 use Rattle.class_tool.specs.declared.action.Action.TheVariants.{Run}
-use Rattle.class_tool.specs.declared.answer.Answer.{Answer}
+use Rattle.class_tool.specs.declared.action_result.ActionResult.{ActionResult}
 use Rattle.class_tool.specs.declared.failure.Failure.{Failure}
 use Rattle.class_tool.specs.declared.failure.Failure.TheVariants.{NoMemory}
 use Rattle.pg_log.specs.Log.{Classes}
 use Rattle.sim.specs.Simulating.{Plays}
-use Rattle.sim.specs.declared.file.Ending.TheVariants as ending
+use Rattle.sim.specs.declared.file.SimulationEnd.TheVariants as ending
 use Rattle.radoscls_program.specs.Program.{Ends, Found, IsDone, IsFileNoteAsked, IsNamed, IsRefused, IsUnstarted, Responds, Starts, TaskEnds}
 use Rattle.radoscls_program.specs.Asked.{AreFor, AreForNone}
 use Rattle.radoscls_program.specs.Status.{code_of}
@@ -20,8 +20,8 @@ use Rattle.radoscls_program.specs.declared.status.ExitStatus.TheVariants.{Done, 
 use Rattle.radoscls_program.specs.declared.task.Task.{Task}
 use Rattle.radoscls_program.specs.declared.task.Task.TheVariants as task
 
--- where they name an action
-class_ended : (before after : Storage) (old new : Stream) (words : List Text) (a : Action) (e : Bool) (found : Result Answer Failure) (note : List ℕ) (status : ExitStatus)
+-- the end, if the words name an action
+class_ended : (before after : Storage) (old new : Stream) (words : List Text) (a : Action) (e : Bool) (found : Result ActionResult Failure) (note : List ℕ) (status : ExitStatus)
     → IsNamed before.disk words a e → Found before after a e found note → Responds old new found note status → Ends before after old new words status
 class_ended before after old new words a e (Ok answer) note Done named found took =
     inl (record { action = a; is_explained = e; named = named; answer = answer; settles = found; printed = took })
@@ -33,7 +33,7 @@ class_ended before after old new words a e (Err failure) note Refused named foun
     inl (record { action = a; is_explained = e; named = named; failure = failure; fails = found.0; note = note; noted = found.1; printed = printed })
 class_ended before after old new words a e (Err failure) note Usage named found none = absurd none
 
--- where the words name the task
+-- the end, if the words name the task
 pub ended : (before after : Storage) (old new : Stream) (words : List Text) (task : Task) (status : ExitStatus)
     → AreFor words task → TaskEnds before after old new task status → Ends before after old new words status
 ended before after old new words (task.Class a e) status named acts =
@@ -53,13 +53,13 @@ ended before after old new words (task.Run call e) Usage named (inr un) = absurd
 ended before after old new words (task.Sim s) Done named played = inr (inl (record { simulation = s; named = named; left = played.0; ended = played.1 }))
 ended before after old new words (task.Sim s) Refused named played = inr (inr (inr (inl (record { simulation = s; named = named; left = played.0; ended = played.1 }))))
 ended before after old new words (task.Sim s) Usage named played = absurd played.1
-ended before after old new words (task.Cluster c m) Done named ran =
-    inr (inr (inl (record { asked = c; is_measured = m; named = named; left = ran.0; ended = ran.1 })))
-ended before after old new words (task.Cluster c m) Refused named ran =
-    inr (inr (inr (inr (inl (record { asked = c; is_measured = m; named = named; left = ran.0; ended = ran.1 })))))
-ended before after old new words (task.Cluster c m) Usage named ran = absurd ran.1
+ended before after old new words (task.Cluster c) Done named ran =
+    inr (inr (inl (record { asked = c; named = named; left = ran.0; ended = ran.1 })))
+ended before after old new words (task.Cluster c) Refused named ran =
+    inr (inr (inr (inr (inl (record { asked = c; named = named; left = ran.0; ended = ran.1 })))))
+ended before after old new words (task.Cluster c) Usage named ran = absurd ran.1
 
--- where they name none, and why was said
+-- the end, if the words name no task and the program says why
 pub explained : (files : Storage) (old new : Stream) (words : List Text) (e : Unparsed) (status : ExitStatus) → ((IsMemory e → ⊥) → AreForNone words)
     → status ≢ Done → (status ≡ Refused → IsPrinted old new (failure_line NoMemory))
     → (status ≡ Usage → (IsMemory e → ⊥) × (new ≡ old)) → Ends files files old new words status
@@ -94,7 +94,7 @@ done_well before after old new words (inr (inl played)) = let p = played.ended i
 done_well before after old new words (inr (inr (inl ran))) = ran.ended.ends.well
 done_well before after old new words (inr (inr (inr each))) = each.ended.printed.well
 
--- where a write fails, the status is 1
+-- if a write fails, the status is 1
 pub failed_by : (before after : Storage) (old new : Stream) (words : List Text) (status : ExitStatus) (n : ℕ)
     → n ≡ code_of status → Ends before after old new words status → old.failed ≡ false → new.failed ≡ true → n ≡ 1
 failed_by before after old new words Done n is ends well failed =
@@ -103,7 +103,7 @@ failed_by before after old new words Refused n is ends well failed = is
 failed_by before after old new words Usage n is ends well failed =
     let bad : false ≡ true = sym well ∙ sym (ap (λ (s : Stream). s.failed) ends.silent) ∙ failed in absurd cc
 
--- where the words were read, or not
+-- the end, whether or not the words were read
 pub started : {A B : Type 0} (words : Result A B) (texts : A → List Text) (before after : Storage) (old new : Stream) (status : ExitStatus)
     → IfOk words (λ all. Ends before after old new (texts all) status) → IfErr words (λ _. IsUnstarted before after old new status)
     → Starts before after old new status

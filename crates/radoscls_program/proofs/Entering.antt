@@ -3,19 +3,19 @@ use Rattle.std.proofs.Common.{◌≡◌, ◌∙◌, ◌<◌, ◌+◌, ℕ, suc, 
 use Rattle.std.proofs.lemmas.List.{map-append, take-append-drop}
 use Rattle.std.proofs.Math.Seq.{drop-cons, take-suc}
 use Rattle.command_line.specs.Parsed.{Text}
-use Rattle.class_tool.specs.declared.action.Entry.{Entry}
+use Rattle.class_tool.specs.declared.action.NamedValue.{NamedValue}
 use Rattle.radoscls_program.specs.Entries.{AreEntries, IsEntry}
 
--- one more
-one_more : (texts : List Text) (es : List Entry) (text : Text) (e : Entry) → AreEntries texts es → IsEntry text e → AreEntries (texts ++ text ∷ []) (es ++ e ∷ [])
+-- one more entry
+one_more : (texts : List Text) (es : List NamedValue) (text : Text) (e : NamedValue) → AreEntries texts es → IsEntry text e → AreEntries (texts ++ text ∷ []) (es ++ e ∷ [])
 one_more [] [] text e are is = (is, tt)
 one_more [] (n ∷ ns) text e are is = absurd are
 one_more (t ∷ ts) [] text e are is = absurd are
 one_more (t ∷ ts) (n ∷ ns) text e are is = (are.0, one_more ts ns text e are.1 is)
 
--- a text among them that spells none
-one_spells_none : (first : List Text) (text : Text) (rest : List Text) → ((e : Entry) → IsEntry text e → ⊥)
-    → (es : List Entry) → AreEntries (first ++ text ∷ rest) es → ⊥
+-- a text among them that spells no entry
+one_spells_none : (first : List Text) (text : Text) (rest : List Text) → ((e : NamedValue) → IsEntry text e → ⊥)
+    → (es : List NamedValue) → AreEntries (first ++ text ∷ rest) es → ⊥
 one_spells_none [] text rest none [] are = are
 one_spells_none [] text rest none (e ∷ es) are = none e are.0
 one_spells_none (t ∷ ts) text rest none [] are = are
@@ -23,7 +23,7 @@ one_spells_none (t ∷ ts) text rest none (e ∷ es) are = one_spells_none ts te
 
 module _ {X : Type 0} (f : X → Text) where
   -- the entries of the first texts, and of the next
-  pub next_entered : (texts : List X) (i : ℕ) (d : X) (es : List Entry) (e : Entry) → i < length texts
+  pub next_entered : (texts : List X) (i : ℕ) (d : X) (es : List NamedValue) (e : NamedValue) → i < length texts
       → AreEntries (map f (take i texts)) es → IsEntry (f (get_or texts i d)) e → AreEntries (map f (take (i + 1) texts)) (es ++ e ∷ [])
   next_entered texts i d es e within are is =
       let one : i + 1 ≡ suc i = omega arith in
@@ -31,9 +31,9 @@ module _ {X : Type 0} (f : X → Text) where
       ap (λ n. map f (take n texts)) one ∙ ap (map f) (take-suc texts i d within) ∙ map-append f (take i texts) (get_or texts i d ∷ []) in
       subst (λ (ts : List Text). AreEntries ts (es ++ e ∷ [])) (sym longer) (one_more (map f (take i texts)) es (f (get_or texts i d)) e are is)
 
-  -- where the next text spells none, they spell none
-  pub next_enters_none : (texts : List X) (i : ℕ) (d : X) → i < length texts → ((e : Entry) → IsEntry (f (get_or texts i d)) e → ⊥)
-      → (es : List Entry) → AreEntries (map f texts) es → ⊥
+  -- if the next text spells no entry, the texts spell none
+  pub next_enters_none : (texts : List X) (i : ℕ) (d : X) → i < length texts → ((e : NamedValue) → IsEntry (f (get_or texts i d)) e → ⊥)
+      → (es : List NamedValue) → AreEntries (map f texts) es → ⊥
   next_enters_none texts i d within none es are =
       let split : texts ≡ take i texts ++ get_or texts i d ∷ drop (suc i) texts =
       sym (take-append-drop i texts) ∙ ap (λ rest. take i texts ++ rest) (drop-cons texts i d within) in

@@ -7,12 +7,12 @@ use Rattle.command_line.specs.Parsed.{Text}
 use Rattle.class_tool.specs.declared.action.RawMethod.{RawMethod}
 use Rattle.radoscls_program.specs.Raw.{AreRaw, IsRaw}
 
--- what holds where there is none
+-- a fact about a value that isn't there holds
 pub if_none : {A P : Type 0} (o : Option A) → (o ≡ None → P) → IfNone o P
 if_none None holds = holds refl
 if_none (Some a) holds = tt
 
--- one more
+-- one more method
 one_more : (texts : List Text) (ms : List RawMethod) (text : Text) (m : RawMethod) → AreRaw texts ms → IsRaw text m
     → AreRaw (texts ++ text ∷ []) (ms ++ m ∷ [])
 one_more [] [] text m are is = (is, tt)
@@ -20,7 +20,7 @@ one_more [] (n ∷ ns) text m are is = absurd are
 one_more (t ∷ ts) [] text m are is = absurd are
 one_more (t ∷ ts) (n ∷ ns) text m are is = (are.0, one_more ts ns text m are.1 is)
 
--- a text among them that spells none
+-- a text among them that spells no method
 one_spells_none : (first : List Text) (text : Text) (rest : List Text) → ((m : RawMethod) → IsRaw text m → ⊥)
     → (ms : List RawMethod) → AreRaw (first ++ text ∷ rest) ms → ⊥
 one_spells_none [] text rest none [] are = are
@@ -38,7 +38,7 @@ module _ {X : Type 0} (f : X → Text) where
       ap (λ n. map f (take n texts)) one ∙ ap (map f) (take-suc texts i d within) ∙ map-append f (take i texts) (get_or texts i d ∷ []) in
       subst (λ (ts : List Text). AreRaw ts (ms ++ m ∷ [])) (sym longer) (one_more (map f (take i texts)) ms (f (get_or texts i d)) m are is)
 
-  -- where the next text spells none, they spell none
+  -- if the next text spells no method, the texts spell none
   pub next_spells_none : (texts : List X) (i : ℕ) (d : X) → i < length texts → ((m : RawMethod) → IsRaw (f (get_or texts i d)) m → ⊥)
       → (ms : List RawMethod) → AreRaw (map f texts) ms → ⊥
   next_spells_none texts i d within none ms are =

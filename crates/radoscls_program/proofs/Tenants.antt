@@ -2,7 +2,7 @@
 use Rattle.std.proofs.Common.{◌≡◌, Bool, List, [], ◌∷◌, true, false, ◌+◌, length, refl, arith}
 use Rattle.std.specs.List.{list_any, position_or_len}
 
--- where nothing that passes stands before the end, nothing passes
+-- if no element before the end passes, no element passes
 pub none_passes : {X : Type 0} (p : X → Bool) (xs : List X) → position_or_len p xs ≡ length xs → list_any p xs ≡ false
 none_passes p [] same = refl
 none_passes p (x ∷ xs) same = go (p x) refl (none_passes p xs)

@@ -1,4 +1,4 @@
--- The task that words ask for, by what is read of them.
+-- The task that words ask for, by the parse of the words.
 use Rattle.std.proofs.Common.{◌≡◌, ◌∙◌, ap₂, sym, subst, List, Result, Ok, Err, IfErr, IfOk}
 use Rattle.std.proofs.lemmas.Option.{some_pair_parts}
 use Rattle.command_line.specs.Parsed.{IsMemory, IsNoParse, IsParse, Parsed, Text}
@@ -7,7 +7,7 @@ use Rattle.radoscls_program.specs.Arguments.{Asks}
 use Rattle.radoscls_program.specs.Asked.{AreFor, AreForNone}
 use Rattle.radoscls_program.specs.declared.task.Task.{Task}
 
--- words with that parse ask for what it asks for
+-- words with that parse ask for the task that the parse asks for
 asks_of : (words : List Text) (p : Parsed) → IsParse words p → ((task : Task) → Asks p task → ⊥) → AreForNone words
 asks_of words p is none task for =
     let same = some_pair_parts for.parsed.name p.name for.parsed.rows p.rows (sym for.parse.entered ∙ is.entered) in
@@ -23,6 +23,6 @@ pub none_asked : (words : List Text) (p : Parsed) (found : Result Task Unparsed)
 none_asked words p (Ok task) is none = tt
 none_asked words p (Err e) is none = λ known. asks_of words p is (none known)
 
--- words without one ask for nothing
+-- words without a parse ask for no task
 pub asks_nothing : (words : List Text) → IsNoParse words → AreForNone words
 asks_nothing words none task for = none for.parsed for.parse

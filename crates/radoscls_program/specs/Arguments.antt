@@ -5,7 +5,7 @@ use Rattle.bpf_decode.specs.declared.rule_set.RuleSet.{RuleSet}
 use Rattle.bpf_decode.specs.declared.rule_set.RuleSet.TheVariants.{One, Two}
 use Rattle.class_tool.specs.declared.action.Action.{Action}
 use Rattle.class_tool.specs.declared.action.Action.TheVariants.{Verify, Run, Assemble, Pack, Disassemble}
-use Rattle.class_tool.specs.declared.action.Call.{Call}
+use Rattle.class_tool.specs.declared.action.MethodCall.{MethodCall}
 use Rattle.class_tool.specs.declared.action.Packing.{Packing}
 use Rattle.cluster_tool.specs.declared.asked.Clustering.{Clustering}
 use Rattle.command_line.specs.Parsed.{Parsed, Text, all_in, is_set_in, one_in}
@@ -29,26 +29,26 @@ pub record TakesPacking (p : Parsed) (asked : Packing) : Type 0 where
   pub rules : option_and_then rules_named (one_in p (codes "rules")) ≡ Some asked.rules
   pub methods : AreRaw (all_in p (codes "METHOD")) asked.methods.items
 
--- `run` takes, but for the object: the file IN of the image, METHOD, the bytes that --input spells,
--- and the client of the number --caller.
+-- `run` takes, not counting the object: the file IN of the image, METHOD, the bytes that --input
+-- spells, and the client with the number --caller.
 pub record TakesPlain (p : Parsed) (call : Plain) : Type 0 where
   pub image : one_in p (codes "IN") ≡ Some call.image.now
   pub method : one_in p (codes "METHOD") ≡ Some call.method.now
   pub input : one_in p (codes "input") ≡ Some call.input.now
   pub caller : option_and_then id_in (one_in p (codes "caller")) ≡ Some call.caller
 
-abbrev pub plain_of : Call → Plain
+abbrev pub plain_of : MethodCall → Plain
 plain_of call = record { image = call.image; method = call.method; input = call.input; caller = call.caller }
 
--- The object is that of a file, --load, or that of words.
+-- The object is that of the file --load, or that of words.
 abbrev pub loads_alone : Parsed → Bool
 loads_alone p =
     is_none (one_in p (codes "load"))
     || (is_none (one_in p (codes "object")) && ((length (all_in p (codes "xattr")) == 0) && (length (all_in p (codes "key")) == 0)))
 
 -- `run` takes that, the object's data --object, an xattr of each --xattr and a key of each --key,
--- the files --load and --save, and whether --show is there. Values may be files'.
-pub record TakesCall (p : Parsed) (call : Call) : Type 0 where
+-- the files --load and --save, and whether --show is there. A file may hold a value.
+pub record TakesCall (p : Parsed) (call : MethodCall) : Type 0 where
   pub plain : TakesPlain p (plain_of call)
   pub data_text : one_in p (codes "object") ≡ option_map (λ t. t.now) call.data
   pub xattrs : AreEntries (all_in p (codes "xattr")) call.xattrs.items
@@ -58,9 +58,9 @@ pub record TakesCall (p : Parsed) (call : Call) : Type 0 where
   pub alone : loads_alone p ≡ true
   pub shown : call.is_shown ≡ is_set_in p (codes "show")
 
--- Each action but a call takes: to tell whether a class is safe, the file IN, without --all; to
--- assemble a text, the file IN and the file OUT of the image; to pack raw code, as `pack`; to give
--- the text of a class, the file IN, with slots if --slots is there.
+-- The arguments of each action but a call: to tell whether a class is safe, the file IN, without
+-- --all; to assemble a text, the file IN and the file OUT of the image; to pack raw code, those of
+-- `pack`; to give the text of a class, the file IN, with slots if --slots is there.
 abbrev pub TakesAction : Parsed → Action → Type 0
 TakesAction p (Verify image) = (one_in p (codes "IN") ≡ Some image.now) × (is_set_in p (codes "all") ≡ false)
 TakesAction p (Run call) = ⊥
@@ -92,7 +92,7 @@ TakesTask p (task.Class action is_explained) = TakesAction p action × (is_expla
 TakesTask p (task.Each image is_explained) = TakesEach p image.now × (is_explained ≡ is_set_in p (codes "explain"))
 TakesTask p (task.Run call is_explained) = TakesCall p call × (is_explained ≡ is_set_in p (codes "explain"))
 TakesTask p (task.Sim s) = TakesSim p s
-TakesTask p (task.Cluster c is_measured) = TakesCluster p c × (is_measured ≡ is_set_in p (codes "stats"))
+TakesTask p (task.Cluster c) = TakesCluster p c.clustering × (c.is_measured ≡ is_set_in p (codes "stats"))
 
 -- the subcommand of a task
 abbrev pub subcommand_for : Action → Text
@@ -107,7 +107,7 @@ name_for (task.Class action is_explained) = subcommand_for action
 name_for (task.Each image is_explained) = codes "verify"
 name_for (task.Run call is_explained) = codes "run"
 name_for (task.Sim s) = codes "sim"
-name_for (task.Cluster c is_measured) = codes "cluster"
+name_for (task.Cluster c) = codes "cluster"
 
 -- The subcommand that words name is a task's, and its arguments ask for that task.
 pub record Names (p : Parsed) (task : Task) : Type 0 where

@@ -1,4 +1,4 @@
--- Standard input, which `-` names.
+-- Standard input, whose name is `-`.
 use Rattle.std.specs.Prelude.{◌≡◌, ◌==◌, ◌≤◌, ◌++◌, ℕ, Bool, false, List, [], ◌∷◌, Option, Some, None, codes, count_by, map, slice_index, if◌then◌else◌}
 use Rattle.std.specs.List.{after_first, flat_map, list_any}
 use Rattle.std.specs.Str.{bytes_eq}
@@ -9,12 +9,12 @@ use Rattle.radoscls_program.specs.Tenants.{image_in}
 abbrev pub is_input : Text → Bool
 is_input name = bytes_eq name (codes "-")
 
--- the text of an argument that stands once
+-- the text of an argument that may be there once
 abbrev pub named : Option Text → List Text
 named None = []
 named (Some name) = name ∷ []
 
--- the files of raw code: those of METHOD, which `run` has too, for the name of its method
+-- the files of raw code: those of METHOD; `run` has an argument METHOD too, the name of its method
 abbrev pub code_files : Parsed → List Text
 code_files p = if bytes_eq p.name (codes "pack") then map code_in (all_in p (codes "METHOD")) else []
 
@@ -44,7 +44,7 @@ files_read p =
     named (one_in p (codes "IN")) ++ named (one_in p (codes "FILE")) ++ map image_in (all_in p (codes "class")) ++ code_files p
     ++ flat_map value_file (call_values p) ++ named (one_in p (codes "load"))
 
--- one of them at most is standard input, and neither OUT nor the file of --save is
+-- at most one of them is standard input, and neither OUT nor the file of --save is
 pub record UsesInputWell (p : Parsed) : Type 0 where
   pub once : count_by is_input (files_read p) ≤ 1
   pub unwritten : list_any is_input (named (one_in p (codes "OUT"))) ≡ false

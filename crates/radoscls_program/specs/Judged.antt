@@ -10,15 +10,15 @@ use Rattle.radoscls_program.specs.Streams.{IsPrinted, Lost, Stream, Took, failur
 use Rattle.radoscls_program.specs.declared.status.ExitStatus.{ExitStatus}
 use Rattle.radoscls_program.specs.declared.status.ExitStatus.TheVariants.{Done, Refused, Usage}
 
--- each method's verdict was printed, and no rule refuses one, or some rule does
+-- each method's verdict was printed, and no rule refuses a method, or some rule does
 pub record IsJudged (disk : Option Disk) (old new : Stream) (image : List ℕ) (is_explained accepted : Bool) : Type 0 where
   pub verdicts : Verdicts
   pub are : AreVerdicts disk image is_explained verdicts
   pub same : verdicts.are_accepted ≡ accepted
   pub printed : Took old new (string_bytes verdicts.lines)
 
--- verdicts are printed: whole, and then the status tells whether no rule refuses a method; or a
--- beginning of them is
+-- all verdicts are printed, and the status tells whether a rule refuses a method; or a beginning of
+-- them is printed
 abbrev pub Shows : Stream → Stream → Verdicts → ExitStatus → Type 0
 Shows old new verdicts Done = (verdicts.are_accepted ≡ true) × Took old new (string_bytes verdicts.lines)
 Shows old new verdicts Refused = ((verdicts.are_accepted ≡ false) × Took old new (string_bytes verdicts.lines)) ⊎ Lost old new (string_bytes verdicts.lines)
@@ -35,12 +35,12 @@ pub record IsUnprinted (disk : Option Disk) (old new : Stream) (image : List ℕ
   pub are : AreVerdicts disk image is_explained verdicts
   pub unprinted : Lost old new (string_bytes verdicts.lines)
 
--- what is printed after a failure's line, where that is asked for
+-- the note after a failure's line, if it is asked for
 abbrev pub IsNoteAsked : Bool → Option Disk → List ℕ → Failure → List ℕ → Type 0
 IsNoteAsked false disk image failure note = note ≡ []
 IsNoteAsked true disk image failure note = IsFileNote disk image failure note
 
--- no class was read, and a line says why, with --explain the note below it
+-- no class was read, and a line says why; with --explain a note follows
 pub record IsUnjudged (disk : Option Disk) (old new : Stream) (image : List ℕ) (is_explained : Bool) : Type 0 where
   pub failure : Failure
   pub fails : ReadFails disk image failure

@@ -1,8 +1,8 @@
--- A reader must believe Program (how the program ends, what it printed and wrote) over Asked and
--- Arguments (what words ask for; how they are read is `command_line`'s), Inputs (how standard input
--- is used), Entries, Tenants and Raw (how words spell xattrs and keys, tenants' classes, methods),
--- Judged, Playing and Clustered (how `verify --all`, `sim` and `cluster` end), Status and Streams (the number of an ending,
--- what is known of standard output).
+-- A reader must believe Program (how the program ends, and what it prints and writes), and what it
+-- cites: Asked and Arguments (what words ask for; `command_line` says how they are read), Inputs
+-- (how standard input is used), Entries, Tenants and Raw (how words spell xattrs and keys, tenants'
+-- classes and methods), Judged, Playing and Clustered (how `verify --all`, `sim` and `cluster`
+-- end), Status and Streams (the number of an exit status, and what is known of standard output).
 pub mod Arguments
 pub mod Asked
 pub mod Clustered

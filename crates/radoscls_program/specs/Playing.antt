@@ -4,15 +4,15 @@ use Rattle.class_tool.specs.Files.{Disk}
 use Rattle.class_tool.specs.declared.failure.Failure.{Failure}
 use Rattle.class_tool.specs.declared.failure.Failure.TheVariants.{NoMemory}
 use Rattle.sim.specs.Simulating.{Simulates, SimulationFails}
-use Rattle.sim.specs.declared.file.Ending.{Ending}
-use Rattle.sim.specs.declared.file.Ending.TheVariants as ending
+use Rattle.sim.specs.declared.file.SimulationEnd.{SimulationEnd}
+use Rattle.sim.specs.declared.file.SimulationEnd.TheVariants as ending
 use Rattle.sim.specs.declared.asked.Simulation.{Simulation}
 use Rattle.radoscls_program.specs.Streams.{Stream, IsPrinted, failure_line}
 use Rattle.radoscls_program.specs.declared.status.ExitStatus.{ExitStatus}
 use Rattle.radoscls_program.specs.declared.status.ExitStatus.TheVariants.{Done, Refused, Usage}
 
--- it was played to that ending
-abbrev pub Plays : Option Disk → Stream → Stream → Simulation → Ending → Type 0
+-- the file was played to that end
+abbrev pub Plays : Option Disk → Stream → Stream → Simulation → SimulationEnd → Type 0
 Plays disk old new s ending = Simulates disk s old.printed new.printed old.failed new.failed ending
 
 -- memory was refused at a line, and one more line says so

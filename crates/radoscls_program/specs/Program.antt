@@ -1,18 +1,17 @@
--- The ends of the program, and the text and files that it wrote.
+-- How the program ends, and the text and the files that it writes.
 use Rattle.std.specs.Prelude.{◌≡◌, ◌⊎◌, ◌++◌, ℕ, Bool, List, [], Option, Result, Ok, Err, true, false}
 use Rattle.std.specs.Borrow.{Bor}
 use Rattle.command_line.specs.Parsed.{Text}
-use Rattle.class_tool.specs.Answer.{Settles, Fails, answer_text}
+use Rattle.class_tool.specs.ActionResult.{Settles, Fails, result_text}
 use Rattle.class_tool.specs.Explained.{IsSystemNote, IsNote}
 use Rattle.class_tool.specs.Files.{Disk, Storage}
 use Rattle.class_tool.specs.declared.action.Action.{Action}
 use Rattle.class_tool.specs.declared.action.Action.TheVariants.{Run}
-use Rattle.class_tool.specs.declared.action.Call.{Call}
-use Rattle.class_tool.specs.declared.answer.Answer.{Answer}
+use Rattle.class_tool.specs.declared.action.MethodCall.{MethodCall}
+use Rattle.class_tool.specs.declared.action_result.ActionResult.{ActionResult}
 use Rattle.class_tool.specs.declared.failure.Failure.{Failure}
 use Rattle.class_tool.specs.declared.failure.Failure.TheVariants.{NoMemory}
 use Rattle.sim.specs.declared.asked.Simulation.{Simulation}
-use Rattle.cluster_tool.specs.declared.asked.Clustering.{Clustering}
 use Rattle.radoscls_program.specs.Clustered.{ClusterEnds}
 use Rattle.radoscls_program.specs.Asked.{AreFor, AreForNone}
 use Rattle.radoscls_program.specs.Judged.{EachEnds}
@@ -20,15 +19,16 @@ use Rattle.radoscls_program.specs.Playing.{SimEnds}
 use Rattle.radoscls_program.specs.Streams.{Stream, Took, Lost, IsPrinted, failure_line}
 use Rattle.radoscls_program.specs.declared.status.ExitStatus.{ExitStatus}
 use Rattle.radoscls_program.specs.declared.status.ExitStatus.TheVariants.{Done, Refused, Usage}
+use Rattle.radoscls_program.specs.declared.task.ClusterTask.{ClusterTask}
 use Rattle.radoscls_program.specs.declared.task.Task.{Task}
 use Rattle.radoscls_program.specs.declared.task.Task.TheVariants as task
 use Rattle.radoscls_program.specs.Values.{FillFails, IsFilled}
 
--- The words ask for that action; of a call, with its values in hexadecimal.
+-- The words ask for that action; a call has its values in hexadecimal.
 pub record IsCallNamed (disk : Option Disk) (words : List Text) (action : Action) (is_explained : Bool) : Type 0 where
-  pub call : Call
+  pub call : MethodCall
   pub named : AreFor words (task.Run call is_explained)
-  pub filled : Call
+  pub filled : MethodCall
   pub values : IsFilled disk call filled
   pub same : action ≡ Run filled
 
@@ -39,22 +39,22 @@ IsNamed disk words action is_explained = AreFor words (task.Class action is_expl
 abbrev pub IsEachNamed : List Text → Text → Bool → Type 0
 IsEachNamed words image is_explained = (file : Bor Text) × AreFor words (task.Each file is_explained) × (image ≡ file.now)
 
--- There was a true answer to the action that the words name, and its lines were printed.
+-- The action that the words name has a result, and its lines were printed.
 pub record IsAnswered (before after : Storage) (old new : Stream) (words : List Text) : Type 0 where
   pub action : Action
   pub is_explained : Bool
   pub named : IsNamed before.disk words action is_explained
-  pub answer : Answer
+  pub answer : ActionResult
   pub settles : Settles before after action answer
-  pub printed : Took old new (answer_text answer)
+  pub printed : Took old new (result_text answer)
 
--- what is printed after a failure's line, where that is asked for
+-- the note after a failure's line, if it is asked for
 abbrev pub IsNoteAsked : Bool → Option Disk → Action → Failure → List ℕ → Type 0
 IsNoteAsked false disk action failure note = note ≡ []
 IsNoteAsked true disk action failure note = IsNote disk action failure note
 
--- There was a reason against the action that the words name, and its line was printed, with
--- --explain the note below it.
+-- The action that the words name failed, and the line of its failure was printed; with --explain a
+-- note follows.
 pub record IsFailed (before after : Storage) (old new : Stream) (words : List Text) : Type 0 where
   pub action : Action
   pub is_explained : Bool
@@ -65,23 +65,23 @@ pub record IsFailed (before after : Storage) (old new : Stream) (words : List Te
   pub noted : IsNoteAsked is_explained before.disk action failure note
   pub printed : IsPrinted old new (failure_line failure ++ note)
 
--- There was a true answer, a beginning of its lines was printed, and a write or a flush of standard
--- output failed.
+-- The action has a result, a beginning of its lines was printed, and a write or a flush of
+-- standard output failed.
 pub record IsUnprinted (before after : Storage) (old new : Stream) (words : List Text) : Type 0 where
   pub action : Action
   pub is_explained : Bool
   pub named : IsNamed before.disk words action is_explained
-  pub answer : Answer
+  pub answer : ActionResult
   pub settles : Settles before after action answer
-  pub unprinted : Lost old new (answer_text answer)
+  pub unprinted : Lost old new (result_text answer)
 
--- what is printed after the line of a value's file that can't be read, if that is asked for
+-- the note after the line for a value's file that can't be read, if it is asked for
 abbrev pub IsFileNoteAsked : Bool → Failure → List ℕ → Type 0
 IsFileNoteAsked false failure note = note ≡ []
 IsFileNoteAsked true failure note = IsSystemNote failure note
 
 -- A call's values could not be read, and a line says so; no file changed.
-pub record IsUnfilled (before after : Storage) (old new : Stream) (call : Call) (is_explained : Bool) : Type 0 where
+pub record IsUnfilled (before after : Storage) (old new : Stream) (call : MethodCall) (is_explained : Bool) : Type 0 where
   pub failure : Failure
   pub fails : FillFails before.disk call failure
   pub note : List ℕ
@@ -91,7 +91,7 @@ pub record IsUnfilled (before after : Storage) (old new : Stream) (call : Call) 
 
 -- The words name a call whose values could not be read.
 pub record IsValueless (before after : Storage) (old new : Stream) (words : List Text) : Type 0 where
-  pub call : Call
+  pub call : MethodCall
   pub is_explained : Bool
   pub named : AreFor words (task.Run call is_explained)
   pub unfilled : IsUnfilled before after old new call is_explained
@@ -100,7 +100,7 @@ pub record IsValueless (before after : Storage) (old new : Stream) (words : List
 abbrev pub IsUnread : Storage → Storage → Stream → Stream → Type 0
 IsUnread before after old new = (after ≡ before) × IsPrinted old new (failure_line NoMemory)
 
--- The words name a class, whose methods were judged so; no file changed.
+-- The words name a class, and its methods were judged with this end; no file changed.
 pub record IsEach (before after : Storage) (old new : Stream) (words : List Text) (status : ExitStatus) : Type 0 where
   pub image : Text
   pub is_explained : Bool
@@ -108,20 +108,19 @@ pub record IsEach (before after : Storage) (old new : Stream) (words : List Text
   pub left : after ≡ before
   pub ended : EachEnds before.disk old new image is_explained status
 
--- The words name a file of events, which was played so; no file changed.
+-- The words name a file of events, and it was played with this end; no file changed.
 pub record IsPlayed (before after : Storage) (old new : Stream) (words : List Text) (status : ExitStatus) : Type 0 where
   pub simulation : Simulation
   pub named : AreFor words (task.Sim simulation)
   pub left : after ≡ before
   pub ended : SimEnds before.disk old new simulation status
 
--- The words name a file of calls and maps, which was played so; no file changed.
+-- The words name a file of calls and maps, and it was played with this end; no file changed.
 pub record IsRun (before after : Storage) (old new : Stream) (words : List Text) (status : ExitStatus) : Type 0 where
-  pub asked : Clustering
-  pub is_measured : Bool
-  pub named : AreFor words (task.Cluster asked is_measured)
+  pub asked : ClusterTask
+  pub named : AreFor words (task.Cluster asked)
   pub left : after ≡ before
-  pub ended : ClusterEnds before.disk old new asked status
+  pub ended : ClusterEnds before.disk old new asked.clustering status
 
 -- why the program ended with 0
 abbrev pub IsDone : Storage → Storage → Stream → Stream → List Text → Type 0
@@ -136,13 +135,13 @@ IsRefused before after old new words =
     ⊎ IsPlayed before after old new words Refused ⊎ IsRun before after old new words Refused ⊎ IsValueless before after old new words
     ⊎ IsEach before after old new words Refused
 
--- The words are at fault or ask for help; nothing was done or printed on standard output.
+-- The words have a fault or ask for help; nothing was done or printed on standard output.
 pub record IsUsage (before after : Storage) (old new : Stream) (words : List Text) : Type 0 where
   pub unasked : AreForNone words
   pub left : after ≡ before
   pub silent : new ≡ old
 
--- how an ending came about
+-- what each exit status says
 abbrev pub Ends : Storage → Storage → Stream → Stream → List Text → ExitStatus → Type 0
 Ends before after old new words Done = IsDone before after old new words
 Ends before after old new words Refused = IsRefused before after old new words
@@ -155,39 +154,40 @@ IsUnstarted before after old new Done = ⊥
 IsUnstarted before after old new Refused = IsUnread before after old new
 IsUnstarted before after old new Usage = (after ≡ before) × (new ≡ old)
 
--- how a process ends: as words ask, or without words
+-- the end of a process: as its words ask, or without words
 abbrev pub Starts : Storage → Storage → Stream → Stream → ExitStatus → Type 0
 Starts before after old new status = ((words : List Text) × Ends before after old new words status) ⊎ IsUnstarted before after old new status
 
--- an answer or a failure's line was printed; or a beginning of it was, and a write or a flush failed
-abbrev pub Responds : Stream → Stream → Result Answer Failure → List ℕ → ExitStatus → Type 0
-Responds old new (Ok answer) note Done = Took old new (answer_text answer)
-Responds old new (Ok answer) note Refused = Lost old new (answer_text answer)
+-- the lines of a result or a failure were printed; or a beginning of them was printed, and a write
+-- or a flush failed
+abbrev pub Responds : Stream → Stream → Result ActionResult Failure → List ℕ → ExitStatus → Type 0
+Responds old new (Ok answer) note Done = Took old new (result_text answer)
+Responds old new (Ok answer) note Refused = Lost old new (result_text answer)
 Responds old new (Ok answer) note Usage = ⊥
 Responds old new (Err failure) note Done = ⊥
 Responds old new (Err failure) note Refused = IsPrinted old new (failure_line failure ++ note)
 Responds old new (Err failure) note Usage = ⊥
 
--- what is done of a task: an action is answered or fails, and that is printed; methods are judged, a
--- file of events, or of calls and maps, is played, and no file changes
-abbrev pub Found : Storage → Storage → Action → Bool → Result Answer Failure → List ℕ → Type 0
+-- what a task does: an action has a result or fails, and that is printed; methods are judged, or a
+-- file of events or of calls and maps is played, and no file changes
+abbrev pub Found : Storage → Storage → Action → Bool → Result ActionResult Failure → List ℕ → Type 0
 Found before after action is_explained (Ok answer) note = Settles before after action answer
 Found before after action is_explained (Err failure) note = Fails before after action failure × IsNoteAsked is_explained before.disk action failure note
 
 pub record Acts (before after : Storage) (old new : Stream) (action : Action) (is_explained : Bool) (status : ExitStatus) : Type 0 where
-  pub found : Result Answer Failure
+  pub found : Result ActionResult Failure
   pub note : List ℕ
   pub true_of : Found before after action is_explained found note
   pub responds : Responds old new found note status
 
 -- a call is made with its values in hexadecimal
-pub record ActsOn (before after : Storage) (old new : Stream) (call : Call) (is_explained : Bool) (status : ExitStatus) : Type 0 where
-  pub filled : Call
+pub record ActsOn (before after : Storage) (old new : Stream) (call : MethodCall) (is_explained : Bool) (status : ExitStatus) : Type 0 where
+  pub filled : MethodCall
   pub values : IsFilled before.disk call filled
   pub acts : Acts before after old new (Run filled) is_explained status
 
--- or a line says why not
-abbrev pub CallEnds : Storage → Storage → Stream → Stream → Call → Bool → ExitStatus → Type 0
+-- the end of a call: it is made, or a line says why not
+abbrev pub CallEnds : Storage → Storage → Stream → Stream → MethodCall → Bool → ExitStatus → Type 0
 CallEnds before after old new call is_explained status =
     ActsOn before after old new call is_explained status ⊎ ((status ≡ Refused) × IsUnfilled before after old new call is_explained)
 
@@ -196,4 +196,4 @@ TaskEnds before after old new (task.Class action is_explained) status = Acts bef
 TaskEnds before after old new (task.Each image is_explained) status = (after ≡ before) × EachEnds before.disk old new image.now is_explained status
 TaskEnds before after old new (task.Run call is_explained) status = CallEnds before after old new call is_explained status
 TaskEnds before after old new (task.Sim simulation) status = (after ≡ before) × SimEnds before.disk old new simulation status
-TaskEnds before after old new (task.Cluster asked is_measured) status = (after ≡ before) × ClusterEnds before.disk old new asked status
+TaskEnds before after old new (task.Cluster asked) status = (after ≡ before) × ClusterEnds before.disk old new asked.clustering status

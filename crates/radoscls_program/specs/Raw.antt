@@ -10,7 +10,7 @@ use Rattle.class_tool.specs.declared.action.RawMethod.{RawMethod}
 abbrev pub is_colon : ℕ → Bool
 is_colon b = b == 58
 
--- a field ends with the first `:`, and the others stand after it
+-- a field ends with the first `:`, and the other fields follow it
 abbrev pub has_field : Text → Bool
 has_field text = list_any is_colon text
 
@@ -20,7 +20,7 @@ field_in text = before_first is_colon text
 abbrev pub after_field : Text → Text
 after_field text = after_first is_colon text
 
--- the flags of a word, as in a class's text
+-- the flags that a word names, as in a class's text
 abbrev pub flags_in : Text → Option ℕ
 flags_in text = flags_of text
 
@@ -33,12 +33,12 @@ pub record IsShort (text : Text) (n : ℕ) : Type 0 where
 abbrev pub code_in : Text → Text
 code_in text = after_field (after_field (after_field (after_field text)))
 
--- what a text says of a capacity, and what stands after it
+-- the capacity that a text begins with, and the rest of the text
 pub record IsCapacity (text : Text) (n : ℕ) : Type 0 where
   pub ends : has_field text ≡ true
   pub number : IsShort (field_in text) n
 
--- a text spells that method: the file of its code is all that stands after the fourth `:`
+-- a text spells that method: the file of its code is all text after the fourth `:`
 pub record IsRaw (text : Text) (m : RawMethod) : Type 0 where
   pub name_ends : has_field text ≡ true
   pub name : m.name.now ≡ field_in text

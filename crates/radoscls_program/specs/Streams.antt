@@ -13,17 +13,17 @@ pub record Stream : Type 0 where
 abbrev pub stream : {O : Type 0} → (O → Option (List ℕ)) → (O → Bool) → O → Stream
 stream printed failed out = record { printed = printed out; failed = failed out }
 
--- what was printed grew by that text, and no write or flush failed
+-- the printed text grew by that text, and no write or flush failed
 pub record Took (old new : Stream) (text : List ℕ) : Type 0 where
   pub grew : Appends old.printed new.printed text
   pub well : new.failed ≡ old.failed
 
--- what was printed grew by a beginning of that text, and a write or a flush failed
+-- the printed text grew by a beginning of that text, and a write or a flush failed
 pub record Lost (old new : Stream) (text : List ℕ) : Type 0 where
   pub begun : Begins old.printed new.printed text
   pub failed : new.failed ≡ true
 
--- a text was printed; or a beginning of it was, and a write or a flush failed
+-- a text was printed; or a beginning of it was printed, and a write or a flush failed
 abbrev pub IsPrinted : Stream → Stream → List ℕ → Type 0
 IsPrinted old new text = Took old new text ⊎ Lost old new text
 

@@ -1,10 +1,10 @@
--- The values of a call: digits as words have them, no byte for `-`, or after `@` a file's bytes.
+-- The values of a call: the digits of a word, no bytes for `-`, or the bytes of the file after `@`.
 use Rattle.std.specs.Prelude.{◌≡◌, ◌⊎◌, ◌++◌, ⊤, ℕ, Bool, true, false, List, [], ◌∷◌, Option, Some, None, option_map, string_bytes, map}
 use Rattle.std.specs.Borrow.{Bor}
 use Rattle.hex.specs.Hex.{encode_lower}
 use Rattle.class_tool.specs.Files.{Disk, IsBeginning, IsUnreadable}
-use Rattle.class_tool.specs.declared.action.Call.{Call}
-use Rattle.class_tool.specs.declared.action.Entry.{Entry}
+use Rattle.class_tool.specs.declared.action.MethodCall.{MethodCall}
+use Rattle.class_tool.specs.declared.action.NamedValue.{NamedValue}
 use Rattle.class_tool.specs.declared.failure.Failure.{Failure}
 use Rattle.class_tool.specs.declared.failure.Failure.TheVariants.{CannotRead, NoMemory}
 use Rattle.command_line.specs.Parsed.{Text}
@@ -12,8 +12,8 @@ use Rattle.radoscls_program.specs.Inputs.{file_of, is_input}
 use Rattle.radoscls_program.specs.declared.values.FilledCall.{FilledCall}
 use Rattle.radoscls_program.specs.declared.values.FilledEntry.{FilledEntry}
 
--- the digits are those of the file's bytes; of a longer file those of the first 65,537, more than
--- any value may have
+-- the digits are those of the file's bytes; of a longer file, those of the first 65,537 bytes,
+-- which are more than any value may have
 pub record IsFileValue (disk : Option Disk) (file digits : Text) : Type 0 where
   pub bytes : List ℕ
   pub begun : IsBeginning disk file 65537 bytes
@@ -37,7 +37,7 @@ pub record IsUnreadIn (disk : Option Disk) (text : Text) : Type 0 where
 abbrev pub ValueFails : Option Disk → Text → Failure → Type 0
 ValueFails disk text failure = (failure ≡ NoMemory) ⊎ ((failure ≡ CannotRead) × IsUnreadIn disk text)
 
-abbrev pub entry_texts : Entry → Text × Text
+abbrev pub entry_texts : NamedValue → Text × Text
 entry_texts e = (e.name.now, e.value.now)
 
 abbrev pub filled_texts : FilledEntry → Text × Text
@@ -76,14 +76,14 @@ abbrev pub text_in : Option (Bor (List ℕ)) → Option Text
 text_in text = option_map (λ t. t.now) text
 
 -- the values of a call in hexadecimal
-pub record HasValues (disk : Option Disk) (call : Call) (filled : FilledCall) : Type 0 where
+pub record HasValues (disk : Option Disk) (call : MethodCall) (filled : FilledCall) : Type 0 where
   pub input : IsValue disk call.input.now (string_bytes filled.input)
   pub data_text : IsMaybeValue disk (text_in call.data) (option_map string_bytes filled.data)
   pub xattrs : AreValues disk (map entry_texts call.xattrs.items) (map filled_texts filled.xattrs.items)
   pub keys : AreValues disk (map entry_texts call.keys.items) (map filled_texts filled.keys.items)
 
--- One is the other with its values in hexadecimal.
-pub record IsFilled (disk : Option Disk) (call filled : Call) : Type 0 where
+-- The one call is the other with its values in hexadecimal.
+pub record IsFilled (disk : Option Disk) (call filled : MethodCall) : Type 0 where
   pub image : filled.image.now ≡ call.image.now
   pub method : filled.method.now ≡ call.method.now
   pub input : IsValue disk call.input.now filled.input.now
@@ -96,7 +96,7 @@ pub record IsFilled (disk : Option Disk) (call filled : Call) : Type 0 where
   pub shown : filled.is_shown ≡ call.is_shown
 
 -- Memory was refused, or a value's file can't be read.
-abbrev pub FillFails : Option Disk → Call → Failure → Type 0
+abbrev pub FillFails : Option Disk → MethodCall → Failure → Type 0
 FillFails disk call failure =
     ValueFails disk call.input.now failure ⊎ MaybeFails disk (text_in call.data) failure
     ⊎ EntriesFail disk (map entry_texts call.xattrs.items) failure ⊎ EntriesFail disk (map entry_texts call.keys.items) failure

@@ -3,8 +3,8 @@ ghost use Rattle.std.specs.Prelude.{◌≡◌, ◌≢◌, ◌≤◌, List, IfErr
 ghost use Rattle.command_line.specs.Parsed.{all_in, one_in, parsed_of};
 ghost use Rattle.file_words.specs.Words.{id_in};
 ghost use Rattle.tenant_classes.specs.declared.tenant_class.TheConstants.{TENANT_LIMIT};
-ghost use Rattle.class_tool.specs.declared.action.Call.{Call as ACall};
-ghost use Rattle.class_tool.specs.declared.action.Entry.{Entry as AnEntry};
+ghost use Rattle.class_tool.specs.declared.action.MethodCall.{MethodCall as AMethodCall};
+ghost use Rattle.class_tool.specs.declared.action.NamedValue.{NamedValue as ANamedValue};
 ghost use Rattle.class_tool.specs.declared.action.Packing.{Packing as APacking};
 ghost use Rattle.cluster_tool.specs.declared.asked.Clustering.{Clustering as AClustering};
 ghost use Rattle.sim.specs.declared.asked.Simulation.{Simulation as ASimulation};
@@ -19,7 +19,7 @@ use crate::number::caller_in;
 use crate::raw_method::raw_methods;
 use crate::tenant_class::tenants_in;
 use bpf_decode::RuleSet;
-use class_tool::{Call, Entry, Packing};
+use class_tool::{MethodCall, NamedValue, Packing};
 use cluster_tool::Clustering;
 use command_line::ParsedWords;
 use pg_log::ClientId;
@@ -78,9 +78,9 @@ fn entries_of<'a>(
     words: &ParsedWords<'a>,
     id: &str,
     wanted: Wanted,
-) -> Result<Vec<Entry<'a>>, Mistake<'a>>
+) -> Result<Vec<NamedValue<'a>>, Mistake<'a>>
     ensures some { IfOk result (λ es. AreEntries (all_in (parsed_of words.now) id.now) es.items) }
-    ensures none { IfErr result (λ m. m ≢ Mistake.NoMemory → (es : List AnEntry) → AreEntries (all_in (parsed_of words.now) id.now) es → ⊥) }
+    ensures none { IfErr result (λ m. m ≢ Mistake.NoMemory → (es : List ANamedValue) → AreEntries (all_in (parsed_of words.now) id.now) es → ⊥) }
 {
     let texts = words.all(alloc, id)?;
     entries(alloc, wanted, &texts)
@@ -111,9 +111,12 @@ fn check_object<'a>(alloc: Global, words: &ParsedWords<'a>) -> Result<(), Mistak
 }
 
 /// The call that `run` asks for.
-pub(crate) fn call_of<'a>(alloc: Global, words: &ParsedWords<'a>) -> Result<Call<'a>, Mistake<'a>>
+pub(crate) fn call_of<'a>(
+    alloc: Global,
+    words: &ParsedWords<'a>,
+) -> Result<MethodCall<'a>, Mistake<'a>>
     ensures some { IfOk result (TakesCall (parsed_of words.now)) }
-    ensures none { IfErr result (λ m. m ≢ Mistake.NoMemory → (call : ACall) → TakesCall (parsed_of words.now) call → ⊥) }
+    ensures none { IfErr result (λ m. m ≢ Mistake.NoMemory → (call : AMethodCall) → TakesCall (parsed_of words.now) call → ⊥) }
 {
     let plain = match plain_call(words) {
         Ok(plain) => plain,
@@ -122,7 +125,7 @@ pub(crate) fn call_of<'a>(alloc: Global, words: &ParsedWords<'a>) -> Result<Call
     check_object(alloc, words)?;
     let xattrs = entries_of(alloc, words, "xattr", Wanted::Xattr)?;
     let keys = entries_of(alloc, words, "key", Wanted::Key)?;
-    Ok(Call {
+    Ok(MethodCall {
         image: plain.image,
         method: plain.method,
         input: plain.input,

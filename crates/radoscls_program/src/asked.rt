@@ -8,7 +8,7 @@ ghost use Rattle.radoscls_program.specs.declared.task.Task.{Task as ATask};
 use crate::actions::{call_of, clustering_of, packing_of, simulation_of, wanted};
 use crate::inputs::check_inputs;
 use crate::mistake::Mistake;
-use crate::task::Task;
+use crate::task::{ClusterTask, Task};
 use class_tool::Action;
 use command_line::{ParsedWords, Unparsed, misused, parse};
 use std::alloc::{AllocError, Global};
@@ -89,7 +89,10 @@ fn cluster_task<'a>(alloc: Global, words: &ParsedWords<'a>) -> Result<Task<'a>, 
     ensures unnamed { IfErr result (λ m. m ≢ Mistake.NoMemory → (task : ATask) → Names (parsed_of words.now) task → ⊥) }
 {
     let clustering = clustering_of(alloc, words)?;
-    Ok(Task::Cluster(clustering, words.is_set("stats")))
+    Ok(Task::Cluster(ClusterTask {
+        clustering,
+        is_measured: words.is_set("stats"),
+    }))
 }
 
 /// The task that the subcommand and its arguments name.

@@ -11,13 +11,15 @@ ghost use Rattle.radoscls_program.specs.declared.status.ExitStatus.{ExitStatus a
 use crate::asked::asked;
 use crate::judging::judge;
 use crate::status::ExitStatus;
-use crate::task::Task;
+use crate::task::{ClusterTask, Task};
 use crate::threads::play_cluster;
 use crate::values::{call_with, filled};
-use class_tool::{Action, Answer, Call, Failure, Files, Output, Reads, find, find_noted};
-use cluster_tool::{Clustering, Figures, Meter};
+use class_tool::{
+    Action, ActionResult, Failure, Files, MethodCall, Output, Reads, find, find_noted,
+};
+use cluster_tool::{Figures, Meter};
 use command_line::Unparsed;
-use sim::{Ending, Simulation, simulate};
+use sim::{Simulation, SimulationEnd, simulate};
 use std::alloc::Global;
 use std::convert::AsStr;
 use std::io;
@@ -35,7 +37,7 @@ pub fn refuse<O: Output>(failure: Failure, out: &mut O) -> ExitStatus
 }
 
 /// Prints an answer, or a failure and the note below it.
-fn respond<O: Output>(found: Result<Answer, Failure>, note: &str, out: &mut O) -> ExitStatus
+fn respond<O: Output>(found: Result<ActionResult, Failure>, note: &str, out: &mut O) -> ExitStatus
     ensures { Responds (stream O.printed O.failed out.old) (stream O.printed O.failed out.new) found note.now result }
 {
     match found {
@@ -57,7 +59,7 @@ fn find_with_note<F: Files>(
     action: &Action<'_>,
     is_explained: bool,
     note: &mut String,
-) -> Result<Answer, Failure>
+) -> Result<ActionResult, Failure>
     requires { string_bytes note.old ≡ [] }
     ensures { Found (storage F.disk F.failed files.old) (storage F.disk F.failed files.new) action.now is_explained result (string_bytes note.new) }
 {
@@ -111,7 +113,7 @@ fn refuse_value<F: Files, O: Output>(
 fn act_call<F: Files, O: Output>(
     alloc: Global,
     files: &mut F,
-    call: &Call<'_>,
+    call: &MethodCall<'_>,
     is_explained: bool,
     out: &mut O,
 ) -> ExitStatus
@@ -137,10 +139,10 @@ fn play<F: Reads, O: Output>(
     ensures { SimEnds (F.disk files.now) (stream O.printed O.failed out.old) (stream O.printed O.failed out.new) simulation.now result }
 {
     match simulate(alloc, files, simulation, out) {
-        Ok(Ending::Done) => ExitStatus::Done,
-        Ok(Ending::Bad) => ExitStatus::Refused,
-        Ok(Ending::Unprinted) => ExitStatus::Refused,
-        Ok(Ending::NoMemory) => refuse(Failure::NoMemory, out),
+        Ok(SimulationEnd::Done) => ExitStatus::Done,
+        Ok(SimulationEnd::Bad) => ExitStatus::Refused,
+        Ok(SimulationEnd::Unprinted) => ExitStatus::Refused,
+        Ok(SimulationEnd::NoMemory) => refuse(Failure::NoMemory, out),
         Err(failure) => refuse(failure, out),
     }
 }
@@ -150,20 +152,23 @@ fn play<F: Reads, O: Output>(
 fn measure<R: AllocGlobal + Threads + Wait + Clock + Sync, F: Reads, O: Output, E: io::Write>(
     rt: &R,
     files: &F,
-    asked: &Clustering<'_>,
-    is_measured: bool,
+    task: &ClusterTask<'_>,
     out: &mut O,
     err: &mut E,
 ) -> ExitStatus
-    ensures { ClusterEnds (F.disk files.now) (stream O.printed O.failed out.old) (stream O.printed O.failed out.new) asked.now result }
+    ensures { ClusterEnds (F.disk files.now) (stream O.printed O.failed out.old) (stream O.printed O.failed out.new) task.now.clustering result }
 {
     let figures = Figures::new();
-    let lines = if is_measured { Some(&mut *err) } else { None };
+    let lines = if task.is_measured {
+        Some(&mut *err)
+    } else {
+        None
+    };
     let mut meter = Meter::new(&figures, lines);
-    let status = play_cluster(rt, files, asked, &mut meter, out);
+    let status = play_cluster(rt, files, &task.clustering, &mut meter, out);
     // The meter wrote to `err` too.
     drop(meter);
-    if is_measured && status == ExitStatus::Done {
+    if task.is_measured && status == ExitStatus::Done {
         let _ = write!(err, "{figures}");
     }
     status
@@ -186,7 +191,7 @@ fn do_task<R: AllocGlobal + Threads + Wait + Clock + Sync, F: Files, O: Output, 
         Task::Each(image, is_explained) => judge(alloc, files, image, *is_explained, out),
         Task::Run(call, is_explained) => act_call(alloc, files, call, *is_explained, out),
         Task::Sim(simulation) => play(alloc, files, simulation, out),
-        Task::Cluster(asked, is_measured) => measure(rt, files, asked, *is_measured, out, err),
+        Task::Cluster(cluster) => measure(rt, files, cluster, out, err),
     }
 }
 

@@ -1,6 +1,15 @@
-use class_tool::{Action, Call};
+use class_tool::{Action, MethodCall};
 use cluster_tool::Clustering;
 use sim::Simulation;
+
+/// A file of calls and maps, to be played on a cluster in threads.
+#[derive(Drop)]
+pub(crate) struct ClusterTask<'a> {
+    /// The run.
+    pub(crate) clustering: Clustering<'a>,
+    /// True if its figures are written.
+    pub(crate) is_measured: bool,
+}
 
 /// A task that words ask for.
 #[derive(Drop)]
@@ -10,9 +19,9 @@ pub(crate) enum Task<'a> {
     /// The verdict of each method of the class in a file, and whether refusals are explained.
     Each(&'a str, bool),
     /// A call, whose values files may hold, and whether a failure is explained.
-    Run(Call<'a>, bool),
+    Run(MethodCall<'a>, bool),
     /// A file of events, played.
     Sim(Simulation<'a>),
     /// A file of calls and maps, played on a cluster in threads.
-    Cluster(Clustering<'a>, bool),
+    Cluster(ClusterTask<'a>),
 }

@@ -5,7 +5,7 @@ ghost use Rattle.radoscls_program.specs.Streams.{stream};
 use crate::perform::refuse;
 use crate::status::ExitStatus;
 use class_tool::{Failure, Output, Reads};
-use cluster_tool::{Clustering, Ending, Meter, cluster};
+use cluster_tool::{Clustering, ClusteringEnd, Meter, cluster};
 use std::io;
 use std::sync::Wait;
 use std::thread::Threads;
@@ -22,11 +22,11 @@ pub(crate) fn play_cluster<
     ensures { ClusterEnds (F.disk files.now) (stream O.printed O.failed out.old) (stream O.printed O.failed out.new) asked.now result }
 {
     match cluster(rt, files, asked, meter, out) {
-        Ok(Ending::Done) => ExitStatus::Done,
-        Ok(Ending::Bad) => ExitStatus::Refused,
-        Ok(Ending::Refused) => ExitStatus::Refused,
-        Ok(Ending::Unprinted) => ExitStatus::Refused,
-        Ok(Ending::NoMemory) => refuse(Failure::NoMemory, out),
+        Ok(ClusteringEnd::Done) => ExitStatus::Done,
+        Ok(ClusteringEnd::Bad) => ExitStatus::Refused,
+        Ok(ClusteringEnd::Refused) => ExitStatus::Refused,
+        Ok(ClusteringEnd::Unprinted) => ExitStatus::Refused,
+        Ok(ClusteringEnd::NoMemory) => refuse(Failure::NoMemory, out),
         Err(failure) => refuse(failure, out),
     }
 }

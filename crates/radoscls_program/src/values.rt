@@ -5,7 +5,7 @@ ghost use Rattle.class_tool.specs.declared.failure.Failure.TheVariants.{CannotRe
 ghost use Rattle.radoscls_program.specs.Values.{AreValues, EntriesFail, FillFails, HasValues, IsFileValue, IsFilled, IsMaybeValue, IsValue, MaybeFails, ValueFails, entry_texts, filled_texts};
 ghost use Rattle.radoscls_program.specs.Inputs.{after_at, file_of};
 
-use class_tool::{Call, Entry, Failure, Reads};
+use class_tool::{Failure, MethodCall, NamedValue, Reads};
 use std::alloc::{AllocError, Global};
 
 /// The most bytes that are read of a value's file: one more than an object may have, so that a
@@ -68,7 +68,7 @@ pub(crate) struct FilledEntry {
 fn filled_entry<F: Reads>(
     alloc: Global,
     files: &F,
-    entry: &Entry<'_>,
+    entry: &NamedValue<'_>,
 ) -> Result<FilledEntry, Failure>
     ensures name { IfOk result (λ f. string_bytes f.name ≡ entry.now.name.now) }
     ensures value { IfOk result (λ f. IsValue (F.disk files.now) entry.now.value.now (string_bytes f.value)) }
@@ -83,7 +83,7 @@ fn filled_entry<F: Reads>(
 fn filled_entries<F: Reads>(
     alloc: Global,
     files: &F,
-    entries: &[Entry<'_>],
+    entries: &[NamedValue<'_>],
 ) -> Result<Vec<FilledEntry>, Failure>
     ensures ok { IfOk result (λ filled. AreValues (F.disk files.now) (map entry_texts entries.now) (map filled_texts filled.items)) }
     ensures err { IfErr result (EntriesFail (F.disk files.now) (map entry_texts entries.now)) }
@@ -127,7 +127,7 @@ fn maybe_digits<F: Reads>(
 pub(crate) fn filled<F: Reads>(
     alloc: Global,
     files: &F,
-    call: &Call<'_>,
+    call: &MethodCall<'_>,
 ) -> Result<FilledCall, Failure>
     ensures ok { IfOk result (HasValues (F.disk files.now) call.now) }
     ensures err { IfErr result (FillFails (F.disk files.now) call.now) }
@@ -145,12 +145,15 @@ pub(crate) fn filled<F: Reads>(
 }
 
 /// The names and values, as a call has them.
-fn entries_of<'b>(alloc: Global, filled: &'b [FilledEntry]) -> Result<Vec<Entry<'b>>, AllocError>
+fn entries_of<'b>(
+    alloc: Global,
+    filled: &'b [FilledEntry],
+) -> Result<Vec<NamedValue<'b>>, AllocError>
     ensures { IfOk result (λ entries. map entry_texts entries.items ≡ map filled_texts filled.entry.now) }
 {
     let mut entries = Vec::new(alloc);
     for one in filled {
-        entries.push(Entry {
+        entries.push(NamedValue {
             name: one.name.as_str(),
             value: one.value.as_str(),
         })?;
@@ -171,12 +174,12 @@ fn text_of<'b>(text: &'b Option<String>) -> Option<&'b str>
 /// The call with those values.
 pub(crate) fn call_with<'a: 'b, 'b>(
     alloc: Global,
-    call: &Call<'a>,
+    call: &MethodCall<'a>,
     filled: &'b FilledCall,
-) -> Result<Call<'b>, AllocError>
+) -> Result<MethodCall<'b>, AllocError>
     ensures { IfOk result (λ made. (disk : Option Disk) → HasValues disk call.now filled.entry.now → IsFilled disk call.now made) }
 {
-    Ok(Call {
+    Ok(MethodCall {
         image: call.image,
         method: call.method,
         input: filled.input.as_str(),

@@ -22,18 +22,18 @@ use Rattle.sim.specs.Simulating.{AllWorldsKnown}
 use Rattle.sim.proofs.Replying.{replies_ran}
 use Rattle.sim.proofs.Typed.{asked_typed}
 
--- the played world after lines, from one on
+-- the played world after lines, from a given one on
 abbrev from : List (List ℕ) → ℕ → Played → List (List ℕ) → Played
 from names number p ls = (run_from names number p ls).played
 
--- what is printed of a bad line, and of a good one before the rest
+-- the text of a bad line, and of a good one before the rest
 abbrev bad_end : ℕ → Happened → Printed
 bad_end number h = record { text = line_text number h.played.world.sent h.taken; bad = true; played = h.played }
 
 abbrev good_rest : List (List ℕ) → ℕ → Happened → List (List ℕ) → Printed
 good_rest names number h ls = before_rest (line_text number h.played.world.sent h.taken) (run_from names number h.played ls)
 
--- what holds of both worlds holds of that which is reached
+-- what holds of both worlds holds of the one that is reached
 either_played : (P : Played → Type 0) (b : Bool) (x y : Printed) → P x.played → P y.played → P (if b then x else y).played
 either_played P true x y p q = p
 either_played P false x y p q = q

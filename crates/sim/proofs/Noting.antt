@@ -1,4 +1,4 @@
--- Lines that were done and noted, and how the course of a file goes on from there.
+-- Lines that were done and noted, and the course of the file from there.
 use Rattle.std.proofs.Common.{◌≡◌, ◌<◌, ℕ, suc, List, [], ◌∷◌, ◌++◌, length, map, Bor, Bool, true, false, if◌then◌else◌, Option, Some, None, refl, sym, ap, subst, ◌∙◌, append_assoc, append-nil, drop, drop-cons, get_or}
 use Rattle.pg_log.specs.Log.{Classes}
 use Rattle.sim_text.specs.Lines.{line_of}
@@ -8,9 +8,9 @@ use Rattle.sim_text.specs.declared.line.Line.{Line}
 use Rattle.sim_text.specs.declared.taken.Taken.{Taken}
 use Rattle.sim.specs.Drawing.{Course, Courses, Draws, Noted, Notes, IsCourse, ahead, bad_of, course, course_from, done_if, drawn_as, drawn_of, follow, meant_by, noted, noted_as, noted_if}
 use Rattle.sim_trace.specs.Drawing.{drawn}
-use Rattle.sim_trace.specs.declared.message.Message.{Message}
-use Rattle.sim_trace.specs.declared.step.Step.{Step}
-use Rattle.sim_trace.specs.declared.step.What.{What}
+use Rattle.sim_trace.specs.declared.drawn_message.DrawnMessage.{DrawnMessage}
+use Rattle.sim_trace.specs.declared.drawn_step.DrawnStep.{DrawnStep}
+use Rattle.sim_trace.specs.declared.drawn_step.What.{What}
 use Rattle.sim_world.specs.Step.{Played, beginning, step}
 use Rattle.sim_world.specs.Holds.{AreShown, Holds, IsStep, Steps, kept_shown, message_shown}
 use Rattle.sim_world.specs.declared.kept.KeptMessage.{KeptMessage}
@@ -19,7 +19,7 @@ use Rattle.sim_world.specs.inner.Parts.{Parts}
 abbrev texts : List (Bor (List ℕ)) → List (List ℕ)
 texts ws = map (λ (w : Bor (List ℕ)). w.now) ws
 
--- the steps grew by the line's own
+-- the line's step was added
 pub noted_by : (names : List (List ℕ)) (line : List ℕ) (l : Line) (taken : Taken) (meant : Option What) (before after : List Noted)
     → l ≡ line_of names line → meant ≡ meant_by l → after ≡ before ++ noted_if line taken (done_if meant taken) → after ≡ before ++ noted names line taken
 noted_by names line l taken meant before after e is more =
@@ -53,7 +53,7 @@ line_unnoted classes names line old new l taken before bad e steps b was = λ p 
     }
 
 -- the drawing of a course that was gone through from the first line on
-pub run_drawn : (classes : Classes) (names lines : List (List ℕ)) (first new : Parts) (kept : List KeptMessage) (messages : List Message) (steps : List Step) (bad : Option ℕ) (text : List ℕ) (is_bad : Bool)
+pub run_drawn : (classes : Classes) (names lines : List (List ℕ)) (first new : Parts) (kept : List KeptMessage) (messages : List DrawnMessage) (steps : List DrawnStep) (bad : Option ℕ) (text : List ℕ) (is_bad : Bool)
     → Holds classes first (beginning classes) → Courses classes names lines first new [] (map noted_as steps) bad → AreShown classes new kept
     → map drawn_as messages ≡ map drawn_of (map kept_shown kept) → text ≡ drawn messages steps ++ bad_of bad → is_bad ≡ is_some bad
     → Draws (course classes names lines) text is_bad
@@ -70,13 +70,14 @@ run_drawn classes names lines first new kept messages steps bad text is_bad held
       bad_is = b ∙ ap (λ (r : Course). is_some r.bad) same;
     }
 
--- where a course stands: the steps so far, and what is left from here, are the whole
+-- the state of a course: the steps so far, and then the course of what is left, are the whole
+-- course
 pub record Stands (classes : Classes) (names : List (List ℕ)) (ws : List (Bor (List ℕ))) (i number : ℕ) (w : Parts) (steps : List Noted) (whole : Course) : Type 0 where
   pub played : Played
   pub held : Holds classes w played
   pub same : ahead steps (course_from names number played (texts (drop i ws))) ≡ whole
 
--- from each played world that was held at first
+-- this holds from each played world that was held at first
 abbrev pub Coursing : Classes → List (List ℕ) → List (Bor (List ℕ)) → ℕ → ℕ → Parts → Parts → List Noted → List Noted → Type 0
 Coursing classes names ws i number first w before steps = (p : Played) → Holds classes first p
     → Stands classes names ws i number w steps (ahead before (course_from names 0 p (texts ws)))

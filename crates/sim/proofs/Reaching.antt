@@ -1,4 +1,4 @@
--- Lines that were done, and how the run of a file goes on from there.
+-- Lines that were done, and the run of the file from there.
 use Rattle.std.proofs.Common.{◌≡◌, ◌<◌, ◌≤◌, ℕ, zero, suc, List, [], ◌∷◌, ◌++◌, length, map, Bor, Bool, true, false, if◌then◌else◌, Option, Some, None, refl, sym, ap, subst, ◌∙◌, append_assoc, append-nil, take, drop, min, ◌+◌, arith, get_or}
 use Rattle.std.specs.Io.KnownBytes.{Appends}
 use Rattle.std.proofs.lemmas.List.{take-append-le, take_min}
@@ -15,7 +15,7 @@ use Rattle.sim_world.specs.Step.{Played, beginning, step}
 use Rattle.sim_world.specs.Holds.{Holds, IsStep, Says, Steps}
 use Rattle.sim_world.specs.inner.Parts.{Parts}
 
--- what came of a line is printed, by whether it is bad
+-- the text of a line's result, by whether the line is bad
 pub says_bad : (classes : Classes) (parts : Parts) (number : ℕ) (taken : Taken) (text : List ℕ) → is_bad taken ≡ true → text ≡ bad_line number → SaysOf classes parts number taken text
 says_bad classes parts number taken text bad e = λ p held. e ∙ sym (ap (λ (b : Bool). if b then bad_line number else taken_text p.world.sent taken) bad)
 
@@ -34,7 +34,7 @@ line_taken classes names line number old new l taken text bad e steps b says = �
       is = b ∙ ap is_bad is.came;
     }
 
--- what is printed of a line
+-- the text of a line
 abbrev said_of : List (List ℕ) → ℕ → Played → List ℕ → List ℕ
 said_of names number p line = let h = step p (line_of names line) in line_text number h.played.world.sent h.taken
 
@@ -75,7 +75,7 @@ reached_bad classes names above number p text line rest reached bad =
     reached.goes_on (line ∷ rest)
     ∙ ap (λ (b : Bool). before_rest text (if b then record { text = said; bad = true; played = h.played } else before_rest said (run_from names (suc number) h.played rest))) bad
 
--- what is printed in two pieces
+-- a text that is printed in two pieces
 appends_none : (a : Option (List ℕ)) → Appends a a []
 appends_none None = tt
 appends_none (Some s) = sym (append-nil s)
@@ -86,7 +86,7 @@ appends_more (Some s) None c x y p q = absurd p
 appends_more (Some s) (Some t) None x y p q = absurd q
 appends_more (Some s) (Some t) (Some u) x y p q = q ∙ ap (λ z. z ++ y) p ∙ append_assoc s x y
 
--- a text that was begun after another
+-- a beginning of a text after another text
 begun_more : (old mid new : Option (List ℕ)) (text said more : List ℕ) → Appends old mid text → Begins mid new said → Begins old new (text ++ (said ++ more))
 begun_more old mid new text said more first begun =
     let count = min begun.count (length said) in
@@ -97,7 +97,7 @@ begun_more old mid new text said more first begun =
           (appends_more old mid new text (take begun.count said) first begun.grew);
     }
 
--- where a run stands: some lines were done, and what they print was printed
+-- the state of a run: some lines were done, and their text was printed
 pub record Going (classes : Classes) (names above : List (List ℕ)) (number : ℕ) (w : Parts) (old new : Option (List ℕ)) (failed fails : Bool) : Type 0 where
   pub played : Played
   pub held : Holds classes w played
@@ -105,7 +105,7 @@ pub record Going (classes : Classes) (names above : List (List ℕ)) (number : �
   pub reached : Reached classes names above number played text
   pub shown : Grew old new failed fails text
 
--- what was printed is of the lines that were done
+-- the printed text is that of the lines that were done
 prints : (printed : Printed) (text : List ℕ) (bad : Bool) (p : Played) (old new : Option (List ℕ)) (failed fails : Bool)
     → printed ≡ record { text = text; bad = bad; played = p } → Grew old new failed fails text → Prints printed bad old new failed fails
 prints printed text bad p old new failed fails is shown = record {
@@ -113,7 +113,7 @@ prints printed text bad p old new failed fails is shown = record {
   is = ap (λ (r : Printed). r.bad) is;
 }
 
--- the next one was begun
+-- a beginning of the next line's text was printed
 said_first : (said : List ℕ) (p : Played) (rest : Printed) (b : Bool)
     → (more : List ℕ) × ((if b then record { text = said; bad = true; played = p } else before_rest said rest).text ≡ said ++ more)
 said_first said p rest true = ([], sym (append-nil said))
@@ -142,7 +142,7 @@ going_all classes names above number w old new failed fails going =
     prints (run_lines classes names above) going.text false going.played old new failed fails
     (reached_all classes names above number going.played going.text going.reached) going.shown
 
--- a line was done, and what it comes to was printed
+-- a line was done, and its text was printed
 going_more : (classes : Classes) (names above : List (List ℕ)) (number : ℕ) (w : Parts) (old new : Option (List ℕ)) (failed fails : Bool)
     (line : List ℕ) (v : Parts) (text : List ℕ) (bad : Bool) (next : Option (List ℕ)) (fails_now : Bool)
     → Going classes names above number w old new failed fails → Takes classes names line (suc number) w v text bad → bad ≡ false
@@ -161,7 +161,7 @@ going_more classes names above number w old new failed fails line v text bad nex
       };
     }
 
--- or it is bad, and that was printed
+-- or the line is bad, and its text was printed
 going_bad : (classes : Classes) (names above : List (List ℕ)) (number : ℕ) (w : Parts) (old new : Option (List ℕ)) (failed fails : Bool)
     (line : List ℕ) (rest : List (List ℕ)) (v : Parts) (text : List ℕ) (bad : Bool) (next : Option (List ℕ)) (fails_now : Bool)
     → Going classes names above number w old new failed fails → Takes classes names line (suc number) w v text bad → bad ≡ true
@@ -272,7 +272,7 @@ all_done classes names ws i number w old new failed fails e going =
 apart : {b : Bool} → b ≡ false → b ≡ true → ⊥
 apart p q = let bad : false ≡ true = sym p ∙ q in absurd cc
 
--- where a print isn't an error, what it promises holds
+-- if a print succeeds, its promise for that holds
 pub printed_if : {T E : Type 0} (r : Result T E) (b : Bool) (P : Type 0) → b ≡ is_err r → b ≡ false → OnOk r P → P
 printed_if (Ok x) b P e f p = p
 printed_if (Err x) b P e f p = absurd (apart f e)
@@ -281,7 +281,7 @@ pub ok_if : {T E : Type 0} (r : Result T E) (b : Bool) → b ≡ is_err r → b 
 ok_if (Ok x) b e f = refl
 ok_if (Err x) b e f = absurd (apart f e)
 
--- where one is, what it promises of that
+-- if a print fails, its promise for that holds
 pub broken_if : {T E : Type 0} (r : Result T E) (b : Bool) (P : Type 0) → b ≡ is_err r → b ≡ true → OnErr r P → P
 broken_if (Ok x) b P e f p = absurd (apart e f)
 broken_if (Err x) b P e f p = p

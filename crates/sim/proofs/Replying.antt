@@ -1,4 +1,4 @@
--- Of verified classes, each reply that was sent in an agreed world is its method's run.
+-- If the classes are verified, each reply that was sent in an agreed world is its method's run.
 use Rattle.std.proofs.Common.{◌≡◌, ℕ, zero, suc, cond, true, false, List, [], ◌∷◌, Some, sym, ◌∙◌, subst}
 use Rattle.std.specs.List.{AllByRecursion, Contains, slice_get}
 use Rattle.std.specs.Str.{bytes_eq}

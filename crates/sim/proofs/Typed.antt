@@ -1,4 +1,4 @@
--- The requests of `req` lines are as their type holds them: clients below 2 ^ 32, and bytes.
+-- The requests of `req` lines are within their types: clients below 2 ^ 32, and texts of bytes.
 use Rattle.std.proofs.Common.{◌≡◌, ◌<◌, ◌^◌, ◌&&◌, ◌==◌, inl, inr, ℕ, zero, suc, Bool, true, false, if◌then◌else◌, List, [], ◌∷◌, Option, Some, None, Result, Ok, Err, refl, subst, arith}
 use Rattle.std.specs.Prelude.{IfSome, nat_le, nat_lt, slice_index, codes}
 use Rattle.std.specs.Option.{option_map, option_and_then}

@@ -1,6 +1,5 @@
--- The run of a file as it is drawn: what each line makes happen, and every message. What a line
--- comes to is `step`, as where the lines are printed; how steps and messages look is sim_trace's
--- `drawn`.
+-- The run of a file as it is drawn: the event of each line, and every message. `step` says what a
+-- line does, for a printed run too; sim_trace's `drawn` says how steps and messages look.
 use Rattle.std.specs.Prelude.{◌≡◌, ℕ, suc, min, Bool, true, List, [], ◌∷◌, ◌++◌, map, Option, Some, None, is_some, if◌then◌else◌, codes, string_bytes}
 use Rattle.std.specs.Fmt.{decimal}
 use Rattle.class_tool.specs.Output.{Begins}
@@ -17,15 +16,15 @@ use Rattle.sim_text.specs.declared.taken.Taken.TheVariants as taken
 use Rattle.sim_trace.specs.Drawing.{drawn}
 use Rattle.sim_trace.specs.declared.column.Column.{Column}
 use Rattle.sim_trace.specs.declared.column.Column.TheVariants.{Client, Node, Monitor}
-use Rattle.sim_trace.specs.declared.message.Message.{Message}
-use Rattle.sim_trace.specs.declared.step.What.{What}
-use Rattle.sim_trace.specs.declared.step.What.TheVariants.{At, Asked, Arrived, Bounced, Stopped, Resumed}
-use Rattle.sim_trace.specs.declared.step.Step.{Step}
+use Rattle.sim_trace.specs.declared.drawn_message.DrawnMessage.{DrawnMessage}
+use Rattle.sim_trace.specs.declared.drawn_step.What.{What}
+use Rattle.sim_trace.specs.declared.drawn_step.What.TheVariants.{At, Asked, Arrived, Bounced, Stopped, Resumed}
+use Rattle.sim_trace.specs.declared.drawn_step.DrawnStep.{DrawnStep}
 use Rattle.sim_world.specs.Step.{Played, Happened, beginning, step}
 use Rattle.sim_world.specs.Holds.{Holds, MessageShown, message_shown}
 use Rattle.sim_world.specs.inner.Parts.{Parts}
 
--- WHO HAS A COLUMN: each party; a node's number past 255, which no node has, counts as that.
+-- THE COLUMN OF A PARTY. A number past 255, which no node has, counts as 255.
 abbrev pub column_of_node : ℕ → Column
 column_of_node n = Node (min n 255)
 
@@ -34,20 +33,20 @@ column_of (ANode n) = column_of_node n
 column_of TheMonitor = Monitor
 column_of (AClient c) = Client c
 
--- A MESSAGE as it is drawn: between whom, and what it says.
+-- A MESSAGE as it is drawn: its sender, its receiver and its text.
 pub record Drawn : Type 0 where
   pub from : Column
   pub to : Column
   pub text : List ℕ
 
-abbrev pub drawn_as : Message → Drawn
+abbrev pub drawn_as : DrawnMessage → Drawn
 drawn_as m = record { from = m.from; to = m.to; text = string_bytes m.text }
 
 abbrev pub drawn_of : MessageShown → Drawn
 drawn_of m = record { from = column_of m.sender; to = column_of m.receiver; text = m.text }
 
--- WHAT A LINE IS TO MAKE HAPPEN, if anything: at the monitor, between a client and a node, at a
--- node; a message arrives; or a node stops or goes on.
+-- THE EVENT THAT A LINE ASKS FOR, if any: something at the monitor, between a client and a node, or
+-- at a node; a message arrives; or a node stops or goes on.
 abbrev pub meant_by : Line → Option What
 meant_by lines.Empty = None
 meant_by (lines.Map acting) = Some (At Monitor)
@@ -60,7 +59,7 @@ meant_by (lines.Go n) = Some (Resumed (column_of_node n))
 meant_by (lines.Resend n) = Some (At (column_of_node n))
 meant_by lines.Bad = None
 
--- WHAT HAPPENED, by what came of the line: a message may also come to a node that is stopped.
+-- THE EVENT THAT HAPPENED, by the line's result: the node that a message gets to may be stopped.
 abbrev pub delivery_of : ℕ → Taken → What
 delivery_of number taken.Stopped = Bounced number
 delivery_of number _ = Arrived number
@@ -77,7 +76,7 @@ abbrev pub done_if : Option What → Taken → Option What
 done_if None t = None
 done_if (Some what) t = Some (done_of what t)
 
--- WHAT IS SAID OF IT: its line, but none of a delivery
+-- THE TEXT OF AN EVENT begins with its line, but for a delivery
 abbrev pub line_of_step : What → List ℕ → List ℕ
 line_of_step (At column) line = line
 line_of_step (Asked client node) line = line
@@ -86,7 +85,7 @@ line_of_step (Bounced number) line = []
 line_of_step (Stopped column) line = line
 line_of_step (Resumed column) line = line
 
--- and what came of it, where that is neither messages nor that there are none
+-- and ends with the line's result, unless the line sent messages or did nothing
 abbrev pub again_after : List ℕ → List ℕ → List ℕ
 again_after before [] = []
 again_after before (number ∷ numbers) = before ++ codes "again m" ++ decimal number ++ again_after (codes ", ") numbers
@@ -108,18 +107,18 @@ said_after (taken.Again numbers) = again_after (codes ": ") numbers
 abbrev pub said : List ℕ → What → Taken → List ℕ
 said line what t = line_of_step what line ++ said_after t
 
--- how many messages it sent
+-- the number of messages that it sent
 abbrev pub sent_by : Taken → ℕ
 sent_by (taken.Sent count) = count
 sent_by _ = 0
 
--- A STEP as it is drawn: what happened, what is said of it, and how many messages it sent.
+-- A STEP as it is drawn: its event, its text, and the number of messages that it sent.
 pub record Noted : Type 0 where
   pub what : What
   pub text : List ℕ
   pub sent : ℕ
 
-abbrev pub noted_as : Step → Noted
+abbrev pub noted_as : DrawnStep → Noted
 noted_as s = record { what = s.what; text = string_bytes s.text; sent = s.sent }
 
 abbrev pub noted_if : List ℕ → Taken → Option What → List Noted
@@ -130,7 +129,7 @@ abbrev pub noted : List (List ℕ) → List ℕ → Taken → List Noted
 noted names line t = noted_if line t (done_if (meant_by (line_of names line)) t)
 
 -- A RUN: its steps, the played world after them with all messages, and the number of the bad line,
--- if one is.
+-- if there is one.
 pub record Course : Type 0 where
   pub steps : List Noted
   pub played : Played
@@ -139,7 +138,7 @@ pub record Course : Type 0 where
 abbrev pub ahead : List Noted → Course → Course
 ahead steps course = record { steps = steps ++ course.steps; played = course.played; bad = course.bad }
 
--- a line, and the rest from the world after it; where it is bad, there is no step and no rest
+-- a line, and then the rest from the world after it; a bad line has no step, and no rest follows
 abbrev pub follow : List (List ℕ) → List ℕ → ℕ → (Played → Course) → Happened → Course
 follow names line number rest h = if is_bad h.taken then record { steps = []; played = h.played; bad = Some number }
     else ahead (noted names line h.taken) (rest h.played)
@@ -152,15 +151,15 @@ course_from names number p (line ∷ lines) = follow names line (suc number) (λ
 abbrev pub course : Classes → List (List ℕ) → List (List ℕ) → Course
 course classes names lines = course_from names 0 (beginning classes) lines
 
--- below the drawing, the line that is bad
+-- the text below the drawing, if a line is bad
 abbrev pub bad_of : Option ℕ → List ℕ
 bad_of None = []
 bad_of (Some number) = bad_line number
 
--- THE DRAWING OF A RUN: its steps and messages, drawn, and the bad line, if one is.
+-- THE DRAWING OF A RUN: its steps and messages, and then the bad line, if there is one.
 pub record Draws (run : Course) (text : List ℕ) (bad : Bool) : Type 0 where
-  pub messages : List Message
-  pub steps : List Step
+  pub messages : List DrawnMessage
+  pub steps : List DrawnStep
   pub sent : map drawn_as messages ≡ map drawn_of (map message_shown run.played.world.sent)
   pub lines : map noted_as steps ≡ run.steps
   pub text_is : text ≡ drawn messages steps ++ bad_of run.bad
@@ -184,7 +183,7 @@ pub record BreaksDrawing (run : Course) (old new : Option (List ℕ)) (fails : B
 abbrev pub DrawnIsPlayed : Classes → List (List ℕ) → List (List ℕ) → Type 0
 DrawnIsPlayed classes names lines = (course classes names lines).played ≡ (run_lines classes names lines).played
 
--- THE CODE'S OWN: a line was done, and the steps grew by its own
+-- FOR THE CODE ALONE: a line was done, and its steps were added
 pub record IsNoted (classes : Classes) (names : List (List ℕ)) (line : List ℕ) (h : Happened) (new : Parts) (before after : List Noted) (bad : Bool) : Type 0 where
   pub held : Holds classes new h.played
   pub steps : after ≡ (if is_bad h.taken then before else before ++ noted names line h.taken)
@@ -193,7 +192,7 @@ pub record IsNoted (classes : Classes) (names : List (List ℕ)) (line : List �
 abbrev pub Notes : Classes → List (List ℕ) → List ℕ → Parts → Parts → List Noted → List Noted → Bool → Type 0
 Notes classes names line old new before after bad = (p : Played) → Holds classes old p → IsNoted classes names line (step p (line_of names line)) new before after bad
 
--- lines were done from a played world on, up to one that is bad, and the steps grew by theirs
+-- lines were done from a played world on, up to the first bad one, and their steps were added
 pub record IsCourse (classes : Classes) (new : Parts) (before after : List Noted) (bad : Option ℕ) (run : Course) : Type 0 where
   pub played : Played
   pub held : Holds classes new played

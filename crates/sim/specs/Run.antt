@@ -1,5 +1,5 @@
--- The lines of a file, one after another, up to the first that is bad: what is printed of them, in
--- the group's world.
+-- The lines of a file are done one after another up to the first bad one, in the group's world: the
+-- text that is printed.
 use Rattle.std.specs.Prelude.{◌≡◌, ℕ, suc, ◌≤◌, List, [], ◌∷◌, ◌++◌, length, take, Bool, true, false, Option, if◌then◌else◌, codes}
 use Rattle.std.specs.Fmt.{decimal}
 use Rattle.std.specs.Io.KnownBytes.{Appends}
@@ -8,8 +8,8 @@ use Rattle.pg_log.specs.Requests.{ClientRequest}
 use Rattle.pg_log.specs.Log.{Classes}
 use Rattle.group_world.specs.World.{IsUncut, brought}
 use Rattle.group_world.specs.declared.message.Packet.{Packet}
-use Rattle.sim.specs.declared.file.Ending.{Ending}
-use Rattle.sim.specs.declared.file.Ending.TheVariants.{Done, Bad, NoMemory, Unprinted}
+use Rattle.sim.specs.declared.file.SimulationEnd.{SimulationEnd}
+use Rattle.sim.specs.declared.file.SimulationEnd.TheVariants.{Done, Bad, NoMemory, Unprinted}
 use Rattle.class_tool.specs.Output.{Begins}
 use Rattle.verifier.specs.Verified.{IsVerifiedClass}
 use Rattle.sim.specs.Replies.{ReplyHasRun}
@@ -27,11 +27,11 @@ use Rattle.sim_world.specs.inner.Parts.{Parts}
 abbrev pub bad_line : ℕ → List ℕ
 bad_line number = codes "line " ++ decimal number ++ codes ": bad\n"
 
--- what is printed of a line, by the messages that were sent up to it
+-- the text of a line, by the messages that were sent up to it
 abbrev pub line_text : ℕ → List Packet → Taken → List ℕ
 line_text number sent taken = if is_bad taken then bad_line number else taken_text sent taken
 
--- The text that is printed of lines, whether one is bad, and the played world after them.
+-- The text of lines, whether one is bad, and the played world after them.
 pub record Printed : Type 0 where
   pub text : List ℕ
   pub bad : Bool
@@ -40,7 +40,7 @@ pub record Printed : Type 0 where
 abbrev pub before_rest : List ℕ → Printed → Printed
 before_rest text rest = record { text = text ++ rest.text; bad = rest.bad; played = rest.played }
 
--- a line, and the rest from the world after it; nothing more where it is bad
+-- a line, and then the rest from the world after it; nothing follows a bad line
 abbrev pub go_on : ℕ → (Played → Printed) → Happened → Printed
 go_on number rest h = let text = line_text number h.played.world.sent h.taken in
     if is_bad h.taken then record { text = text; bad = true; played = h.played } else before_rest text (rest h.played)
@@ -54,7 +54,7 @@ run_from names number p (line ∷ lines) = go_on (suc number) (λ q. run_from na
 abbrev pub run_lines : Classes → List (List ℕ) → List (List ℕ) → Printed
 run_lines classes names lines = run_from names 0 (beginning classes) lines
 
--- THE WORLDS ON THE WAY: the played world after the first lines, as many as that number.
+-- THE WORLDS ON THE WAY: the played world after the given number of lines.
 abbrev pub played_after : Classes → List (List ℕ) → List (List ℕ) → ℕ → Played
 played_after classes names lines above = (run_lines classes names (take above lines)).played
 
@@ -67,10 +67,10 @@ abbrev pub asked : List (List ℕ) → List (List ℕ) → List ClientRequest
 asked names [] = []
 asked names (line ∷ lines) = asked_in (line_of names line) ++ asked names lines
 
--- EACH WORLD ON THE WAY IS AGREED, by the events that happened up to it. A line's own events come
--- after those before; the requests that they brought are of the `req` lines above; no committed
--- list is cut between two lines; and where the classes are verified, each reply that was sent is
--- its method's run in every layout.
+-- EACH WORLD ON THE WAY IS AGREED, by the events that happened up to it. A line's events follow
+-- those before it; the requests that events brought are those of the `req` lines above; no
+-- committed list is cut between two lines; and if the classes are verified, each reply that was
+-- sent is its method's run in every layout.
 pub record IsAgreedRun (classes : Classes) (names lines : List (List ℕ)) : Type 0 where
   pub agreed : (above : ℕ) → IsAgreedPlayed classes (played_after classes names lines above)
   pub brought : (above : ℕ) (r : ClientRequest) → Contains (brought (played_after classes names lines above).events) r → Contains (asked names (take above lines)) r
@@ -79,35 +79,35 @@ pub record IsAgreedRun (classes : Classes) (names lines : List (List ℕ)) : Typ
   pub replies : AllByRecursion IsVerifiedClass classes → (above : ℕ) (q : Packet) → Contains (played_after classes names lines above).world.sent q
       → ReplyHasRun classes (agreed above).agreed.list q.message.kind
 
--- what is known of what was printed grew by that text, and no write or flush failed
+-- the printed text, if it is known, grew by that text, and no write or flush failed
 pub record Grew (old new : Option (List ℕ)) (failed fails : Bool) (text : List ℕ) : Type 0 where
   pub grew : Appends old new text
   pub well : fails ≡ failed
 
--- All lines were printed that the lines of the file come to, and none is bad, or one is.
+-- All text of the file's lines was printed; one of them is bad, or none is.
 pub record Prints (printed : Printed) (bad : Bool) (old new : Option (List ℕ)) (failed fails : Bool) : Type 0 where
   pub shown : Grew old new failed fails printed.text
   pub is : printed.bad ≡ bad
 
--- Memory was refused at a line: those above it were done and printed, and none of them is bad.
+-- Memory was refused at a line: the lines above it were done and printed, and none of them is bad.
 pub record Stops (classes : Classes) (names lines : List (List ℕ)) (old new : Option (List ℕ)) (failed fails : Bool) : Type 0 where
   pub above : ℕ
   pub within : above ≤ length lines
   pub printed : Prints (run_lines classes names (take above lines)) false old new failed fails
 
--- A write or a flush failed: what was printed is a beginning of what all lines come to.
+-- A write or a flush failed: a beginning of the text of all lines was printed.
 pub record BreaksOff (printed : Printed) (old new : Option (List ℕ)) (fails : Bool) : Type 0 where
   pub begun : Begins old new printed.text
   pub failed : fails ≡ true
 
 -- The end of a run.
-abbrev pub EndsBy : Classes → List (List ℕ) → List (List ℕ) → Option (List ℕ) → Option (List ℕ) → Bool → Bool → Ending → Type 0
+abbrev pub EndsBy : Classes → List (List ℕ) → List (List ℕ) → Option (List ℕ) → Option (List ℕ) → Bool → Bool → SimulationEnd → Type 0
 EndsBy classes names lines old new failed fails Done = Prints (run_lines classes names lines) false old new failed fails
 EndsBy classes names lines old new failed fails Bad = Prints (run_lines classes names lines) true old new failed fails
 EndsBy classes names lines old new failed fails NoMemory = Stops classes names lines old new failed fails
 EndsBy classes names lines old new failed fails Unprinted = BreaksOff (run_lines classes names lines) old new fails
 
--- a line was done: what is held after it, what is printed of it, and whether it is bad
+-- a line was done: the world that is held after it, its text, and whether it is bad
 pub record IsLine (classes : Classes) (h : Happened) (number : ℕ) (new : Parts) (text : List ℕ) (bad : Bool) : Type 0 where
   pub held : Holds classes new h.played
   pub says : text ≡ line_text number h.played.world.sent h.taken

@@ -12,7 +12,7 @@ use crate::note::{column, meant, note};
 use crate::setup::Setup;
 use pg_log::Classes;
 use sim_text::{carried_text, lines, read_line};
-use sim_trace::{Message, Step, draw};
+use sim_trace::{DrawnMessage, DrawnStep, draw};
 use sim_world::{KeptMessage, World};
 use std::alloc::{AllocError, Global};
 use std::marker::Brand;
@@ -27,10 +27,10 @@ pub(crate) struct Traced {
 }
 
 /// A message that was sent, as it is drawn.
-fn message(alloc: Global, kept: &KeptMessage) -> Result<Message, AllocError>
+fn message(alloc: Global, kept: &KeptMessage) -> Result<DrawnMessage, AllocError>
     ensures { IfOk result (λ m. drawn_as m ≡ drawn_of (kept_shown kept.now)) }
 {
-    Ok(Message {
+    Ok(DrawnMessage {
         from: column(kept.message.sender),
         to: column(kept.receiver),
         text: carried_text(alloc, &kept.message.kind)?,
@@ -38,7 +38,7 @@ fn message(alloc: Global, kept: &KeptMessage) -> Result<Message, AllocError>
 }
 
 /// The messages that were sent.
-fn messages(alloc: Global, sent: &[KeptMessage]) -> Result<Vec<Message>, AllocError>
+fn messages(alloc: Global, sent: &[KeptMessage]) -> Result<Vec<DrawnMessage>, AllocError>
     ensures { IfOk result (λ v. map drawn_as v.items ≡ map drawn_of (map kept_shown sent.now)) }
 {
     let mut messages = Vec::new(alloc);
@@ -53,7 +53,7 @@ fn take_line<C: Classes>(
     setup: &Setup<'_>,
     world: &mut World<C>,
     text: &str,
-    steps: &mut Vec<Step>,
+    steps: &mut Vec<DrawnStep>,
 ) -> Result<bool, AllocError>
     requires { setup.now.table.now ≡ C.classes }
     ensures { IfOk result (λ bad. Notes C.classes (map (λ n. n.now) setup.now.names.now) text.now world.old world.new (map noted_as steps.old.items) (map noted_as steps.new.items) bad) }
@@ -74,7 +74,7 @@ fn take_lines<C: Classes>(
     setup: &Setup<'_>,
     lines: &[&str],
     world: &mut World<C>,
-    steps: &mut Vec<Step>,
+    steps: &mut Vec<DrawnStep>,
 ) -> Result<Option<usize>, AllocError>
     requires { setup.now.table.now ≡ C.classes }
     ensures { IfOk result (λ bad. Courses C.classes (map (λ n. n.now) setup.now.names.now) (map (λ l. l.now) lines.now) world.old world.new (map noted_as steps.old.items) (map noted_as steps.new.items) bad) }
@@ -92,8 +92,8 @@ fn take_lines<C: Classes>(
 /// Draws messages and steps, and says which line is bad, if one is.
 fn drawn(
     alloc: Global,
-    messages: &[Message],
-    steps: &[Step],
+    messages: &[DrawnMessage],
+    steps: &[DrawnStep],
     bad: Option<usize>,
 ) -> Result<Traced, AllocError>
     ensures { IfOk result (λ t. (string_bytes t.text ≡ drawn messages.now steps.now ++ bad_of bad) × (t.bad ≡ is_some bad)) }

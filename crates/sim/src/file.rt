@@ -15,7 +15,7 @@ use std::marker::Brand;
 
 /// The end of a run of a file.
 #[derive(Clone, Copy, PartialEq, Eq)]
-pub enum Ending {
+pub enum SimulationEnd {
     /// Each line was done, and what it came to was printed.
     Done,
     /// A line is bad; those above it were done, and the last line that was printed says which.
@@ -28,7 +28,7 @@ pub enum Ending {
 
 /// A line of the printed run.
 #[derive(Drop)]
-struct Line {
+struct PrintedLine {
     /// The text.
     text: String,
     /// The line is bad.
@@ -56,7 +56,7 @@ fn take_line<C: Classes>(
     world: &mut World<C>,
     number: usize,
     line: &str,
-) -> Result<Line, AllocError>
+) -> Result<PrintedLine, AllocError>
     requires { setup.now.table.now ≡ C.classes }
     ensures { IfOk result (λ p. Takes C.classes (map (λ n. n.now) setup.now.names.now) line.now number world.old world.new (string_bytes p.text) p.is_bad) }
 {
@@ -64,7 +64,7 @@ fn take_line<C: Classes>(
     let taken = world.take(setup.table, line)?;
     let is_bad = taken.is_bad();
     let text = line_text(setup.alloc, world, number, &taken)?;
-    Ok(Line { text, is_bad })
+    Ok(PrintedLine { text, is_bad })
 }
 
 /// Does lines, one after the other, from the first world on.
@@ -73,7 +73,7 @@ fn run_from<C: Classes, O: Output>(
     lines: &[&str],
     world: &mut World<C>,
     out: &mut O,
-) -> Ending
+) -> SimulationEnd
     requires classes { setup.now.table.now ≡ C.classes }
     requires first { Holds C.classes world.old (beginning C.classes) }
     ensures { EndsBy setup.now.table.now (map (λ n. n.now) setup.now.names.now) (map (λ l. l.now) lines.now) (O.printed out.old) (O.printed out.new) (O.failed out.old) (O.failed out.new) result }
@@ -84,27 +84,27 @@ fn run_from<C: Classes, O: Output>(
         match take_line(setup, world, number, line) {
             Ok(taken) => {
                 if out.print(taken.text.as_str()).is_err() {
-                    return Ending::Unprinted;
+                    return SimulationEnd::Unprinted;
                 }
                 let is_bad = taken.is_bad;
                 if is_bad {
-                    return Ending::Bad;
+                    return SimulationEnd::Bad;
                 }
             }
-            Err(_) => return Ending::NoMemory,
+            Err(_) => return SimulationEnd::NoMemory,
         }
     }
-    Ending::Done
+    SimulationEnd::Done
 }
 
 /// Does lines, one after the other.
-fn run_lines<C: Classes, O: Output>(setup: &Setup<'_>, lines: &[&str], out: &mut O) -> Ending
+fn run_lines<C: Classes, O: Output>(setup: &Setup<'_>, lines: &[&str], out: &mut O) -> SimulationEnd
     requires { setup.now.table.now ≡ C.classes }
     ensures { EndsBy setup.now.table.now (map (λ n. n.now) setup.now.names.now) (map (λ l. l.now) lines.now) (O.printed out.old) (O.printed out.new) (O.failed out.old) (O.failed out.new) result }
 {
     match World::<C>::new(setup.alloc) {
         Ok(mut world) => run_from(setup, lines, &mut world, out),
-        Err(_) => Ending::NoMemory,
+        Err(_) => SimulationEnd::NoMemory,
     }
 }
 
@@ -113,12 +113,12 @@ fn run_lines<C: Classes, O: Output>(setup: &Setup<'_>, lines: &[&str], out: &mut
 ///
 /// It ends with `Bad` at the first bad line, whose number is printed; with `NoMemory` where memory
 /// is refused, and then prints nothing of that line; and where a write or a flush fails.
-pub(crate) fn run<O: Output>(setup: &Setup<'_>, text: &str, out: &mut O) -> Ending
+pub(crate) fn run<O: Output>(setup: &Setup<'_>, text: &str, out: &mut O) -> SimulationEnd
     ensures { EndsBy setup.now.table.now (map (λ n. n.now) setup.now.names.now) (lines_of text.now) (O.printed out.old) (O.printed out.new) (O.failed out.old) (O.failed out.new) result }
 {
     match lines(setup.alloc, text) {
         // The call picks the classes: they are the table's.
         Ok(lines) => run_lines::<Brand, O>(setup, &lines, out),
-        Err(_) => Ending::NoMemory,
+        Err(_) => SimulationEnd::NoMemory,
     }
 }

@@ -18,6 +18,6 @@ mod tool;
 mod verified;
 
 pub use asked::Simulation;
-pub use file::Ending;
+pub use file::SimulationEnd;
 pub use laws::worlds_are_known;
 pub use tool::simulate;

@@ -6,7 +6,7 @@ ghost use Rattle.sim_text.specs.Texts.{said_text};
 use group_world::Party;
 use placement::NodeId;
 use sim_text::{Line, Taken, said_text};
-use sim_trace::{Column, Step, What};
+use sim_trace::{Column, DrawnStep, What};
 use std::alloc::{AllocError, Global};
 
 /// The column of a node; a number past 255 counts as that, and no node has it.
@@ -150,7 +150,7 @@ pub(crate) fn note(
     meant: Option<What>,
     text: &str,
     taken: &Taken,
-    steps: &mut Vec<Step>,
+    steps: &mut Vec<DrawnStep>,
 ) -> Result<(), AllocError>
     ensures { OnOk result (map noted_as steps.new.items ≡ map noted_as steps.old.items ++ noted_if text.now taken.now (done_if meant taken.now)) }
 {
@@ -158,7 +158,7 @@ pub(crate) fn note(
         let what = done(meant, taken);
         let said = said(alloc, text, what, taken)?;
         let sent = sent_by(taken);
-        steps.push(Step {
+        steps.push(DrawnStep {
             what,
             text: said,
             sent,

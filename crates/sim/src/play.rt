@@ -4,27 +4,32 @@ ghost use Rattle.sim_text.specs.Lines.{lines_of};
 ghost use Rattle.sim.specs.Simulating.{IsDrawn, Plays};
 
 use crate::drawing::trace;
-use crate::file::{Ending, run};
+use crate::file::{SimulationEnd, run};
 use crate::setup::Setup;
 use class_tool::Output;
 
 /// Draws the run of a text, and prints the drawing once all lines are done or one is bad.
-fn draw<O: Output>(setup: &Setup<'_>, text: &str, out: &mut O) -> Ending
+fn draw<O: Output>(setup: &Setup<'_>, text: &str, out: &mut O) -> SimulationEnd
     ensures { IsDrawn (course setup.now.table.now (map (λ n. n.now) setup.now.names.now) (lines_of text.now)) (O.printed out.old) (O.printed out.new) (O.failed out.old) (O.failed out.new) result }
 {
     let Ok(traced) = trace(setup, text) else {
-        return Ending::NoMemory;
+        return SimulationEnd::NoMemory;
     };
     let bad = traced.bad;
     match out.print(traced.text.as_str()) {
-        Ok(()) if bad => Ending::Bad,
-        Ok(()) => Ending::Done,
-        Err(_) => Ending::Unprinted,
+        Ok(()) if bad => SimulationEnd::Bad,
+        Ok(()) => SimulationEnd::Done,
+        Err(_) => SimulationEnd::Unprinted,
     }
 }
 
 /// Does the lines of a text, and prints of each what it comes to, or the drawing of them all.
-pub(crate) fn play<O: Output>(setup: &Setup<'_>, text: &str, is_drawn: bool, out: &mut O) -> Ending
+pub(crate) fn play<O: Output>(
+    setup: &Setup<'_>,
+    text: &str,
+    is_drawn: bool,
+    out: &mut O,
+) -> SimulationEnd
     ensures { Plays is_drawn setup.now.table.now (map (λ n. n.now) setup.now.names.now) text.now (O.printed out.old) (O.printed out.new) (O.failed out.old) (O.failed out.new) result }
 {
     if is_drawn {

@@ -2,7 +2,7 @@ ghost use Rattle.std.specs.Prelude.{◌≡◌, IfOk, IfErr, OnErr};
 ghost use Rattle.sim.specs.Simulating.{Simulates, SimulationFails};
 
 use crate::asked::Simulation;
-use crate::file::Ending;
+use crate::file::SimulationEnd;
 use crate::laws::worlds_are_known;
 use crate::play::play;
 use crate::setup::Setup;
@@ -23,7 +23,7 @@ pub fn simulate<F: Reads, O: Output>(
     files: &F,
     simulation: &Simulation<'_>,
     out: &mut O,
-) -> Result<Ending, Failure>
+) -> Result<SimulationEnd, Failure>
     ensures ends { IfOk result (Simulates (F.disk files.now) simulation.now (O.printed out.old) (O.printed out.new) (O.failed out.old) (O.failed out.new)) }
     ensures fails { IfErr result (SimulationFails (F.disk files.now) simulation.now) }
     ensures silent { OnErr result (out.new ≡ out.old) }

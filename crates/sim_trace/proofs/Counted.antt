@@ -1,7 +1,7 @@
--- One more of what is put after a text, n times.
+-- What one more line, number or repetition appends to a text.
 use Rattle.std.proofs.Common.{◌≡◌, ℕ, ◌+◌, List, ◌++◌, Bool, false, ap, add-one, codes, slice_get, slice_index_or}
 use Rattle.sim_trace.specs.declared.column.Column.{Column}
-use Rattle.sim_trace.specs.declared.message.Message.{Message}
+use Rattle.sim_trace.specs.declared.drawn_message.DrawnMessage.{DrawnMessage}
 use Rattle.sim_trace.specs.Rows.{repeated}
 use Rattle.sim_trace.specs.Drawing.{label, numbers_from, lost_rows, lost_unless, lost_row}
 
@@ -11,7 +11,7 @@ repeated_more n text = ap (λ m. repeated m text) (add-one n)
 pub numbers_from_more : (first k : ℕ) → numbers_from first (k + 1) ≡ numbers_from first k ++ codes " " ++ label (first + k + 1)
 numbers_from_more first k = ap (λ m. numbers_from first m) (add-one k)
 
-pub lost_rows_more : (columns : List Column) (messages : List Message) (stopped arrived : List Bool) (first k : ℕ) →
+pub lost_rows_more : (columns : List Column) (messages : List DrawnMessage) (stopped arrived : List Bool) (first k : ℕ) →
     lost_rows columns messages stopped arrived first (k + 1)
     ≡ lost_rows columns messages stopped arrived first k
     ++ lost_unless (slice_index_or arrived (first + k) false) (lost_row columns stopped (first + k + 1) (slice_get messages (first + k)))

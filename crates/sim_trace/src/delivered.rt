@@ -3,15 +3,15 @@ ghost use Rattle.std.specs.Prelude.{◌≡◌, ◌<◌, ◌==◌, ◌||◌, ℕ,
 ghost use Rattle.std.specs.List.{list_any};
 ghost use Rattle.sim_trace.specs.Drawing.{delivered, names_it};
 
-use crate::message::Message;
-use crate::step::{Step, What};
+use crate::drawn_message::DrawnMessage;
+use crate::drawn_step::{DrawnStep, What};
 use std::alloc::{AllocError, Global};
 
 /// For each message, true if some step delivers it, or tries to.
 pub(crate) fn delivered(
     alloc: Global,
-    messages: &[Message],
-    steps: &[Step],
+    messages: &[DrawnMessage],
+    steps: &[DrawnStep],
 ) -> Result<Vec<bool>, AllocError>
     ensures value { IfOk result (λ v. v.items ≡ delivered messages.now steps.now) }
     ensures count { IfOk result (λ v. length v.items ≡ length messages.now) }
@@ -22,7 +22,7 @@ pub(crate) fn delivered(
 }
 
 /// Notes the messages that steps deliver. Nothing is noted yet.
-fn note_all(arrived: &mut [bool], steps: &[Step])
+fn note_all(arrived: &mut [bool], steps: &[DrawnStep])
     requires { (k : ℕ) → k < length arrived.old → slice_index_or arrived.old k false ≡ false }
     ensures { (k : ℕ) → k < length arrived.old → slice_index_or arrived.new k false ≡ list_any (λ s. names_it (suc k) s.what) steps.now }
 {

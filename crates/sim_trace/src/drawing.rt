@@ -6,9 +6,9 @@ ghost use Rattle.sim_trace.specs.Drawing.{message_at, kind, long_label, message_
 use crate::column::Column;
 use crate::columns::{columns_of, place_of};
 use crate::delivered::delivered;
-use crate::message::Message;
+use crate::drawn_message::DrawnMessage;
+use crate::drawn_step::{DrawnStep, What};
 use crate::rows::{Arrow, push_arrow, push_mark};
-use crate::step::{Step, What};
 use crate::stopped::note_stop;
 use crate::text::push_repeated;
 use std::alloc::{AllocError, Global};
@@ -19,7 +19,7 @@ use std::alloc::{AllocError, Global};
 struct Chart<'a> {
     alloc: Global,
     columns: &'a [Column],
-    messages: &'a [Message],
+    messages: &'a [DrawnMessage],
     arrived: &'a [bool],
     stopped: &'a [bool],
     ghost same: { length arrived.now ≡ length messages.now },
@@ -29,7 +29,11 @@ struct Chart<'a> {
 /// drawn at each arrival. One that no step delivers is drawn below the step that sent it, a reply
 /// as it reaches its client, any other as lost. The line of a step ends with the numbers of the
 /// messages that it sent.
-pub fn draw(alloc: Global, messages: &[Message], steps: &[Step]) -> Result<String, AllocError>
+pub fn draw(
+    alloc: Global,
+    messages: &[DrawnMessage],
+    steps: &[DrawnStep],
+) -> Result<String, AllocError>
     ensures { IfOk result (λ s. string_bytes s ≡ drawn messages.now steps.now) }
 {
     let mut out = String::new(alloc);
@@ -41,8 +45,8 @@ pub fn draw(alloc: Global, messages: &[Message], steps: &[Step]) -> Result<Strin
 fn push_drawing(
     alloc: Global,
     out: &mut String,
-    messages: &[Message],
-    steps: &[Step],
+    messages: &[DrawnMessage],
+    steps: &[DrawnStep],
 ) -> Result<(), AllocError>
     ensures { OnOk result (string_bytes out.new ≡ string_bytes out.old ++ drawn messages.now steps.now) }
 {
@@ -56,8 +60,8 @@ fn push_steps(
     alloc: Global,
     out: &mut String,
     columns: &[Column],
-    messages: &[Message],
-    steps: &[Step],
+    messages: &[DrawnMessage],
+    steps: &[DrawnStep],
 ) -> Result<(), AllocError>
     ensures { OnOk result (string_bytes out.new ≡ string_bytes out.old ++ rows columns.now messages.now (delivered messages.now steps.now) (replicate (length columns.now) false) 0 steps.now) }
 {
@@ -117,7 +121,7 @@ fn name(alloc: Global, column: Column) -> Result<String, AllocError>
 }
 
 /// The message of a number, if there is one.
-fn message_at(messages: &[Message], number: usize) -> Option<&Message>
+fn message_at(messages: &[DrawnMessage], number: usize) -> Option<&DrawnMessage>
     ensures { option_copied result ≡ message_at messages.now number }
 {
     // Messages are numbered from 1.
@@ -154,7 +158,7 @@ fn kind(text: &str) -> &str
 }
 
 /// The label of a message on an arrow that is long enough.
-fn long_label(alloc: Global, number: usize, message: &Message) -> Result<String, AllocError>
+fn long_label(alloc: Global, number: usize, message: &DrawnMessage) -> Result<String, AllocError>
     ensures { IfOk result (λ s. string_bytes s ≡ long_label number message.now) }
 {
     let kind = kind(message.text.as_str());
@@ -169,7 +173,7 @@ fn has_arrived(arrived: &[bool], place: usize) -> bool
 }
 
 /// The number of messages from `first` on that a step sent.
-fn sent_by(messages: &[Message], first: usize, step: &Step) -> usize
+fn sent_by(messages: &[DrawnMessage], first: usize, step: &DrawnStep) -> usize
     requires { first ≤ length messages.now }
     ensures value { result ≡ sent_by messages.now first step.now }
     ensures within { first + result ≤ length messages.now }
@@ -185,7 +189,7 @@ impl Chart<'_> {
         out: &mut String,
         number: usize,
         arrives: bool,
-        message: &Message,
+        message: &DrawnMessage,
     ) -> Result<(), AllocError>
         ensures { OnOk result (string_bytes out.new ≡ string_bytes out.old ++ message_row self.now.columns.now self.now.stopped.now number arrives message.now) }
     {
@@ -221,7 +225,7 @@ impl Chart<'_> {
         out: &mut String,
         number: usize,
         arrives: bool,
-        message: &Message,
+        message: &DrawnMessage,
     ) -> Result<(), AllocError>
         ensures { OnOk result (string_bytes out.new ≡ string_bytes out.old ++ delivery self.now.columns.now self.now.stopped.now number arrives (Some message.now)) }
     {
@@ -258,7 +262,7 @@ impl Chart<'_> {
         &self,
         out: &mut String,
         number: usize,
-        message: &Message,
+        message: &DrawnMessage,
     ) -> Result<(), AllocError>
         ensures { OnOk result (string_bytes out.new ≡ string_bytes out.old ++ lost_row self.now.columns.now self.now.stopped.now number (Some message.now)) }
     {
@@ -298,7 +302,7 @@ impl Chart<'_> {
         out: &mut String,
         first: usize,
         count: usize,
-        step: &Step,
+        step: &DrawnStep,
     ) -> Result<(), AllocError>
         requires { first + count ≤ length self.now.messages.now }
         ensures { OnOk result (string_bytes out.new ≡ string_bytes out.old ++ step_row self.now.columns.now self.now.messages.now self.now.stopped.now first count step.now) }

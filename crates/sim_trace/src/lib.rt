@@ -7,13 +7,13 @@ mod column;
 mod columns;
 mod delivered;
 mod drawing;
-mod message;
+mod drawn_message;
+mod drawn_step;
 mod rows;
-mod step;
 mod stopped;
 mod text;
 
 pub use column::Column;
 pub use drawing::draw;
-pub use message::Message;
-pub use step::{Step, What};
+pub use drawn_message::DrawnMessage;
+pub use drawn_step::{DrawnStep, What};

@@ -4,7 +4,7 @@ ghost use Rattle.sim_trace.specs.Drawing.{stopped_after};
 
 use crate::column::Column;
 use crate::columns::place_of;
-use crate::step::What;
+use crate::drawn_step::What;
 
 /// Notes for the column of a place if its node is stopped, if there is such a column.
 fn set(stopped: &mut [bool], place: usize, is_stopped: bool)

@@ -9,7 +9,7 @@ use Rattle.pg_log.specs.Log.{Classes}
 use Rattle.tenant_classes.specs.Classes.{AreIn, GrewByTenants, TenantsFail}
 use Rattle.tenant_classes.specs.declared.tenant_class.TenantClass.{TenantClass}
 
--- a class after others
+-- one more class
 AreIn-more : (disk : Option Disk) (tenants : List TenantClass) (classes : Classes) (o : TenantClass) (class : List ClassMethod)
     → AreIn disk tenants classes → IsSafeIn disk o.image.now class → AreIn disk (tenants ++ o ∷ []) (classes ++ class ∷ [])
 AreIn-more disk [] [] o class are is = (is, tt)
@@ -17,7 +17,7 @@ AreIn-more disk [] (c ∷ classes) o class are is = absurd are
 AreIn-more disk (p ∷ tenants) [] o class are is = absurd are
 AreIn-more disk (p ∷ tenants) (c ∷ classes) o class are is = (are.0, AreIn-more disk tenants classes o class are.1 is)
 
--- a table grew by the class of the next file
+-- the class of the next file was added to a table
 pub GrewByTenants-more : (disk : Option Disk) (tenants : List TenantClass) (i : ℕ) (d : TenantClass) (old new next : Classes) (class : List ClassMethod)
     → i < length tenants → GrewByTenants disk (take i tenants) old new → IsSafeIn disk (get_or tenants i d).image.now class → next ≡ new ++ class ∷ []
     → GrewByTenants disk (take (i + 1) tenants) old next

@@ -1,4 +1,4 @@
--- The classes that requests go to, and why they can't be had.
+-- The classes that requests go to, and why they can't be loaded.
 use Rattle.std.specs.Prelude.{◌≡◌, ◌⊎◌, ⊤, ℕ, List, [], ◌∷◌, ◌++◌, map, Option, codes}
 use Rattle.bpf_decode.specs.Class.{ClassMethod}
 use Rattle.builtin_classes.specs.BuiltIn.{AreLoaded, LoadFails as TextFails}
@@ -13,37 +13,37 @@ use Rattle.class_tool.specs.declared.failure.Failure.TheVariants.{NoMemory, Text
 use Rattle.pg_log.specs.Log.{Classes}
 use Rattle.tenant_classes.specs.declared.tenant_class.TenantClass.{TenantClass}
 
--- the words that ask the classes, by their ids
+-- the names of the classes in requests, by their ids
 abbrev pub names_of : List TenantClass → List (List ℕ)
 names_of tenants = codes "lock" ∷ codes "obj" ∷ map (λ o. o.name.now) tenants
 
--- each class is the one that the file holds, and safe, one after the other
+-- the file of each tenant holds its class, and the class is safe
 abbrev pub AreIn : Option Disk → List TenantClass → Classes → Type 0
 AreIn disk [] [] = ⊤
 AreIn disk [] (class ∷ classes) = ⊥
 AreIn disk (o ∷ tenants) [] = ⊥
 AreIn disk (o ∷ tenants) (class ∷ classes) = IsSafeIn disk o.image.now class × AreIn disk tenants classes
 
--- a table grew by those classes
+-- those classes were added to a table
 pub record GrewByTenants (disk : Option Disk) (tenants : List TenantClass) (old new : Classes) : Type 0 where
   pub others : Classes
   pub added : new ≡ old ++ others
   pub loaded : AreIn disk tenants others
 
--- THE CLASSES: the built-in ones, `lock` 0 and `obj` 1, and from 2 on the tenants' in the order
--- given.
+-- THE CLASSES: the built-in ones, `lock` 0 and `obj` 1, and from 2 on those of the tenants, in the
+-- given order.
 pub record AreClasses (disk : Option Disk) (tenants : List TenantClass) (classes : Classes) : Type 0 where
   pub ours : Classes
   pub built_in : AreLoaded LOCK.now OBJ.now ours
   pub loaded : GrewByTenants disk tenants ours classes
 
--- a built-in class's failure as the program's
+-- the failure of a built-in class as the program tells it
 abbrev pub failure_of : BuiltInFailure → Failure
 failure_of built_in.NoMemory = NoMemory
 failure_of (built_in.Text error) = Text error
 failure_of (built_in.Verdict refusal) = Verdict refusal
 
--- A built-in class can't be had.
+-- A built-in class can't be loaded.
 abbrev pub BuiltInFails : Failure → Type 0
 BuiltInFails failure = (why : BuiltInFailure) × (failure ≡ failure_of why) × (TextFails LOCK.now why ⊎ TextFails OBJ.now why)
 
@@ -56,7 +56,7 @@ abbrev pub TenantsFail : Option Disk → List TenantClass → Failure → Type 0
 TenantsFail disk [] failure = ⊥
 TenantsFail disk (o ∷ tenants) failure = LoadFails disk o.image.now failure ⊎ (HoldsClass disk o × TenantsFail disk tenants failure)
 
--- Why the classes can't be had: one of the built-in ones can't, or the first of the tenants' that
--- can't.
+-- Why the classes can't be loaded: because of a built-in class, or else because of a tenant's, the
+-- first one that can't be loaded.
 abbrev pub ClassesFail : Option Disk → List TenantClass → Failure → Type 0
 ClassesFail disk tenants failure = BuiltInFails failure ⊎ TenantsFail disk tenants failure

@@ -1,6 +1,6 @@
 //! The plan of a file.
 
-use cluster_file::{Call, Plan, Reading, Step, read_plan};
+use cluster_file::{Plan, PlannedCall, PlannedStep, Reading, read_plan};
 use std::process::Abort;
 use std::test::*;
 
@@ -81,7 +81,7 @@ fn malformed_first_lines(rt: HostRuntime) {
 
 /// True if a call is that one.
 fn is_call(
-    call: &Call,
+    call: &PlannedCall,
     client: u32,
     object: &str,
     class: usize,
@@ -97,13 +97,13 @@ fn is_call(
 
 /// True if these steps are a call of an unknown class, a map without a node, a map of two, and a
 /// call with input.
-fn are_right(steps: &[Step]) -> bool {
+fn are_right(steps: &[PlannedStep]) -> bool {
     match steps {
         [
-            Step::Call(first),
-            Step::Map(3, none),
-            Step::Map(4, two),
-            Step::Call(last),
+            PlannedStep::Call(first),
+            PlannedStep::Map(3, none),
+            PlannedStep::Map(4, two),
+            PlannedStep::Call(last),
         ] => {
             is_call(first, 1, "a", 64, "lock", &[])
                 && first.word() == "other"

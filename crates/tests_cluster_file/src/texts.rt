@@ -1,7 +1,7 @@
 //! The printed lines.
 
 use cluster_file::{
-    Reading, Step, bad_line, push_asked, push_head, push_refused, push_replied, read_plan,
+    PlannedStep, Reading, bad_line, push_asked, push_head, push_refused, push_replied, read_plan,
     refused_line,
 };
 use std::process::Abort;
@@ -28,7 +28,7 @@ fn asked<R: Abort + AllocGlobal>(rt: &R, file: &str) -> String {
     let reading = read_plan(rt.alloc(), &["lock"], file).expect(rt, "memory");
     if let Reading::Plan(plan) = reading {
         for step in plan.steps() {
-            if let Step::Call(call) = step {
+            if let PlannedStep::Call(call) = step {
                 push_asked(rt.alloc(), &mut text, 64, call).expect(rt, "memory");
             }
         }

@@ -1,7 +1,7 @@
 //! Drawings of runs, by hand.
 
 use super::checks::see;
-use sim_trace::{Column, Message, Step, What, draw};
+use sim_trace::{Column, DrawnMessage, DrawnStep, What, draw};
 use std::alloc::Global;
 use std::process::Abort;
 
@@ -52,12 +52,16 @@ const MESSAGES: [(Column, Column, &str); 11] = [
 ];
 
 /// The messages of a table.
-fn messages<R: Abort>(rt: &R, alloc: Global, table: &[(Column, Column, &str)]) -> Vec<Message> {
+fn messages<R: Abort>(
+    rt: &R,
+    alloc: Global,
+    table: &[(Column, Column, &str)],
+) -> Vec<DrawnMessage> {
     let mut messages = Vec::new(alloc);
     for &(from, to, text) in table {
         let text = String::from_str(alloc, text).expect(rt, "memory");
         messages
-            .push(Message { from, to, text })
+            .push(DrawnMessage { from, to, text })
             .expect(rt, "memory");
     }
     messages
@@ -79,11 +83,13 @@ const STEPS: [(What, &str, usize); 11] = [
 ];
 
 /// The steps of a table.
-fn steps<R: Abort>(rt: &R, alloc: Global, table: &[(What, &str, usize)]) -> Vec<Step> {
+fn steps<R: Abort>(rt: &R, alloc: Global, table: &[(What, &str, usize)]) -> Vec<DrawnStep> {
     let mut steps = Vec::new(alloc);
     for &(what, text, sent) in table {
         let text = String::from_str(alloc, text).expect(rt, "memory");
-        steps.push(Step { what, text, sent }).expect(rt, "memory");
+        steps
+            .push(DrawnStep { what, text, sent })
+            .expect(rt, "memory");
     }
     steps
 }

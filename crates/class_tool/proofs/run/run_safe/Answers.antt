@@ -13,7 +13,7 @@ returns-in-None-clause-ok g c =
 pub returns-in-Some-clause-ok : goal.returns-in-Some-clause-ok
 returns-in-Some-clause-ok g c =
     let disk = g.F.Reads.disk c.args.files.now in
-    let reply = c.call_beside.ensures.ok in
+    let report = c.call_beside.ensures.ok in
     reported_beside disk c.args.asked.now c.args.class c.in_ok-input.input.items c.requires c.in_ok-input.ensures.ok
     c.in-Some.object c.call_beside.result (subst (λ (o : PlainObject). Begins disk c.args.asked.now o) c.in-Some.is c.in_ok-begun.ensures.ok)
-    (rw c.deref.ensures.value at reply)
+    (rw c.deref.ensures.value at report)

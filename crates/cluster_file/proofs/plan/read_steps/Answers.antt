@@ -1,6 +1,6 @@
 use Rattle.std.proofs.Common.{◌≡◌, ◌∙◌, ◌+◌, ℕ, List, Bor, map, arith, refl, sym, subst}
 use Rattle.cluster_file.specs.Plan.{clients_after}
-use Rattle.cluster_file.specs.declared.step.Step.{Step}
+use Rattle.cluster_file.specs.declared.planned_step.PlannedStep.{PlannedStep}
 use Rattle.cluster_file.proofs.Stepping.{Going, all_read, goes_on, starts, stops}
 use Rattle.cluster_file.proofs.plan.read_steps.Goals as goal
 
@@ -17,7 +17,7 @@ loop-line-preserved c =
     let names : List (List ℕ) = map (λ (n : Bor (List ℕ)). n.now) c.args.names.now in
     let at : ℕ = c.loop-line.line-index + 1 in
     let number : ℕ = c.loop-line.number + 1 in
-    let old : List Step = c.args.steps.now.items in
+    let old : List PlannedStep = c.args.steps.now.items in
     record {
       going = subst (λ n. Going names c.args.lines.now at n number old c.push.new.self.items) (sym c.clients_after-clients.ensures)
           (subst (λ l. Going names c.args.lines.now at (clients_after c.loop-line.clients c.in-Some.step) number old l) (sym c.in_ok-push.ensures.items)

@@ -9,7 +9,7 @@ use Rattle.pg_log.specs.declared.classes.Classes as class_names
 use Rattle.cluster_tool.specs.contracts.caller.Caller.TheInside as inside
 use Rattle.cluster_tool.proofs.crossing.caller_crosses.Goals as goal
 
--- part by part: the session, how its calls ended, and whether one of these ends was lost
+-- part by part: the session, the ends of its calls, and whether one of these ends was lost
 pub returns : goal.returns
 returns g c life =
     let N = param 0 g.row.N in

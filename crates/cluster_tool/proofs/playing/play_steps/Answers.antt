@@ -1,6 +1,6 @@
 use Rattle.std.proofs.Common.{arith, length, ◌<◌, subst, List}
 use Rattle.std.proofs.Math.Seq.{take-length}
-use Rattle.cluster_file.specs.declared.step.Step.{Step}
+use Rattle.cluster_file.specs.declared.planned_step.PlannedStep.{PlannedStep}
 use Rattle.cluster_tool.specs.Callers.{AllCalled}
 use Rattle.cluster_tool.proofs.Calling.{all_between}
 use Rattle.cluster_tool.proofs.Mapping.{all_made, made_call, made_map, refused_there}
@@ -38,7 +38,7 @@ loop-at-preserved g c =
 pub returns-clause-none : goal.returns-clause-none
 returns-clause-none g c =
     let steps = c.args.steps.now in
-    subst (λ (l : List Step). AllCalled g.N.Classes.classes l c.args.callers.now.items c.call_all-2.new.callers.items) (take-length steps)
+    subst (λ (l : List PlannedStep). AllCalled g.N.Classes.classes l c.args.callers.now.items c.call_all-2.new.callers.items) (take-length steps)
     (all_between g.N.Classes.classes steps c.loop-at.from (length steps) c.args.callers.now.items c.loop-at.callers.items c.call_all-2.new.callers.items
     (omega (arith, c.loop-at.invariant.within, c.loop-at.auto.at-end)) c.loop-at.invariant.called c.call_all-2.ensures)
 

@@ -1,5 +1,5 @@
 use Rattle.std.proofs.Common.{◌≡◌, Some, ap, subst, sym, ◌∙◌}
-use Rattle.cluster_file.specs.declared.config.Numbers.{Numbers}
+use Rattle.cluster_file.specs.declared.cluster_numbers.ClusterNumbers.{ClusterNumbers}
 use Rattle.osd.specs.declared.config.Config.{Config}
 use Rattle.cluster_tool.specs.Config.{config_of}
 use Rattle.cluster_tool.specs.Played.{IsMapRefused, Plays}
@@ -18,7 +18,7 @@ pub returns-in-Ok-MapRefused : goal.returns-in-Ok-MapRefused
 returns-in-Ok-MapRefused g c =
     let plan = c.args.plan.now in
     let made : config_of c.numbers.result ≡ Some c.in-Some.config = sym c.config_of.ensures ∙ c.in-Some.is in
-    let asked : config_of plan.numbers ≡ Some c.in-Some.config = subst (λ (n : Numbers). config_of n ≡ Some c.in-Some.config) c.numbers.ensures made in
+    let asked : config_of plan.numbers ≡ Some c.in-Some.config = subst (λ (n : ClusterNumbers). config_of n ≡ Some c.in-Some.config) c.numbers.ensures made in
     let same : c.in-Ok.parts.config ≡ c.in-Some.config = c.in-Ok.ensures in
     let is : config_of plan.numbers ≡ Some c.in-Ok.parts.config = asked ∙ ap (λ (x : Config). Some x) (sym same) in
     let played : Plays c.args.table c.in-Ok.parts.config plan.steps c.in-Ok-MapRefused.field-0 = c.in-Ok-MapRefused.ensures in

@@ -2,7 +2,7 @@ use Rattle.std.proofs.Common.{◌≡◌, ◌≤◌, ◌+◌, count_by, drop, map
 use Rattle.radoscls_program.specs.Inputs.{is_input}
 use Rattle.radoscls_program.proofs.inputs.inputs_among.Given as goal
 
--- those so far and those that are left are all
+-- the inputs so far, and then those that are left, are all
 abbrev pub invariant-loop-name : goal.invariant-loop-name
 invariant-loop-name l =
     let text : Bor (List ℕ) → List ℕ = λ n. n.now in

@@ -2,7 +2,7 @@ use Rattle.std.proofs.Common.{◌≡◌, ◌++◌, drop, map, Bor, List, ℕ}
 use Rattle.radoscls_program.specs.Tenants.{image_in}
 use Rattle.radoscls_program.proofs.inputs.push_images.Given as goal
 
--- those so far and those that are left are all
+-- the files so far, and then those that are left, are all
 abbrev pub invariant-loop-text : goal.invariant-loop-text
 invariant-loop-text l =
     let text : Bor (List ℕ) → List ℕ = λ t. t.now in

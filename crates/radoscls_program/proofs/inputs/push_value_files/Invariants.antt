@@ -3,7 +3,7 @@ use Rattle.std.specs.List.{flat_map}
 use Rattle.radoscls_program.specs.Inputs.{value_file}
 use Rattle.radoscls_program.proofs.inputs.push_value_files.Given as goal
 
--- those so far and those that are left are all
+-- the files so far, and then those that are left, are all
 abbrev pub invariant-loop-value : goal.invariant-loop-value
 invariant-loop-value l =
     let text : Bor (List ℕ) → List ℕ = λ t. t.now in

@@ -3,7 +3,7 @@ use Rattle.sim.specs.Drawing.{noted_as}
 use Rattle.sim.proofs.Noting.{Coursing}
 use Rattle.sim.proofs.drawing.take_lines.Given as goal
 
--- the number of a line is that of the lines done; the steps so far, and the course from here
+-- the number of a line is the count of the lines so far; their steps, and the course from here
 abbrev pub invariant-loop-line : goal.invariant-loop-line
 invariant-loop-line g l =
     let text : Bor (List ℕ) → List ℕ = λ t. t.now in

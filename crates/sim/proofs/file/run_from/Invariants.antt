@@ -2,7 +2,7 @@ use Rattle.std.proofs.Common.{◌≡◌, take, map, Bor, List, ℕ}
 use Rattle.sim.proofs.Reaching.{Going}
 use Rattle.sim.proofs.file.run_from.Given as goal
 
--- the lines above were done, and what they come to was printed
+-- the lines above were done, and their text was printed
 abbrev pub invariant-loop-line : goal.invariant-loop-line
 invariant-loop-line g l =
     let text : Bor (List ℕ) → List ℕ = λ t. t.now in

@@ -5,7 +5,8 @@ use Rattle.sim.proofs.note.again_after.Given as goal
 use denote.Shadow.{shadow}
 use denote.Text.{Utf8}
 
--- the numbers so far and what is left; what stands before the next is text
+-- the text so far, and then that of the numbers left, is the whole; the part before the next is
+-- text
 abbrev pub invariant-loop-number : goal.invariant-loop-number
 invariant-loop-number l = record {
   going : string_bytes l.text ++ again_after l.before (drop l.number-index l.numbers) ≡ again_after (codes ": ") l.numbers;

@@ -2,7 +2,7 @@ use Rattle.std.proofs.Common.{◌≡◌, ◌≤◌, ◌++◌, string_bytes, drop
 use Rattle.sim_trace.specs.Drawing.{rows}
 use Rattle.sim_trace.proofs.drawing.push_steps.Given as goal
 
--- the text so far and that of what is left is the whole
+-- the text so far, and then the text of what is left, is the whole text
 abbrev pub invariant-loop-step : goal.invariant-loop-step
 invariant-loop-step l = record {
   within : l.first ≤ length l.messages;

@@ -1,4 +1,4 @@
-ghost use Rattle.std.specs.Prelude.{◌≡◌, string_bytes};
+ghost use Rattle.std.specs.Prelude.{◌≡◌};
 
 use object_store::ObjectName;
 use pg_log::ClientId;
@@ -7,16 +7,16 @@ use std::marker::Model;
 /// A call as a file plans it: its client, object, class, method and input. It keeps the class's
 /// word too: a class that isn't loaded has nothing else.
 #[derive(Drop)]
-pub struct Call {
-    client: ClientId,
-    object: ObjectName,
-    class: usize,
-    word: String,
-    method: String,
-    input: Vec<u8>,
+pub struct PlannedCall {
+    pub(crate) client: ClientId,
+    pub(crate) object: ObjectName,
+    pub(crate) class: usize,
+    pub(crate) word: String,
+    pub(crate) method: String,
+    pub(crate) input: Vec<u8>,
 }
 
-impl Model for Call {
+impl Model for PlannedCall {
     ghost use Rattle.std.specs.Prelude.{string_bytes};
     ghost use Rattle.cluster_file.specs.Planned.{PlannedCall};
 
@@ -25,27 +25,7 @@ impl Model for Call {
     ghost view = { λ c. record { client = c.client; object = c.object; class = c.class; word = string_bytes c.word; method = string_bytes c.method; input = c.input.items } };
 }
 
-impl Call {
-    pub(crate) fn new(
-        client: ClientId,
-        object: ObjectName,
-        class: usize,
-        word: String,
-        method: String,
-        input: Vec<u8>,
-    ) -> Call
-        ensures { result ≡ record { client = client; object = object; class = class; word = string_bytes word; method = string_bytes method; input = input.items } }
-    {
-        Call {
-            client,
-            object,
-            class,
-            word,
-            method,
-            input,
-        }
-    }
-
+impl PlannedCall {
     /// Its client, 1 to 64.
     pub fn client(&self) -> ClientId
         ensures { result ≡ self.now.client }

@@ -7,7 +7,7 @@ use file_words::number_in;
 /// The numbers of a file's first line, whether or not a cluster may have them. A number above 2^64
 /// - 1 counts as that.
 #[derive(Clone, Copy, Drop)]
-pub struct Numbers {
+pub struct ClusterNumbers {
     pub nodes: u64,
     pub replicas: u64,
     pub groups: u64,
@@ -37,7 +37,7 @@ fn field_in<'a, 'b>(key: &str, words: &'b [&'a str]) -> Option<(u64, &'b [&'a st
 }
 
 /// The numbers, if no word is left.
-fn ended(numbers: Numbers, words: &[&str]) -> Option<Numbers>
+fn ended(numbers: ClusterNumbers, words: &[&str]) -> Option<ClusterNumbers>
     ensures { result ≡ ended numbers (map (λ w. w.now) words.now) }
 {
     match words {
@@ -47,13 +47,13 @@ fn ended(numbers: Numbers, words: &[&str]) -> Option<Numbers>
 }
 
 /// The last three keys' numbers, and nothing after them.
-fn last_in(nodes: u64, replicas: u64, groups: u64, words: &[&str]) -> Option<Numbers>
+fn last_in(nodes: u64, replicas: u64, groups: u64, words: &[&str]) -> Option<ClusterNumbers>
     ensures { result ≡ last_in nodes replicas groups (map (λ w. w.now) words.now) }
 {
     let (shards, words) = field_in("shards", words)?;
     let (workers, words) = field_in("workers", words)?;
     let (tries, words) = field_in("tries", words)?;
-    let numbers = Numbers {
+    let numbers = ClusterNumbers {
         nodes,
         replicas,
         groups,
@@ -65,7 +65,7 @@ fn last_in(nodes: u64, replicas: u64, groups: u64, words: &[&str]) -> Option<Num
 }
 
 /// All keys' numbers.
-fn numbers_in_line(words: &[&str]) -> Option<Numbers>
+fn numbers_in_line(words: &[&str]) -> Option<ClusterNumbers>
     ensures { result ≡ numbers_in_line (map (λ w. w.now) words.now) }
 {
     let (nodes, words) = field_in("nodes", words)?;
@@ -75,7 +75,7 @@ fn numbers_in_line(words: &[&str]) -> Option<Numbers>
 }
 
 /// The numbers in the words of the first line, if it is well-formed.
-pub(crate) fn first_line(words: &[&str]) -> Option<Numbers>
+pub(crate) fn first_line(words: &[&str]) -> Option<ClusterNumbers>
     ensures { result ≡ first_line (map (λ w. w.now) words.now) }
 {
     match words {

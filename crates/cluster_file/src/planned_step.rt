@@ -1,7 +1,7 @@
 ghost use Rattle.std.specs.Prelude.{◌≡◌, IfOk, map};
 ghost use Rattle.cluster_file.specs.Plan.{call_in, call_of, client_in, clients_after, step_in, step_of};
 
-use crate::call::Call;
+use crate::planned_call::PlannedCall;
 use file_words::{Nodes, bytes_in, class_of, id_in, nodes_in, object_in, words};
 use pg_log::ClientId;
 use std::alloc::{AllocError, Global};
@@ -11,9 +11,9 @@ pub(crate) const CLIENT_LIMIT: u32 = 64;
 
 /// The step of a line after the first.
 #[derive(Drop)]
-pub enum Step {
+pub enum PlannedStep {
     /// A client makes a call.
-    Call(Call),
+    Call(PlannedCall),
     /// A map is made of these up nodes, once all calls above have ended. The line's number, from 1,
     /// comes first, for the text of a refusal.
     Map(usize, Nodes),
@@ -38,7 +38,7 @@ fn call_of(
     names: &[&str],
     client: ClientId,
     args: &[&str],
-) -> Result<Option<Call>, AllocError>
+) -> Result<Option<PlannedCall>, AllocError>
     ensures { IfOk result (λ c. c ≡ call_of (map (λ n. n.now) names.now) client (map (λ w. w.now) args.now)) }
 {
     match args {
@@ -49,11 +49,14 @@ fn call_of(
             let Some(input) = bytes_in(alloc, *input)? else {
                 return Ok(None);
             };
-            let word = String::from_str(alloc, *class)?;
-            let method = String::from_str(alloc, *method)?;
-            let class = class_of(names, *class);
-            let input = input.into_items();
-            Ok(Some(Call::new(client, object, class, word, method, input)))
+            Ok(Some(PlannedCall {
+                client,
+                object,
+                class: class_of(names, *class),
+                word: String::from_str(alloc, *class)?,
+                method: String::from_str(alloc, *method)?,
+                input: input.into_items(),
+            }))
         }
         _ => Ok(None),
     }
@@ -65,7 +68,7 @@ fn call_in(
     names: &[&str],
     clients: u32,
     args: &[&str],
-) -> Result<Option<Call>, AllocError>
+) -> Result<Option<PlannedCall>, AllocError>
     ensures { IfOk result (λ c. c ≡ call_in (map (λ n. n.now) names.now) clients (map (λ w. w.now) args.now)) }
 {
     match args {
@@ -84,20 +87,20 @@ fn step_in(
     number: usize,
     clients: u32,
     words: &[&str],
-) -> Result<Option<Step>, AllocError>
+) -> Result<Option<PlannedStep>, AllocError>
     ensures { IfOk result (λ s. s ≡ step_in (map (λ n. n.now) names.now) number clients (map (λ w. w.now) words.now)) }
 {
     match words {
         [word, args @ ..] => {
             if *word == "client" {
                 return match call_in(alloc, names, clients, args)? {
-                    Some(call) => Ok(Some(Step::Call(call))),
+                    Some(call) => Ok(Some(PlannedStep::Call(call))),
                     None => Ok(None),
                 };
             }
             if *word == "map" {
                 return match nodes_in(alloc, args)? {
-                    Some(nodes) => Ok(Some(Step::Map(number, nodes))),
+                    Some(nodes) => Ok(Some(PlannedStep::Map(number, nodes))),
                     None => Ok(None),
                 };
             }
@@ -114,21 +117,21 @@ pub(crate) fn read_step(
     number: usize,
     clients: u32,
     line: &str,
-) -> Result<Option<Step>, AllocError>
+) -> Result<Option<PlannedStep>, AllocError>
     ensures { IfOk result (λ s. s ≡ step_of (map (λ n. n.now) names.now) number clients line.now) }
 {
     let words = words(alloc, line)?;
     step_in(alloc, names, number, clients, &words)
 }
 
-impl Step {
+impl PlannedStep {
     /// The number of clients named up to and including this step, if `clients` were named before.
     pub(crate) fn clients_after(&self, clients: u32) -> u32
         ensures { result ≡ clients_after clients self.now }
     {
         match self {
-            Step::Call(call) => clients.max(call.client().get()),
-            Step::Map(_, _) => clients,
+            PlannedStep::Call(call) => clients.max(call.client().get()),
+            PlannedStep::Map(_, _) => clients,
         }
     }
 }

@@ -1,36 +1,36 @@
 ghost use Rattle.std.specs.Prelude.{Some};
 ghost use Rattle.std.specs.Fmt.{DisplaysOnOk};
 ghost use Rattle.std.specs.List.{flat_map};
-ghost use Rattle.class_tool.specs.Answer.{method_line};
+ghost use Rattle.class_tool.specs.ActionResult.{method_line};
 
-use crate::reply::Reply;
+use crate::run_report::RunReport;
 use std::fmt;
 use verifier::{VerifiedClass, VerifiedMethod};
 
-/// An answer. It prints as its lines; there are none if an image was written.
+/// The result of an action. It prints as its lines; there are none if an image was written.
 #[derive(Drop)]
-pub enum Answer {
+pub enum ActionResult {
     /// The class is safe.
     Accepted(VerifiedClass),
     /// The method ran.
-    Ran(Reply),
+    Ran(RunReport),
     /// The image of the text or of the raw code was written.
     Assembled,
     /// The class has that text.
     Disassembled(String),
 }
 
-impl fmt::Display for Answer {
-    ghost use Rattle.class_tool.specs.Answer.{answer_text};
+impl fmt::Display for ActionResult {
+    ghost use Rattle.class_tool.specs.ActionResult.{result_text};
 
-    ghost output = { λ answer. Some (answer_text answer) };
+    ghost output = { λ r. Some (result_text r) };
 
     fn fmt<W: fmt::Write>(&self, f: &mut fmt::Formatter<W>) -> fmt::Result {
         match self {
-            Answer::Accepted(class) => write_methods(class, f),
-            Answer::Ran(reply) => reply.fmt(f),
-            Answer::Assembled => Ok(()),
-            Answer::Disassembled(text) => f.write_str(text),
+            ActionResult::Accepted(class) => write_methods(class, f),
+            ActionResult::Ran(report) => report.fmt(f),
+            ActionResult::Assembled => Ok(()),
+            ActionResult::Disassembled(text) => f.write_str(text),
         }
     }
 }

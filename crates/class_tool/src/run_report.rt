@@ -1,7 +1,7 @@
 ghost use Rattle.std.specs.Prelude.{◌≡◌, IfOk, Some, option_map, string_bytes};
 ghost use Rattle.std.specs.Option.{option_copied};
 ghost use Rattle.std.specs.Fmt.{DisplaysOnOk};
-ghost use Rattle.class_tool.specs.Reply.{IsReplyOf, holdings_of, object_line};
+ghost use Rattle.class_tool.specs.RunReport.{IsReportOf, holdings_of, object_line};
 ghost use Rattle.class_tool.specs.Shown.{or_dash};
 
 use crate::log::Logged;
@@ -13,7 +13,7 @@ use std::fmt;
 
 /// The end of a call of a method. It prints as four lines, and those that show the object.
 #[derive(Drop)]
-pub struct Reply {
+pub struct RunReport {
     /// The code that was answered.
     pub code: i64,
     /// The output that was answered in hexadecimal, two lower case digits a byte.
@@ -68,18 +68,18 @@ fn copy_of(object: Option<&Object>) -> Result<Option<Object>, AllocError>
     }
 }
 
-impl Reply {
-    /// The reply of that answer and that outcome, with what the object holds or without. It fails
+impl RunReport {
+    /// The report of that answer and that outcome, with what the object holds or without. It fails
     /// only for want of memory.
     pub(crate) fn new(
         alloc: Global,
         logged: &Logged,
         outcome: &Outcome,
         is_shown: bool,
-    ) -> Result<Reply, AllocError>
-        ensures { IfOk result (IsReplyOf is_shown logged.now outcome.now) }
+    ) -> Result<RunReport, AllocError>
+        ensures { IfOk result (IsReportOf is_shown logged.now outcome.now) }
     {
-        Ok(Reply {
+        Ok(RunReport {
             code: logged.code,
             output: hex::encode(alloc, &logged.output)?,
             steps: outcome.steps,
@@ -101,10 +101,10 @@ impl Reply {
     }
 }
 
-impl fmt::Display for Reply {
-    ghost use Rattle.class_tool.specs.Reply.{reply_text};
+impl fmt::Display for RunReport {
+    ghost use Rattle.class_tool.specs.RunReport.{report_text};
 
-    ghost output = { λ reply. Some (reply_text reply) };
+    ghost output = { λ report. Some (report_text report) };
 
     fn fmt<W: fmt::Write>(&self, f: &mut fmt::Formatter<W>) -> fmt::Result {
         let (code, output, steps) = (self.code, self.shown_output(), self.steps);

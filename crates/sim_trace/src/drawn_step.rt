@@ -19,7 +19,7 @@ pub enum What {
 
 /// A step of a run.
 #[derive(Drop)]
-pub struct Step {
+pub struct DrawnStep {
     /// The event.
     pub what: What,
     /// Its text; for a message that arrives, the text follows the message's own.

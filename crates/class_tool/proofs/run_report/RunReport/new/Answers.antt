@@ -1,5 +1,5 @@
 use Rattle.std.proofs.Common.{rules}
-use Rattle.class_tool.proofs.reply.Reply.new.Goals as goal
+use Rattle.class_tool.proofs.run_report.RunReport.new.Goals as goal
 
 -- turned by object_before_is_shown
 pub returns : goal.returns

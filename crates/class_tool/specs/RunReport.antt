@@ -1,4 +1,4 @@
--- The text of a call's reply.
+-- The text of a call's report.
 use Rattle.std.specs.Prelude.{◌≡◌, ⊤, ℕ, Bool, List, ◌++◌, Option, Some, None, Ok, option_map, length, codes, string_bytes}
 use Rattle.std.specs.FinMap as fin
 use Rattle.std.specs.Fmt.{decimal, signed_decimal}
@@ -13,49 +13,50 @@ use Rattle.class_tool.specs.Begun.{Begins}
 use Rattle.class_tool.specs.Image.{IsSafeIn}
 use Rattle.class_tool.specs.Log.{IsLogged, first_request}
 use Rattle.class_tool.specs.Shown.{or_dash, shown_text}
-use Rattle.class_tool.specs.declared.action.Call.{Call}
+use Rattle.class_tool.specs.declared.action.MethodCall.{MethodCall}
 use Rattle.class_tool.specs.declared.log.Logged.{Logged}
-use Rattle.class_tool.specs.declared.reply.Holdings.{Holdings}
-use Rattle.class_tool.specs.declared.reply.Reply.{Reply}
+use Rattle.class_tool.specs.declared.run_report.Holdings.{Holdings}
+use Rattle.class_tool.specs.declared.run_report.RunReport.{RunReport}
 
--- how much an object holds
+-- the sizes of what an object holds
 abbrev pub holdings_of : Content → Holdings
 holdings_of object = record { bytes = length object.bytes; xattrs = fin.len object.xattrs; keys = fin.len object.omap }
 
--- its bytes of data, its xattrs and the keys of its omap
+-- the line that prints its bytes of data, its xattrs and the keys of its omap
 abbrev pub object_line : Option Holdings → List ℕ
 object_line None = codes "object absent\n"
 object_line (Some h) = codes "object " ++ decimal h.bytes ++ codes " " ++ decimal h.xattrs ++ codes " " ++ decimal h.keys ++ codes "\n"
 
--- the four lines, and what is shown
-abbrev pub reply_text : Reply → List ℕ
-reply_text reply =
-    codes "code " ++ signed_decimal reply.code ++ codes "\noutput " ++ or_dash (string_bytes reply.output) ++ codes "\nsteps " ++ decimal reply.steps ++ codes "\n"
-    ++ object_line reply.object ++ string_bytes reply.shown
+-- the four lines, and then the lines that show the object
+abbrev pub report_text : RunReport → List ℕ
+report_text report =
+    codes "code " ++ signed_decimal report.code ++ codes "\noutput " ++ or_dash (string_bytes report.output) ++ codes "\nsteps " ++ decimal report.steps ++ codes "\n"
+    ++ object_line report.object ++ string_bytes report.shown
 
--- Code and output are what was answered, steps and object the call's.
-pub record IsReplyOf (is_shown : Bool) (logged : Logged) (outcome : Outcome) (reply : Reply) : Type 0 where
-  pub code : reply.code ≡ logged.code
-  pub output : string_bytes reply.output ≡ encode_lower logged.output.items
-  pub steps : reply.steps ≡ outcome.steps
-  pub object : reply.object ≡ option_map holdings_of outcome.change.after
-  pub shown : string_bytes reply.shown ≡ shown_text is_shown outcome.change.after
-  pub after : reply.after ≡ outcome.change.after
+-- Code and output are those of the answer; steps and object are those of the call.
+pub record IsReportOf (is_shown : Bool) (logged : Logged) (outcome : Outcome) (report : RunReport) : Type 0 where
+  pub code : report.code ≡ logged.code
+  pub output : string_bytes report.output ≡ encode_lower logged.output.items
+  pub steps : report.steps ≡ outcome.steps
+  pub object : report.object ≡ option_map holdings_of outcome.change.after
+  pub shown : string_bytes report.shown ≡ shown_text is_shown outcome.change.after
+  pub after : report.after ≡ outcome.change.after
 
--- what was answered has the code and the output of a call's outcome
+-- the answer has the code and the output of the call's outcome
 abbrev pub IsOneOutcome : Outcome → Logged → Type 0
 IsOneOutcome outcome logged = (logged.code ≡ outcome.code) × (logged.output.items ≡ outcome.output.items)
 
--- On no object it is what a group whose one request is this call replies. A group can't be given an
--- object.
+-- On no object, the answer is the reply of a group that has this call as its only request. A group
+-- can't be given an object.
 abbrev pub IsReplied : PlainObject → List ClassMethod → ClientRequest → Logged → Type 0
 IsReplied None class r logged = IsLogged class r logged
 IsReplied (Some object) class r logged = ⊤
 
--- A reply tells what the method's bytes do on the flat machine, in every layout, on the object that
--- words or a file spell; and where there is none, what a group whose one request is this call replies, which
--- is the same outcome. The class is safe, and is the one whose image the file holds.
-pub record Reports (disk : Option Disk) (call : Call) (reply : Reply) : Type 0 where
+-- A report tells what the method's bytes do on the flat machine, in every layout, on the object
+-- that words or a file spell. If there is no object, it also tells what a group replies that has
+-- this call as its only request, which is the same outcome. The class is safe, and the file holds
+-- its image.
+pub record Reports (disk : Option Disk) (call : MethodCall) (report : RunReport) : Type 0 where
   pub class : List ClassMethod
   pub input : List ℕ
   pub object : PlainObject
@@ -67,4 +68,4 @@ pub record Reports (disk : Option Disk) (call : Call) (reply : Reply) : Type 0 w
   pub ran : Answers class call.method.now object call.caller input outcome
   pub replied : IsReplied object class (first_request call.caller call.method.now input) logged
   pub one : IsOneOutcome outcome logged
-  pub said : IsReplyOf call.is_shown logged outcome reply
+  pub said : IsReportOf call.is_shown logged outcome report

@@ -1,8 +1,8 @@
 use Rattle.std.proofs.Common.{take}
 use Rattle.std.specs.Fmt.{HasWritten, IsPlainFormatter}
 use Rattle.std.specs.List.{flat_map}
-use Rattle.class_tool.specs.Answer.{method_line}
-use Rattle.class_tool.proofs.answer.write_methods.Given as goal
+use Rattle.class_tool.specs.ActionResult.{method_line}
+use Rattle.class_tool.proofs.action_result.write_methods.Given as goal
 
 abbrev pub invariant-loop-method : goal.invariant-loop-method
 invariant-loop-method g l =

@@ -2,7 +2,7 @@ use crate::column::Column;
 
 /// A message that was sent. Messages are numbered from 1, in the order of sending.
 #[derive(Drop)]
-pub struct Message {
+pub struct DrawnMessage {
     /// The sender.
     pub from: Column,
     /// The receiver.
