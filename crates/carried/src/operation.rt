@@ -13,11 +13,11 @@ pub struct Operation {
     pub group: usize,
     /// The node that it is for.
     pub node: NodeId,
-    /// What it brings to the group there.
+    /// The request, map or message for the group there.
     pub carried: Carried,
 }
 
-/// What an operation brings to a group at a node.
+/// A request, a map or a message for a group at a node.
 #[derive(Drop)]
 pub enum Carried {
     /// A client's request.

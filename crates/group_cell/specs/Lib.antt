@@ -1,4 +1,5 @@
--- A reader of the contracts must believe both: what is under a lock, and what goes out to a client.
+-- A reader must believe all four: Cell (what is under a lock), Turns (what goes out by one
+-- operation), Posts and Answering (what goes out to a client).
 pub mod Cell
 pub mod Posts
 pub mod Answering

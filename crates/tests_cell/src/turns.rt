@@ -47,7 +47,7 @@ fn are<N: BoardName>(items: &[Option<Outgoing<N>>], wanted: &[Out]) -> bool {
             .all(|(item, out)| out_of(item) == *out)
 }
 
-/// What a turn is about, and the items that it should send.
+/// The event of a turn, and the items that it should send.
 #[derive(Drop)]
 struct Turn<'a> {
     carried: Carried,

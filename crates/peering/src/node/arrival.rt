@@ -1,4 +1,4 @@
-//! What is decided at a map before a node moves.
+//! The decision at a map before a node moves.
 ghost use Rattle.std.specs.Prelude.{◌≡◌, ◌≤◌, [], length};
 ghost use Rattle.peering.specs.inner.Arriving.{after_move, log_after};
 
