@@ -412,7 +412,7 @@ know_forms() {
     while IFS= read -r form; do
         case $form in
             'radoscls sim '* | 'radoscls cluster '*) by tests_play "$form" ;;
-            *) by tests_program "$form" ;;
+            *) by 'tests_program and tests_images' "$form" ;;
         esac
     done < <(sed -n '/^```/,/^```/p' "$work/$page" | grep '^radoscls')
     on docs/CLUSTER.md "$work"

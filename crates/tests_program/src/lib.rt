@@ -1,6 +1,6 @@
-//! Tests alone, of the program on words, files and writers: what it prints of images and texts of
-//! classes, and of words that ask for nothing; and how it ends where standard output fails. And of
-//! what is measured, and printed of it.
+//! Tests alone, of the program on words, files and writers: the pages' examples, objects of words
+//! and of files, words that ask for nothing, and its end if standard output fails. And of `bench`'s
+//! tables.
 #![tactic(auto)]
 
 #[cfg(test)]
@@ -16,22 +16,10 @@ mod explained;
 #[cfg(test)]
 mod full_object;
 #[cfg(test)]
-mod images;
-#[cfg(test)]
-mod largest;
-#[cfg(test)]
 mod objects;
 #[cfg(test)]
-mod packs;
-#[cfg(test)]
 mod pages;
-#[cfg(test)]
-mod ranges;
-#[cfg(test)]
-mod refusals;
 #[cfg(test)]
 mod saved;
 #[cfg(test)]
 mod streams;
-#[cfg(test)]
-mod texts;
