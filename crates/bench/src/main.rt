@@ -11,40 +11,49 @@ mod log;
 mod memory;
 mod objects;
 mod reads;
+mod requests;
+mod table;
 mod texts;
 mod timing;
 
 use anyhow::{Context, Result};
-use bench_table::{Mode, RUNS, WORKLOADS, report};
 use std::alloc::Global;
 use std::time::Clock;
 use std::{env, io};
 
+/// What a command line asks for: all tables, with times or without, or the memory of entries alone.
+#[derive(Clone, Copy)]
+enum Asked {
+    Tables { is_timed: bool },
+    Memory,
+}
+
+/// What these words ask for, if it is one of those.
+fn asked_by(words: &[String]) -> Option<Asked> {
+    match words {
+        [_] => Some(Asked::Tables { is_timed: true }),
+        [_, word] if word.as_str() == "--dry" => Some(Asked::Tables { is_timed: false }),
+        [_, word] if word.as_str() == "memory" => Some(Asked::Memory),
+        _ => None,
+    }
+}
+
 fn main(rt: HostRuntime) -> Result<()> {
     let words: Vec<String> = env::args(&rt)?.collect(rt.alloc())?;
+    let wanted = asked_by(&words).context("usage: bench [--dry | memory]")?;
     let mut out = rt.stdout();
-    if asks_for_memory(&words) {
-        return memory::report(&rt, &mut out);
-    }
-    let mode = Mode::of(&words).context("usage: bench [--dry | memory]")?;
-    report(rt.alloc(), &rt, mode, RUNS, &WORKLOADS, &mut out)?;
-    parts(rt.alloc(), &rt, mode, &mut out)
-}
-
-/// True if a command line asks for memory alone.
-fn asks_for_memory(words: &[String]) -> bool {
-    match words {
-        [_, word] => word.as_str() == "memory",
-        _ => false,
+    match wanted {
+        Asked::Tables { is_timed } => {
+            let clock = if is_timed { Some(&rt) } else { None };
+            tables(rt.alloc(), clock, &mut out)
+        }
+        Asked::Memory => memory::report(&rt, &mut out),
     }
 }
 
-/// Prints the tables of parts, an empty line before each, with times if they are taken.
-fn parts<C: Clock, O: io::Write>(alloc: Global, clock: &C, mode: Mode, out: &mut O) -> Result<()> {
-    let clock = match mode {
-        Mode::Dry => None,
-        Mode::Timed => Some(clock),
-    };
+/// Prints all tables, an empty line between two, with times if there is a clock.
+fn tables<C: Clock, O: io::Write>(alloc: Global, clock: Option<&C>, out: &mut O) -> Result<()> {
+    table::report(alloc, clock, out)?;
     texts::report(alloc, clock, out)?;
     objects::report(alloc, clock, out)?;
     reads::report(alloc, clock, out)?;

@@ -1,7 +1,7 @@
 //! The memory of a log's entries, with the objects that they make: the most that is resident, less
 //! that of an empty program, as the system tells it of this process.
+use crate::requests::lock_request;
 use anyhow::{Context, Error, Result};
-use bench_table::lock_request;
 use builtin_classes::load_lock;
 use pg_log::{ClassTable, Classes, Group, GroupWork, Request, with_group};
 use std::alloc::Global;

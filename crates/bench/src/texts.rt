@@ -1,8 +1,7 @@
 //! The cost of a text of many labels, which is assembled.
 
-use crate::timing::{Time, least_of};
+use crate::timing::{Time, Work, least_of};
 use anyhow::{Error, Result};
-use bench_table::Work;
 use bpf_asm::assemble;
 use std::alloc::{AllocError, Global};
 use std::io;

@@ -1,10 +1,23 @@
 ghost use Rattle.std.specs.Prelude.{◌≤◌};
 
 use anyhow::Result;
-use bench_table::{Nanos, Work, least_picos};
 use std::alloc::Global;
 use std::fmt;
 use std::time::{Clock, Instant};
+
+/// A time of that many picoseconds, which prints as nanoseconds with two digits.
+#[derive(Clone, Copy)]
+pub struct Nanos {
+    pub picos: u64,
+}
+
+impl fmt::Display for Nanos {
+    fn fmt<W: fmt::Write>(&self, f: &mut fmt::Formatter<W>) -> fmt::Result {
+        let whole = self.picos / 1000;
+        let rest = self.picos % 1000 / 10;
+        write!(f, "{whole:>8}.{rest:02}")
+    }
+}
 
 /// The end of a line: a time of that many picoseconds, if one was taken.
 #[derive(Clone, Copy)]
@@ -37,6 +50,33 @@ impl fmt::Display for Time {
     }
 }
 
+/// A thing that is timed.
+pub trait Work {
+    /// Does it that many times.
+    fn run(&self, alloc: Global, count: usize) -> Result<()>;
+}
+
+/// The least time of some measurements, in picoseconds.
+#[derive(Clone, Copy)]
+pub struct Least {
+    pub picos: u64,
+}
+
+impl Least {
+    /// Of no measurement: 2^64 - 1.
+    pub fn new() -> Least {
+        Least { picos: u64::MAX }
+    }
+
+    /// Notes a measurement, in which that many took that many nanoseconds.
+    pub fn note(&mut self, nanos: u128, count: usize)
+        requires { 1 ≤ count }
+    {
+        let picos = nanos.saturating_mul(1000) / count as u128;
+        self.picos = self.picos.min(picos.min(u128::from(u64::MAX)) as u64);
+    }
+}
+
 /// The least picoseconds that each of `count` took, of that many runs, if there is a clock.
 pub fn least_of<C: Clock, W: Work>(
     alloc: Global,
@@ -47,10 +87,16 @@ pub fn least_of<C: Clock, W: Work>(
 ) -> Result<Option<u64>>
     requires { 1 ≤ count }
 {
-    match clock {
-        None => Ok(None),
-        Some(clock) => Ok(Some(least_picos(alloc, clock, work, count, runs)?)),
+    let Some(clock) = clock else {
+        return Ok(None);
+    };
+    let mut least = Least::new();
+    for _ in 0..runs {
+        let start = Instant::now(clock)?;
+        work.run(alloc, count)?;
+        least.note(start.elapsed(clock)?.as_nanos(), count);
     }
+    Ok(Some(least.picos))
 }
 
 /// The time that the clock shows, if there is one.
@@ -66,5 +112,27 @@ pub fn nanos_since<C: Clock>(clock: Option<&C>, start: Option<Instant>) -> Resul
     match (clock, start) {
         (Some(clock), Some(start)) => Ok(start.elapsed(clock)?.as_nanos()),
         _ => Ok(0),
+    }
+}
+
+#[cfg(test)]
+mod tests {
+    use super::Least;
+
+    /// Nanoseconds, how many took them, and the least picoseconds of one so far.
+    const NOTES: [(u128, usize, u64); 4] = [
+        (u128::MAX, 1, u64::MAX),
+        (3_000_000, 1_000, 3_000_000),
+        (7, 2, 3_500),
+        (1_000_000, 1_000, 3_500),
+    ];
+
+    #[test]
+    fn the_least_time_is_kept(rt: HostRuntime) {
+        let mut least = Least::new();
+        for (nanos, count, picos) in NOTES {
+            least.note(nanos, count);
+            assert_eq!(rt; least.picos, picos);
+        }
     }
 }

@@ -8,6 +8,7 @@ use Rattle.asm_lines.specs.Statements.{lines_of, statements_of}
 use Rattle.asm_lines.specs.declared.statement.Statement.{Statement}
 use Rattle.bpf_asm.specs.Bodies.{is_instruction, line_slots}
 use Rattle.bpf_asm.specs.Classes.{is_directive}
+use Rattle.escaped_text.specs.Escaped.{escaped}
 
 -- the line of a slot, among a method's lines, whose first has the number `line`
 abbrev pub line_within : List Statement → ℕ → ℕ → ℕ
@@ -30,9 +31,9 @@ abbrev pub nth_line : List (List ℕ) → ℕ → List ℕ
 nth_line [] n = []
 nth_line (l ∷ ls) n = if nat_le n 1 then l else nth_line ls (n - 1)
 
--- a line of the text unchanged, with its number
+-- a line of the text with its number; its bytes other than printable ASCII are escaped
 abbrev pub line_text : List ℕ → ℕ → List ℕ
-line_text text n = codes "  line " ++ decimal n ++ codes ": " ++ nth_line (lines_of text) n ++ codes "\n"
+line_text text n = codes "  line " ++ decimal n ++ codes ": " ++ escaped (nth_line (lines_of text) n) ++ codes "\n"
 
 -- the line of a slot
 abbrev pub source_text : List ℕ → ℕ → ℕ → List ℕ

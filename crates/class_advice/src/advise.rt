@@ -55,21 +55,15 @@ fn changed(before: Last, insn: &Insn, register: usize) -> Last
 fn last_of(insns: &[Insn], left: usize, register: usize, before: Last) -> Last
     ensures { result ≡ last_of insns.now left register before }
 {
-    match insns {
-        [] => before,
-        [first, ..] => {
-            if left == 0 {
-                return before;
-            }
-            let rest = left.saturating_sub(width(first));
-            last_of(
-                &insns[1..],
-                rest,
-                register,
-                changed(before, first, register),
-            )
+    let (mut left, mut last) = (left, before);
+    for insn in insns {
+        if left == 0 {
+            return last;
         }
+        left = left.saturating_sub(width(insn));
+        last = changed(last, insn, register);
     }
+    last
 }
 
 /// Why a register is unset before a slot.
@@ -323,16 +317,14 @@ fn arguments_advice(
     requires { register + length arguments.now + length arguments.now < 100 }
     ensures { result ≡ arguments_advice rule caps.now frame.now arguments.now register }
 {
-    match arguments {
-        [] => None,
-        [first, ..] => {
-            let next = register + count_registers(*first);
-            or_else(
-                argument_advice(rule, caps, frame, *first, register),
-                arguments_advice(rule, caps, frame, &arguments[1..], next),
-            )
+    let mut next = register;
+    for argument in arguments {
+        if let Some(advice) = argument_advice(rule, caps, frame, *argument, next) {
+            return Some(advice);
         }
+        next += count_registers(*argument);
     }
+    None
 }
 
 fn call_advice(rule: Rule, caps: &Caps, frame: &Frame, helper: u32) -> Option<Advice>

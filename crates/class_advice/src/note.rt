@@ -4,7 +4,7 @@ ghost use Rattle.std.specs.Fmt.{decimal};
 ghost use Rattle.abstract_regs.specs.Seen.{seen};
 ghost use Rattle.asm_lines.specs.Canonical.{canonical_text};
 ghost use Rattle.bpf_decode.specs.Class.{IsMethod};
-ghost use Rattle.class_advice.specs.Note.{head_text, known_text, of_verdict, refusal_note, register_line, registers_text, slot_text, wanted, wanted_text};
+ghost use Rattle.class_advice.specs.Note.{head_text, known_text, line_if_read, of_verdict, refusal_note, register_line, registers_text, slot_text, wanted, wanted_text};
 ghost use Rattle.verifier.specs.Verdict.{method_verdict};
 
 use crate::advice::push_advised;
@@ -26,6 +26,22 @@ fn push_register(out: &mut String, register: usize, kind: Kind) -> Result<(), Al
     out.push_str("\n")
 }
 
+/// Adds the line of a register, if an instruction reads it.
+fn push_if_read(
+    out: &mut String,
+    insn: &Insn,
+    frame: &Frame,
+    register: usize,
+) -> Result<(), AllocError>
+    ensures { OnOk result (string_bytes out.new ≡ string_bytes out.old ++ line_if_read insn.now frame.now register) }
+{
+    if is_read(insn, register) {
+        push_register(out, register, frame.kind(register))
+    } else {
+        Ok(())
+    }
+}
+
 /// Adds the lines of those that an instruction reads of the `left` registers from a number on.
 fn push_registers(
     out: &mut String,
@@ -37,13 +53,10 @@ fn push_registers(
     requires { register + left < 100 }
     ensures { OnOk result (string_bytes out.new ≡ string_bytes out.old ++ registers_text insn.now frame.now register left) }
 {
-    if left == 0 {
-        return Ok(());
+    for each in register..register + left {
+        push_if_read(out, insn, frame, each)?;
     }
-    if is_read(insn, register) {
-        push_register(out, register, frame.kind(register))?;
-    }
-    push_registers(out, insn, frame, register + 1, left - 1)
+    Ok(())
 }
 
 /// Adds what is known before an instruction.

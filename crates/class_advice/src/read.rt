@@ -1,5 +1,6 @@
 //! Which registers an instruction reads, and which it sets.
-ghost use Rattle.std.specs.Prelude.{◌≡◌, ◌+◌, ◌<◌, length};
+ghost use Rattle.std.specs.Prelude.{◌≡◌, ◌+◌, ◌<◌, ◌&&◌, length};
+ghost use Rattle.abstract_regs.specs.Frame.{kind_at};
 ghost use Rattle.abstract_regs.specs.Seen.{seen};
 ghost use Rattle.abstract_regs.specs.Slots.{has};
 ghost use Rattle.class_advice.specs.Read.{first_read, is_among, is_answer, is_read, is_source, is_taken, is_written, sets, take_register, takes_register, unsets};
@@ -26,13 +27,15 @@ fn take_register(arguments: &[Argument], first: usize, register: usize) -> bool
     requires { first + length arguments.now + length arguments.now < 100 }
     ensures { result ≡ take_register arguments.now first register }
 {
-    match arguments {
-        [] => false,
-        [argument, ..] => {
-            let next = first + count_registers(*argument);
-            (first <= register && register < next) || take_register(&arguments[1..], next, register)
+    let mut next = first;
+    for argument in arguments {
+        let begin = next;
+        next += count_registers(*argument);
+        if begin <= register && register < next {
+            return true;
         }
     }
+    false
 }
 
 /// True if the helper takes the register. An id that is no helper's takes none.
@@ -91,6 +94,13 @@ fn has(content: Content, kind: Kind) -> bool
     }
 }
 
+/// True if a register is read and has it.
+fn is_found(content: Content, insn: &Insn, frame: &Frame, register: usize) -> bool
+    ensures { result ≡ (is_read insn.now register && has content (kind_at frame.now register)) }
+{
+    is_read(insn, register) && has(content, frame.kind(register))
+}
+
 /// The lowest of the `left` registers from a number on that is read and has it.
 pub(crate) fn first_read(
     content: Content,
@@ -102,13 +112,12 @@ pub(crate) fn first_read(
     requires { register + left < 100 }
     ensures { result ≡ first_read content insn.now frame.now register left }
 {
-    if left == 0 {
-        return None;
+    for each in register..register + left {
+        if is_found(content, insn, frame, each) {
+            return Some(each);
+        }
     }
-    if is_read(insn, register) && has(content, frame.kind(register)) {
-        return Some(register);
-    }
-    first_read(content, insn, frame, register + 1, left - 1)
+    None
 }
 
 /// True if an instruction sets a register; a call of a helper sets register 0.

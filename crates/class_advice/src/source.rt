@@ -7,6 +7,7 @@ ghost use Rattle.class_advice.specs.Source.{fault_text, fault_wanted, is_memory,
 
 use asm_lines::{AsmError, AsmFault, Draft, Statement, statements};
 use bpf_decode::width;
+use escaped_text::push_escaped;
 use std::alloc::{AllocError, Global};
 
 /// The number of slots that an instruction takes; one that is refused counts for one.
@@ -52,19 +53,14 @@ fn line_within(lines: &[Statement], slot: usize, line: usize) -> usize
     requires { line + length lines.now < 2 ^ 64 }
     ensures { result ≡ line_within lines.now slot line }
 {
-    match lines {
-        [] => line,
-        [first, ..] => {
-            if is_instruction(first) && slot == 0 {
-                return line;
-            }
-            line_within(
-                &lines[1..],
-                slot.saturating_sub(line_slots(first)),
-                line + 1,
-            )
+    let mut left = slot;
+    for (above, each) in lines.iter().enumerate() {
+        if is_instruction(each) && left == 0 {
+            return line + above;
         }
+        left = left.saturating_sub(line_slots(each));
     }
+    line + lines.len()
 }
 
 /// The line of a slot of the method before which that many stand in lines, the first of which has
@@ -73,18 +69,16 @@ fn line_from(lines: &[Statement], method: usize, slot: usize, line: usize) -> us
     requires { line + length lines.now < 2 ^ 64 }
     ensures { result ≡ line_from lines.now method slot line }
 {
-    match lines {
-        [] => line,
-        [first, ..] => {
-            if !is_directive(first) {
-                return line_from(&lines[1..], method, slot, line + 1);
+    let mut before = method;
+    for (above, each) in lines.iter().enumerate() {
+        if is_directive(each) {
+            if before == 0 {
+                return line_within(&lines[above + 1..], slot, line + above + 1);
             }
-            if method == 0 {
-                return line_within(&lines[1..], slot, line + 1);
-            }
-            line_from(&lines[1..], method - 1, slot, line + 1)
+            before -= 1;
         }
     }
+    line + lines.len()
 }
 
 /// The line of a slot of a method, from 1.
@@ -106,26 +100,24 @@ fn lines(alloc: Global, text: &str) -> Result<Vec<&str>, AllocError>
 fn nth_line<'a>(lines: &[&'a str], line: usize) -> &'a str
     ensures { result.now ≡ nth_line (map (λ l. l.now) lines.now) line }
 {
-    match lines {
-        [] => "",
-        [first, ..] => {
-            if line <= 1 {
-                first
-            } else {
-                nth_line(&lines[1..], line - 1)
-            }
+    let mut left = line;
+    for each in lines {
+        if left <= 1 {
+            return each;
         }
+        left -= 1;
     }
+    ""
 }
 
-/// The line of a number, from 1, as a text has it.
+/// The line of a number, from 1, as a terminal may have it.
 pub fn line_text(alloc: Global, text: &str, line: usize) -> Result<String, AllocError>
     ensures { IfOk result (λ t. string_bytes t ≡ line_text text.now line) }
 {
     let lines = lines(alloc, text)?;
     let mut out = String::new(alloc);
     write!(out, "  line {line}: ")?;
-    out.push_str(nth_line(&lines, line))?;
+    push_escaped(&mut out, nth_line(&lines, line))?;
     out.push_str("\n")?;
     Ok(out)
 }

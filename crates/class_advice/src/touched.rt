@@ -83,18 +83,14 @@ fn arguments_touch(frame: &Frame, arguments: &[Argument], register: usize, slot:
     requires few { register + length arguments.now + length arguments.now < 100 }
     ensures { result ≡ arguments_touch frame.now arguments.now register slot }
 {
-    match arguments {
-        [] => false,
-        [first, ..] => {
-            argument_touches(frame, *first, register, slot)
-                || arguments_touch(
-                    frame,
-                    &arguments[1..],
-                    register + count_registers(*first),
-                    slot,
-                )
+    let mut next = register;
+    for argument in arguments {
+        if argument_touches(frame, *argument, next, slot) {
+            return true;
         }
+        next += count_registers(*argument);
     }
+    false
 }
 
 fn call_touches(frame: &Frame, helper: u32, slot: u64) -> bool
@@ -190,11 +186,10 @@ fn push_slots(
     requires { slot + left ≤ 64 }
     ensures { OnOk result (string_bytes out.new ≡ string_bytes out.old ++ slots_text insn.now frame.now slot left) }
 {
-    if left == 0 {
-        return Ok(());
+    for each in slot..slot + left {
+        push_if_touched(out, insn, frame, each)?;
     }
-    push_if_touched(out, insn, frame, slot)?;
-    push_slots(out, insn, frame, slot + 1, left - 1)
+    Ok(())
 }
 
 /// True if the rule looks at slots of the stack.

@@ -80,19 +80,18 @@ impl Read {
     ) -> Result<bool, AllocError>
         ensures { IfOk result (λ missed. missed ≡ is_missed insns.now left self.slot self.register falls targets.old.items) }
     {
-        match insns {
-            [] => Ok(arrives(falls, targets, self.slot)),
-            [first, ..] => {
-                if left == 0 {
-                    return Ok(arrives(falls, targets, self.slot));
-                }
-                let at = self.slot.saturating_sub(left);
-                let comes = arrives(falls, targets, at);
-                let goes_on = stays_unset(comes, first, self.register);
-                push_jumps(targets, goes_on, first, at)?;
-                let left = left.saturating_sub(width(first));
-                self.is_missed(&insns[1..], left, goes_on && falls_on(first), targets)
+        let (mut left, mut falls) = (left, falls);
+        for insn in insns {
+            if left == 0 {
+                return Ok(arrives(falls, targets, self.slot));
             }
+            let at = self.slot.saturating_sub(left);
+            let comes = arrives(falls, targets, at);
+            let goes_on = stays_unset(comes, insn, self.register);
+            push_jumps(targets, goes_on, insn, at)?;
+            left = left.saturating_sub(width(insn));
+            falls = goes_on && falls_on(insn);
         }
+        Ok(arrives(falls, targets, self.slot))
     }
 }

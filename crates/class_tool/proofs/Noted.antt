@@ -6,12 +6,13 @@ use Rattle.class_tool.specs.Packing.{MethodsFail, PackFails, PackedFails}
 use Rattle.class_tool.specs.declared.action.Packing.{Packing}
 use Rattle.class_tool.specs.Explained.{IsImageFailure, IsLoadNote, IsVerifyNote}
 use Rattle.class_tool.specs.declared.failure.Failure.{Failure}
-use Rattle.class_tool.specs.declared.failure.Failure.TheVariants.{CannotRead, CannotWrite, NoMemory, Text, Image, Verdict, InputNotHex, ObjectNotHex, ObjectLine, Object, Call}
+use Rattle.class_tool.specs.declared.failure.Failure.TheVariants.{CannotRead, CannotWrite, NoMemory, TextTooLong, Text, Image, Verdict, InputNotHex, ObjectNotHex, ObjectLine, Object, Call}
 
 pub load_is_verify : (disk : Option Disk) (name : List ℕ) (e : Failure) (note : List ℕ) → IsLoadNote disk name e note → IsVerifyNote disk name e note
 load_is_verify disk name CannotRead note is = tt
 load_is_verify disk name CannotWrite note is = tt
 load_is_verify disk name NoMemory note is = is
+load_is_verify disk name TextTooLong note is = is
 load_is_verify disk name (Text error) note is = is
 load_is_verify disk name (Image error) note is = is
 load_is_verify disk name (Verdict refusal) note is = is
@@ -33,6 +34,7 @@ pub pack_lack : (before after : Storage) (asked : Packing) (e : Failure) → Pac
 pack_lack before after asked CannotRead fails is = absurd is
 pack_lack before after asked CannotWrite fails is = absurd is
 pack_lack before after asked NoMemory fails is = absurd is
+pack_lack before after asked TextTooLong fails is = absurd is
 pack_lack before after asked (Text error) fails is = absurd is
 pack_lack before after asked (Verdict refusal) fails is = absurd is
 pack_lack before after asked InputNotHex fails is = absurd is

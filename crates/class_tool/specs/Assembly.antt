@@ -1,5 +1,5 @@
 -- The image that `asm` writes, the text that `dis` gives, and why they do not.
-use Rattle.std.specs.Prelude.{◌≡◌, ◌⊎◌, ⊤, ℕ, Bool, true, false, List, Option, IsUtf8}
+use Rattle.std.specs.Prelude.{◌≡◌, ◌⊎◌, ◌<◌, ⊤, ℕ, Bool, true, false, List, Option, IsUtf8, length}
 use Rattle.bpf_asm.specs.Canonical.{class_text, class_with_slots}
 use Rattle.bpf_asm.specs.Fault.{no_memory}
 use Rattle.bpf_asm.specs.Grammar.{IsClassText}
@@ -7,7 +7,8 @@ use Rattle.bpf_decode.specs.Class.{Class, IsImage}
 use Rattle.class_tool.specs.Files.{Disk, FailsToWrite, Holds, IsUnreadable, Storage, Writes}
 use Rattle.class_tool.specs.Image.{IsClassIn, IsFaultOf}
 use Rattle.class_tool.specs.declared.failure.Failure.{Failure}
-use Rattle.class_tool.specs.declared.failure.Failure.TheVariants.{CannotRead, CannotWrite, NoMemory, Text, Image, Verdict, InputNotHex, ObjectNotHex, ObjectLine, Object, Call}
+use Rattle.class_tool.specs.declared.failure.Failure.TheVariants.{CannotRead, CannotWrite, NoMemory, TextTooLong, Text, Image, Verdict, InputNotHex, ObjectNotHex, ObjectLine, Object, Call}
+use Rattle.class_tool.specs.declared.image.TheConstants.{TEXT_LIMIT}
 
 -- the bytes are the image of the text's class
 pub record Spells (text : List ℕ) (bytes : List ℕ) : Type 0 where
@@ -39,6 +40,7 @@ abbrev pub TextFails : Option Disk → List ℕ → Failure → Type 0
 TextFails disk name CannotRead = IsUnreadable disk name ⊎ IsNoTextIn disk name
 TextFails disk name CannotWrite = ⊥
 TextFails disk name NoMemory = ⊤
+TextFails disk name TextTooLong = ⊥
 TextFails disk name (Text error) = ⊥
 TextFails disk name (Image error) = ⊥
 TextFails disk name (Verdict refusal) = ⊥
@@ -48,11 +50,22 @@ TextFails disk name (ObjectLine line) = ⊥
 TextFails disk name (Object error) = ⊥
 TextFails disk name (Call error) = ⊥
 
+-- the file has more bytes than a class's text may have
+pub record IsTooLongIn (disk : Option Disk) (name : List ℕ) : Type 0 where
+  pub bytes : List ℕ
+  pub held : Holds disk name bytes
+  pub long : TEXT_LIMIT < length bytes
+
+-- Why no class's text was read: no text was read, or it is too long.
+abbrev pub ClassTextFails : Option Disk → List ℕ → Failure → Type 0
+ClassTextFails disk name failure = TextFails disk name failure ⊎ ((failure ≡ TextTooLong) × IsTooLongIn disk name)
+
 -- Why a text has no image: memory was refused, or it is no class's text.
 abbrev pub ImageFails : List ℕ → Failure → Type 0
 ImageFails text CannotRead = ⊥
 ImageFails text CannotWrite = ⊥
 ImageFails text NoMemory = ⊤
+ImageFails text TextTooLong = ⊥
 ImageFails text (Text error) = (error ≡ no_memory) ⊎ IsFaultOf text error
 ImageFails text (Image error) = ⊥
 ImageFails text (Verdict refusal) = ⊥
@@ -78,7 +91,7 @@ pub record WriteFails (before after : Storage) (text image : List ℕ) (failure 
 -- Why no image was written, in the order of the checks. Before the write every file is as it was.
 abbrev pub AssembleFails : Storage → Storage → List ℕ → List ℕ → Failure → Type 0
 AssembleFails before after text image failure =
-    ((after ≡ before) × (TextFails before.disk text failure ⊎ SourceFails before.disk text failure)) ⊎ WriteFails before after text image failure
+    ((after ≡ before) × (ClassTextFails before.disk text failure ⊎ SourceFails before.disk text failure)) ⊎ WriteFails before after text image failure
 
 -- a class's canonical text, with each instruction's slot or without
 abbrev pub text_of : Bool → Class → List ℕ

@@ -1,5 +1,5 @@
 -- The note below a failure's line, if one is asked for.
-use Rattle.std.specs.Prelude.{◌≡◌, ◌⊎◌, ⊤, ℕ, List, [], ◌++◌, Option, Some, None, codes, slice_get, string_bytes}
+use Rattle.std.specs.Prelude.{◌≡◌, ◌⊎◌, ⊤, ℕ, Bool, true, false, List, [], ◌++◌, Option, Some, None, codes, slice_get, string_bytes}
 use Rattle.bpf_decode.specs.Class.{ClassMethod}
 use Rattle.bpf_decode.specs.declared.decode_error.DecodeError.{DecodeError}
 use Rattle.bpf_decode.specs.declared.decode_error.DecodeError.TheVariants as decode
@@ -17,6 +17,11 @@ use Rattle.class_tool.specs.declared.failure.Failure.{Failure}
 use Rattle.class_tool.specs.declared.failure.Failure.TheVariants as failure
 use Rattle.class_tool.specs.declared.image.Source.{Source}
 use Rattle.class_tool.specs.declared.image.Source.TheVariants as sources
+
+-- the note that is so, if one is asked for; else there is none
+abbrev pub IfAsked : Bool → (List ℕ → Type 0) → List ℕ → Type 0
+IfAsked false is note = note ≡ []
+IfAsked true is note = is note
 
 -- the note of a class's refusal; if a text was read, with the line of the refused instruction
 abbrev pub source_note : Source → Refusal → List ℕ

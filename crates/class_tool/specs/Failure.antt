@@ -7,12 +7,13 @@ use Rattle.interp.specs.Refusal.{call_error_text}
 use Rattle.object_store.specs.Refusal.{store_error_text}
 use Rattle.verifier.specs.RuleNumber.{refusal_text}
 use Rattle.class_tool.specs.declared.failure.Failure.{Failure}
-use Rattle.class_tool.specs.declared.failure.Failure.TheVariants.{CannotRead, CannotWrite, NoMemory, Text, Image, Verdict, InputNotHex, ObjectNotHex, ObjectLine, Object, Call}
+use Rattle.class_tool.specs.declared.failure.Failure.TheVariants.{CannotRead, CannotWrite, NoMemory, TextTooLong, Text, Image, Verdict, InputNotHex, ObjectNotHex, ObjectLine, Object, Call}
 
 abbrev pub failure_text : Failure → List ℕ
 failure_text CannotRead = codes "cannot read"
 failure_text CannotWrite = codes "cannot write"
 failure_text NoMemory = codes "no memory"
+failure_text TextTooLong = codes "text too long: at most 16777216 bytes"
 failure_text (Text error) = error_text error
 failure_text (Image error) = image_text_of error
 failure_text (Verdict refusal) = refusal_text refusal

@@ -1,5 +1,5 @@
 -- The class of a file, by its image or its text, and why it has none.
-use Rattle.std.specs.Prelude.{◌≡◌, ◌⊎◌, ◌≤◌, ◌==◌, ◌&&◌, ◌||◌, nat_lt, ⊤, ℕ, Bool, false, List, Option, Some, None, Err, IsUtf8, length, slice_index, string_bytes}
+use Rattle.std.specs.Prelude.{◌≡◌, ◌⊎◌, ◌+◌, ◌<◌, ◌≤◌, ◌==◌, ◌&&◌, ◌||◌, nat_lt, ⊤, ℕ, Bool, false, List, Option, Some, None, Err, IsUtf8, length, slice_index, string_bytes, take}
 use Rattle.std.specs.List.{AllByRecursion, list_any}
 use Rattle.bpf_asm.specs.Classes.{AsmError, read_class_text}
 use Rattle.bpf_asm.specs.Grammar.{IsClassText}
@@ -7,14 +7,14 @@ use Rattle.bpf_asm.specs.Fault.{no_memory}
 use Rattle.bpf_decode.specs.Class.{ClassMethod, Class, IsImage}
 use Rattle.bpf_decode.specs.ImageReading.{image_of}
 use Rattle.bpf_decode.specs.declared.decode_error.DecodeError.TheVariants as decode
-use Rattle.bpf_decode.specs.declared.limits.TheConstants.{IMAGE_LIMIT}
 use Rattle.bpf_machine.specs.Safe.{IsSafe}
 use Rattle.verifier.specs.Verdict.{class_verdict, out_of_memory}
 use Rattle.verifier.specs.declared.refusal.Refusal.{Refusal}
 use Rattle.class_tool.specs.Files.{Disk, Holds, IsUnreadable}
 use Rattle.class_tool.specs.declared.failure.Failure.{Failure}
-use Rattle.class_tool.specs.declared.failure.Failure.TheVariants.{CannotRead, CannotWrite, NoMemory, Text, Image, Verdict, InputNotHex, ObjectNotHex, ObjectLine, Object, Call}
+use Rattle.class_tool.specs.declared.failure.Failure.TheVariants.{CannotRead, CannotWrite, NoMemory, TextTooLong, Text, Image, Verdict, InputNotHex, ObjectNotHex, ObjectLine, Object, Call}
 use Rattle.class_tool.specs.declared.image.Source.{Source}
+use Rattle.class_tool.specs.declared.image.TheConstants.{TEXT_LIMIT}
 use Rattle.class_tool.specs.declared.image.Source.TheVariants as sources
 
 -- a byte is zero; in an image, the second byte of the number of methods always is
@@ -26,11 +26,18 @@ abbrev pub is_for_image : List ℕ → Bool
 is_for_image bytes = nat_lt (length bytes) 4 || ((slice_index bytes 0 == 82 && (slice_index bytes 1 == 67 && slice_index bytes 2 == 76)) || has_zero bytes)
 
 -- Bytes that are read as a text: they are UTF-8 without a zero, don't begin as an image does, and
--- are no more than an image may have. All others are read as an image.
+-- are no more than a text may have. All others are read as an image, but those of a text that is
+-- too long.
 pub record IsText (bytes : List ℕ) : Type 0 where
   pub other : is_for_image bytes ≡ false
-  pub short : length bytes ≤ IMAGE_LIMIT
+  pub short : length bytes ≤ TEXT_LIMIT
   pub utf8 : IsUtf8 bytes
+
+-- Bytes of a text that is too long: the first ones, one more than a text may have, are not for an
+-- image.
+pub record IsLongText (bytes : List ℕ) : Type 0 where
+  pub other : is_for_image (take (TEXT_LIMIT + 1) bytes) ≡ false
+  pub long : TEXT_LIMIT < length bytes
 
 -- the text is no class's; this is its first refused line, with the least fault there
 pub record IsFaultOf (text : List ℕ) (error : AsmError) : Type 0 where
@@ -53,11 +60,12 @@ IsMemory (Text error) = error ≡ no_memory
 IsMemory (Image error) = error.error ≡ decode.NoMemory
 IsMemory why = ⊥
 
--- the bytes are of no class: a text is refused by its first fault, an image by the first refusal in
--- reading order
+-- the bytes are of no class: a text is too long or refused by its first fault, an image by the
+-- first refusal in reading order
 abbrev pub SayNone : List ℕ → Failure → Type 0
+SayNone bytes TextTooLong = IsLongText bytes
 SayNone bytes (Text error) = IsText bytes × IsFaultOf bytes error
-SayNone bytes (Image error) = (IsText bytes → ⊥) × (image_of bytes ≡ Err error)
+SayNone bytes (Image error) = (IsText bytes → ⊥) × (IsLongText bytes → ⊥) × (image_of bytes ≡ Err error)
 SayNone bytes why = ⊥
 
 -- the file holds the image of the class
@@ -112,6 +120,7 @@ abbrev pub VerdictFails : Option Disk → List ℕ → Failure → Type 0
 VerdictFails disk name CannotRead = ⊥
 VerdictFails disk name CannotWrite = ⊥
 VerdictFails disk name NoMemory = ⊥
+VerdictFails disk name TextTooLong = ⊥
 VerdictFails disk name (Text error) = ⊥
 VerdictFails disk name (Image error) = ⊥
 VerdictFails disk name (Verdict refusal) = IsVerdictIn disk name refusal

@@ -50,6 +50,7 @@ abbrev pub LogFails : List ClassMethod → List ℕ → List ℕ → Failure →
 LogFails class method input failure.CannotRead = ⊥
 LogFails class method input failure.CannotWrite = ⊥
 LogFails class method input failure.NoMemory = ⊤
+LogFails class method input failure.TextTooLong = ⊥
 LogFails class method input (failure.Text error) = ⊥
 LogFails class method input (failure.Image error) = ⊥
 LogFails class method input (failure.Verdict refusal) = ⊥

@@ -12,7 +12,7 @@ use Rattle.class_tool.specs.Files.{Disk, FailsToWrite, Holds, IsUnreadable, Stor
 use Rattle.class_tool.specs.declared.action.Packing.{Packing}
 use Rattle.class_tool.specs.declared.action.RawMethod.{RawMethod}
 use Rattle.class_tool.specs.declared.failure.Failure.{Failure}
-use Rattle.class_tool.specs.declared.failure.Failure.TheVariants.{CannotRead, CannotWrite, NoMemory, Text, Image, Verdict, InputNotHex, ObjectNotHex, ObjectLine, Object, Call}
+use Rattle.class_tool.specs.declared.failure.Failure.TheVariants.{CannotRead, CannotWrite, NoMemory, TextTooLong, Text, Image, Verdict, InputNotHex, ObjectNotHex, ObjectLine, Object, Call}
 
 -- the file holds the raw code of those instructions
 pub record IsCodeIn (disk : Option Disk) (name : List ℕ) (instructions : List Insn) : Type 0 where
@@ -59,6 +59,7 @@ abbrev pub CodeFails : Option Disk → List ℕ → ℕ → Failure → Type 0
 CodeFails disk name done CannotRead = IsUnreadable disk name
 CodeFails disk name done CannotWrite = ⊥
 CodeFails disk name done NoMemory = ⊤
+CodeFails disk name done TextTooLong = ⊥
 CodeFails disk name done (Text error) = ⊥
 CodeFails disk name done (Image error) = (error.methods ≡ done) × ((error.error ≡ decode.NoMemory) ⊎ IsCodeRefusedIn disk name error.error)
 CodeFails disk name done (Verdict refusal) = ⊥
@@ -84,6 +85,7 @@ abbrev pub ClassFails : RuleSet → List ClassMethod → Failure → Type 0
 ClassFails rules methods CannotRead = ⊥
 ClassFails rules methods CannotWrite = ⊥
 ClassFails rules methods NoMemory = ⊤
+ClassFails rules methods TextTooLong = ⊥
 ClassFails rules methods (Text error) = ⊥
 ClassFails rules methods (Image error) = class_of rules methods ≡ Err error
 ClassFails rules methods (Verdict refusal) = ⊥

@@ -1,11 +1,11 @@
 //! `verify --all`: of each method the verdict of that method by itself.
-ghost use Rattle.std.specs.Prelude.{◌≡◌, ◌+◌, ◌<◌, ◌^◌, [], IfErr, IfOk, is_none, length, string_bytes, true};
+ghost use Rattle.std.specs.Prelude.{◌≡◌, [], IfErr, IfOk, is_none, string_bytes, true};
 ghost use Rattle.std.specs.List.{AllByRecursion};
 ghost use Rattle.bpf_decode.specs.Class.{IsMethod};
 ghost use Rattle.class_tool.specs.Each.{AreVerdicts, are_accepted, each_lines, note_if, refused_lines, verdict_lines};
 ghost use Rattle.class_tool.specs.ActionResult.{method_line};
 ghost use Rattle.verifier.specs.Verdict.{method_verdict};
-ghost use Rattle.class_tool.specs.Explained.{IsFileNote, IsReadNote};
+ghost use Rattle.class_tool.specs.Explained.{IfAsked, IsFileNote, IsReadNote};
 ghost use Rattle.class_tool.specs.Image.{ReadFails, class_of};
 
 use crate::explained::{add_own, source_note};
@@ -113,30 +113,28 @@ impl Judged<'_> {
         })
     }
 
-    /// The verdicts of methods, the first of which has that number.
-    fn verdicts(&self, number: usize, methods: &[Method]) -> Result<Verdicts, AllocError>
-        requires count { number + length methods.now < 2 ^ 64 }
-        requires methods { AllByRecursion IsMethod methods.now }
-        ensures lines { IfOk result (λ v. string_bytes v.lines ≡ each_lines self.now.is_explained self.now.source.now number methods.now) }
+    /// The verdicts of methods, in their order.
+    fn verdicts(&self, methods: &[Method]) -> Result<Verdicts, AllocError>
+        requires { AllByRecursion IsMethod methods.now }
+        ensures lines { IfOk result (λ v. string_bytes v.lines ≡ each_lines self.now.is_explained self.now.source.now 0 methods.now) }
         ensures accepted { IfOk result (λ v. v.are_accepted ≡ are_accepted (class_of self.now.source.now).rules methods.now) }
     {
-        match methods {
-            [] => Ok(Verdicts {
-                lines: String::new(self.alloc),
-                are_accepted: true,
-            }),
-            [first, ..] => {
-                let mut verdicts = self.verdict(number, first)?;
-                let rest = self.verdicts(number + 1, &methods[1..])?;
-                verdicts.lines.push_str(&rest.lines)?;
-                verdicts.are_accepted = verdicts.are_accepted && rest.are_accepted;
-                Ok(verdicts)
-            }
+        let mut lines = String::new(self.alloc);
+        let mut are_accepted = true;
+        for (number, method) in methods.iter().enumerate() {
+            let verdict = self.verdict(number, method)?;
+            lines.push_str(&verdict.lines)?;
+            are_accepted = are_accepted && verdict.are_accepted;
         }
+        Ok(Verdicts {
+            lines,
+            are_accepted,
+        })
     }
 }
 
-/// The verdicts of the class that a file holds, or else the note of why its bytes say none.
+/// The verdicts of the class that a file holds, or else the note of why its bytes say none, if it
+/// is asked for.
 fn verdicts_in<F: Reads>(
     alloc: Global,
     files: &F,
@@ -147,20 +145,21 @@ fn verdicts_in<F: Reads>(
     requires { string_bytes note.old ≡ [] }
     ensures ok { IfOk result (AreVerdicts (F.disk files.now) image.now is_explained) }
     ensures err { IfErr result (ReadFails (F.disk files.now) image.now) }
-    ensures noted { IfErr result (λ e. IsReadNote (F.disk files.now) image.now e (string_bytes note.new)) }
+    ensures noted { IfErr result (λ e. IfAsked is_explained (IsReadNote (F.disk files.now) image.now e) (string_bytes note.new)) }
 {
-    let source = read_source(alloc, files, image, note)?;
+    let source = read_source(alloc, files, image, is_explained, note)?;
     let judged = Judged {
         alloc,
         source: &source,
         is_explained,
     };
-    Ok(judged.verdicts(0, source.class().methods())?)
+    Ok(judged.verdicts(source.class().methods())?)
 }
 
 /// The verdict of each method of the class that a file holds; and the note of a failure is put into
-/// an empty text: of bytes that say no class, or what the files tell of one that can't be read. It
-/// costs what `verify` does of an accepted class, and that again for each refusal that is explained.
+/// an empty text, if it is asked for: of bytes that say no class, or what the files tell of one
+/// that can't be read. It costs what `verify` does of an accepted class, and that again for each
+/// refusal that is explained.
 pub fn verify_each<F: Files>(
     alloc: Global,
     files: &F,
@@ -171,12 +170,14 @@ pub fn verify_each<F: Files>(
     requires { string_bytes note.old ≡ [] }
     ensures ok { IfOk result (AreVerdicts (F.disk files.now) image.now is_explained) }
     ensures err { IfErr result (ReadFails (F.disk files.now) image.now) }
-    ensures noted { IfErr result (λ e. IsFileNote (F.disk files.now) image.now e (string_bytes note.new)) }
+    ensures noted { IfErr result (λ e. IfAsked is_explained (IsFileNote (F.disk files.now) image.now e) (string_bytes note.new)) }
 {
     match verdicts_in(alloc, files, image, is_explained, note) {
         Ok(verdicts) => Ok(verdicts),
         Err(failure) => {
-            add_own(alloc, files, failure, note);
+            if is_explained {
+                add_own(alloc, files, failure, note);
+            }
             Err(failure)
         }
     }

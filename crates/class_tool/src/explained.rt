@@ -67,7 +67,7 @@ fn load_noted<F: Reads>(
     ensures noted { IfErr result (λ e. IsLoadNote (F.disk files.now) image.now e (string_bytes note.new)) }
     ensures silent { OnOk result (string_bytes note.new ≡ []) }
 {
-    let source = read_source(alloc, files, image, note)?;
+    let source = read_source(alloc, files, image, true, note)?;
     match verify(alloc, source.class()) {
         Ok(verified) => Ok(verified),
         Err(refusal) => {
@@ -145,7 +145,7 @@ fn call_wanted(failure: &Failure) -> &'static str
         Failure::Call(CallError::InputTooLong) => "  wanted: at most IN bytes of input, as `.method NAME FLAGS IN OUT` declares; `radoscls dis` shows it\n",
         Failure::Call(CallError::NoMemory) => "",
         Failure::CannotRead | Failure::CannotWrite | Failure::NoMemory => "",
-        Failure::Text(_) | Failure::Image(_) | Failure::Verdict(_) => "",
+        Failure::TextTooLong | Failure::Text(_) | Failure::Image(_) | Failure::Verdict(_) => "",
     }
 }
 
@@ -193,8 +193,8 @@ fn save_noted<F: Files>(
     note: &mut String,
 ) -> Result<RunReport, Failure>
     requires { string_bytes note.old ≡ [] }
-    ensures ok { IfOk result (SavedReports (storage F.disk F.failed files.old) (storage F.disk F.failed files.new) asked.now) }
-    ensures err { IfErr result (SavedRunFails (storage F.disk F.failed files.old) (storage F.disk F.failed files.new) asked.now) }
+    ensures ok { IfOk result (SavedReports (storage F.disk F.failed F.in_place files.old) (storage F.disk F.failed F.in_place files.new) asked.now) }
+    ensures err { IfErr result (SavedRunFails (storage F.disk F.failed F.in_place files.old) (storage F.disk F.failed F.in_place files.new) asked.now) }
     ensures noted { IfErr result (λ e. IsRunNote (F.disk files.old) asked.now.image.now e (string_bytes note.new)) }
 {
     let report = run_noted(alloc, files, asked, note)?;
@@ -217,11 +217,11 @@ fn assemble_noted<F: Files>(
     note: &mut String,
 ) -> Result<(), Failure>
     requires { string_bytes note.old ≡ [] }
-    ensures ok { IfOk result (λ _. Assembles (storage F.disk F.failed files.old) (storage F.disk F.failed files.new) text.now image.now) }
-    ensures err { IfErr result (AssembleFails (storage F.disk F.failed files.old) (storage F.disk F.failed files.new) text.now image.now) }
+    ensures ok { IfOk result (λ _. Assembles (storage F.disk F.failed F.in_place files.old) (storage F.disk F.failed F.in_place files.new) text.now image.now) }
+    ensures err { IfErr result (AssembleFails (storage F.disk F.failed F.in_place files.old) (storage F.disk F.failed F.in_place files.new) text.now image.now) }
     ensures noted { IfErr result (λ e. IsFileNote (F.disk files.old) text.now e (string_bytes note.new)) }
 {
-    match assemble(alloc, files, text, image, note) {
+    match assemble(alloc, files, text, image, true, note) {
         Ok(()) => Ok(()),
         Err(failure) => {
             add_own(alloc, files, failure, note);
@@ -244,7 +244,7 @@ fn disassemble_noted<F: Files>(
     ensures err { IfErr result (ReadFails (F.disk files.now) image.now) }
     ensures noted { IfErr result (λ e. IsFileNote (F.disk files.now) image.now e (string_bytes note.new)) }
 {
-    match disassemble(alloc, files, image, has_slots, note) {
+    match disassemble(alloc, files, image, has_slots, true, note) {
         Ok(text) => Ok(text),
         Err(failure) => {
             add_own(alloc, files, failure, note);
@@ -284,7 +284,7 @@ fn add_pack_note<F: Files>(alloc: Global, files: &F, raws: &[RawMethod<'_>], fai
             *note = method_note(alloc, raws, &error)?;
         }
         Failure::CannotRead | Failure::CannotWrite => add_fault(alloc, files, failure, note),
-        Failure::NoMemory | Failure::Text(_) | Failure::Verdict(_) => {}
+        Failure::NoMemory | Failure::TextTooLong | Failure::Text(_) | Failure::Verdict(_) => {}
         Failure::InputNotHex | Failure::ObjectNotHex | Failure::ObjectLine(_) | Failure::Object(_) | Failure::Call(_) => {}
     }
     Ok(())
@@ -299,8 +299,8 @@ fn pack_noted<F: Files>(
     note: &mut String,
 ) -> Result<(), Failure>
     requires { string_bytes note.old ≡ [] }
-    ensures ok { IfOk result (λ _. Packs (storage F.disk F.failed files.old) (storage F.disk F.failed files.new) asked.now) }
-    ensures err { IfErr result (PackFails (storage F.disk F.failed files.old) (storage F.disk F.failed files.new) asked.now) }
+    ensures ok { IfOk result (λ _. Packs (storage F.disk F.failed F.in_place files.old) (storage F.disk F.failed F.in_place files.new) asked.now) }
+    ensures err { IfErr result (PackFails (storage F.disk F.failed F.in_place files.old) (storage F.disk F.failed F.in_place files.new) asked.now) }
     ensures noted { IfErr result (λ e. IsPackNote asked.now.methods.items e (string_bytes note.new)) }
 {
     match pack(alloc, files, asked) {
@@ -320,8 +320,8 @@ pub fn find_noted<F: Files>(
     note: &mut String,
 ) -> Result<ActionResult, Failure>
     requires { string_bytes note.old ≡ [] }
-    ensures settles { IfOk result (Settles (storage F.disk F.failed files.old) (storage F.disk F.failed files.new) action.now) }
-    ensures fails { IfErr result (Fails (storage F.disk F.failed files.old) (storage F.disk F.failed files.new) action.now) }
+    ensures settles { IfOk result (Settles (storage F.disk F.failed F.in_place files.old) (storage F.disk F.failed F.in_place files.new) action.now) }
+    ensures fails { IfErr result (Fails (storage F.disk F.failed F.in_place files.old) (storage F.disk F.failed F.in_place files.new) action.now) }
     ensures noted { IfErr result (λ e. IsNote (F.disk files.old) action.now e (string_bytes note.new)) }
 {
     match action {

@@ -21,6 +21,8 @@ pub enum Failure {
     CannotWrite,
     /// The program itself ran out of memory.
     NoMemory,
+    /// The text has more bytes than a class's may have.
+    TextTooLong,
     /// The file is no class's text.
     Text(AsmError),
     /// The file is no class image.
@@ -63,6 +65,7 @@ impl fmt::Display for Failure {
             Failure::CannotRead => f.write_str("cannot read"),
             Failure::CannotWrite => f.write_str("cannot write"),
             Failure::NoMemory => f.write_str("no memory"),
+            Failure::TextTooLong => f.write_str("text too long: at most 16777216 bytes"),
             Failure::Text(error) => error.fmt(f),
             Failure::Image(error) => error.fmt(f),
             Failure::Verdict(refusal) => refusal.fmt(f),

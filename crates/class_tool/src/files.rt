@@ -1,11 +1,13 @@
-ghost use Rattle.std.specs.Prelude.{◌≡◌, ◌≢◌, Option, None, Bool, true, IfOk, IfErr, IsOk, IsErr};
+ghost use Rattle.std.specs.Prelude.{◌≡◌, ◌≢◌, ℕ, List, Option, None, Bool, false, true, IfOk, IfErr, IsOk, IsErr};
 ghost use Rattle.std.specs.IoError.{error_kind};
-ghost use Rattle.class_tool.specs.Files.{Disk, Holds, IsBeginning, IsUnreadable, IsWritten, OthersStay};
+ghost use Rattle.class_tool.specs.Files.{Disk, Holds, IsBeginning, IsKept, IsUnreadable, IsWritten, OthersStay};
 
+use crate::replacing::write_whole;
 use std::alloc::Global;
 use std::cell::Cell;
-use std::fs::{self, File};
+use std::fs;
 use std::io::{self, ErrorKind, Input, Read};
+use std::time::Clock;
 
 /// The files that can be read.
 pub trait Reads {
@@ -28,10 +30,15 @@ pub trait Files: Reads {
     // True if a write failed.
     ghost failed: { Self → Bool };
 
+    // True of each name that is written in place, as a pipe's or a device's, if files are known.
+    ghost in_place: { Self → List ℕ → Bool } = { λ _ _. false };
+
     /// Makes those bytes the whole of the file of that name. Every other file stays as it was, also
-    /// where it fails, which `failed` tells from then on.
+    /// where it fails, which `failed` tells from then on; then that file stays too, unless it is
+    /// written in place.
     fn write(&mut self, name: &str, bytes: &[u8]) -> io::Result<()>
         ensures written { IfOk result (λ _. IsWritten (Self.disk self.new) name.now bytes.now) }
+        ensures kept { IsErr result → IsKept (in_place self.old name.now) (Self.disk self.old) (Self.disk self.new) name.now }
         ensures others { OthersStay (Self.disk self.old) (Self.disk self.new) name.now }
         ensures took { IsOk result → failed self.new ≡ failed self.old }
         ensures lost { IsErr result → failed self.new ≡ true };
@@ -44,7 +51,8 @@ pub trait Files: Reads {
 }
 
 /// The files of the system, and standard input under the name `-`, where it is read. Nothing is
-/// claimed of what they hold.
+/// claimed of what they hold. A file is written beside its place and renamed over it; what is no
+/// regular file is written in place.
 #[derive(Drop)]
 pub struct SystemFiles<'a, R> {
     rt: &'a R,
@@ -114,13 +122,13 @@ impl<R: std::rt::Files + AllocGlobal + Input> Reads for SystemFiles<'_, R> {
     }
 }
 
-impl<R: std::rt::Files + AllocGlobal + Input> Files for SystemFiles<'_, R> {
+impl<R: std::rt::Files + AllocGlobal + Input + Clock> Files for SystemFiles<'_, R> {
     ghost use Rattle.class_tool.specs.System.{has_failed};
 
     ghost failed = { λ f. has_failed f };
 
     fn write(&mut self, name: &str, bytes: &[u8]) -> io::Result<()> {
-        let written = self.kept(name, fs::write(self.rt, name, bytes));
+        let written = self.kept(name, write_whole(self.rt, name, bytes));
         if written.is_err() {
             self.failed = true;
         }

@@ -2,8 +2,8 @@
 //! calls a method of one, writes the image of a text or of raw code, or gives the text of an image.
 //! Its answer is true of the files as they were, and a failure says why, the first reason in a
 //! stated order. `verify_each` tells it of each method. Only an image is written, or a call's
-//! object, to the file that is named for it, and only if it is right. An answer and a failure print
-//! as the lines of `result_text` and `failure_text`.
+//! object, to the file that is named for it, and only if it is right; a failed write leaves that
+//! file as it was. An answer and a failure print as the lines of `result_text` and `failure_text`.
 #![tactic(auto)]
 
 mod action;
@@ -19,6 +19,7 @@ mod input;
 mod log;
 mod output;
 mod packing;
+mod replacing;
 mod run;
 mod run_report;
 mod saved;
@@ -33,7 +34,7 @@ pub use each::{Verdicts, verify_each};
 pub use explained::find_noted;
 pub use failure::Failure;
 pub use files::{Files, Reads, SystemFiles};
-pub use image::load;
+pub use image::{TEXT_LIMIT, load};
 pub use output::{Output, Printer};
 pub use run_report::{Holdings, RunReport};
 pub use tool::find;

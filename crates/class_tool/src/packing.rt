@@ -98,13 +98,13 @@ fn packed<F: Reads>(
 /// before all files are read and the class is known to be right; the image may take the place of
 /// one of them.
 pub fn pack<F: Files>(alloc: Global, files: &mut F, asked: &Packing<'_>) -> Result<(), Failure>
-    ensures ok { IfOk result (λ _. Packs (storage F.disk F.failed files.old) (storage F.disk F.failed files.new) asked.now) }
-    ensures err { IfErr result (PackFails (storage F.disk F.failed files.old) (storage F.disk F.failed files.new) asked.now) }
+    ensures ok { IfOk result (λ _. Packs (storage F.disk F.failed F.in_place files.old) (storage F.disk F.failed F.in_place files.new) asked.now) }
+    ensures err { IfErr result (PackFails (storage F.disk F.failed F.in_place files.old) (storage F.disk F.failed F.in_place files.new) asked.now) }
 {
     let bytes = packed(alloc, files, asked.rules, &asked.methods)?;
     match files.write(asked.image, &bytes) {
         Ok(()) => Ok(()),
-        // Want of memory is this failure too: this line alone says that the file may have changed.
+        // Want of memory is this failure too: the line says which step failed.
         Err(_) => Err(Failure::CannotWrite),
     }
 }

@@ -178,8 +178,8 @@ pub(crate) fn keep<F: Files>(
     asked: &MethodCall<'_>,
     report: &RunReport,
 ) -> Result<(), Failure>
-    ensures ok { IfOk result (λ _. Saves (storage F.disk F.failed files.old) (storage F.disk F.failed files.new) asked.now.save report.now.after) }
-    ensures err { IfErr result (SaveFails (storage F.disk F.failed files.old) (storage F.disk F.failed files.new) asked.now.save report.now.after) }
+    ensures ok { IfOk result (λ _. Saves (storage F.disk F.failed F.in_place files.old) (storage F.disk F.failed F.in_place files.new) asked.now.save report.now.after) }
+    ensures err { IfErr result (SaveFails (storage F.disk F.failed F.in_place files.old) (storage F.disk F.failed F.in_place files.new) asked.now.save report.now.after) }
 {
     save(alloc, files, asked.save, report.after.as_ref())
 }
@@ -190,8 +190,8 @@ pub fn run_and_save<F: Files>(
     files: &mut F,
     asked: &MethodCall<'_>,
 ) -> Result<RunReport, Failure>
-    ensures ok { IfOk result (SavedReports (storage F.disk F.failed files.old) (storage F.disk F.failed files.new) asked.now) }
-    ensures err { IfErr result (SavedRunFails (storage F.disk F.failed files.old) (storage F.disk F.failed files.new) asked.now) }
+    ensures ok { IfOk result (SavedReports (storage F.disk F.failed F.in_place files.old) (storage F.disk F.failed F.in_place files.new) asked.now) }
+    ensures err { IfErr result (SavedRunFails (storage F.disk F.failed F.in_place files.old) (storage F.disk F.failed F.in_place files.new) asked.now) }
 {
     let report = run(alloc, files, asked)?;
     match keep(alloc, files, asked, &report) {

@@ -181,8 +181,8 @@ pub(crate) fn save<F: Files>(
     file: Option<&str>,
     object: Option<&Object>,
 ) -> Result<(), Failure>
-    ensures ok { IfOk result (λ _. Saves (storage F.disk F.failed files.old) (storage F.disk F.failed files.new) file.entry (option_copied object.entry)) }
-    ensures err { IfErr result (SaveFails (storage F.disk F.failed files.old) (storage F.disk F.failed files.new) file.entry (option_copied object.entry)) }
+    ensures ok { IfOk result (λ _. Saves (storage F.disk F.failed F.in_place files.old) (storage F.disk F.failed F.in_place files.new) file.entry (option_copied object.entry)) }
+    ensures err { IfErr result (SaveFails (storage F.disk F.failed F.in_place files.old) (storage F.disk F.failed F.in_place files.new) file.entry (option_copied object.entry)) }
 {
     let Some(file) = file else {
         return Ok(());

@@ -16,11 +16,11 @@ use std::alloc::Global;
 
 /// `asm` without a note.
 fn assembled<F: Files>(alloc: Global, files: &mut F, text: &str, image: &str) -> Result<(), Failure>
-    ensures ok { IfOk result (λ _. Assembles (storage F.disk F.failed files.old) (storage F.disk F.failed files.new) text.now image.now) }
-    ensures err { IfErr result (AssembleFails (storage F.disk F.failed files.old) (storage F.disk F.failed files.new) text.now image.now) }
+    ensures ok { IfOk result (λ _. Assembles (storage F.disk F.failed F.in_place files.old) (storage F.disk F.failed F.in_place files.new) text.now image.now) }
+    ensures err { IfErr result (AssembleFails (storage F.disk F.failed F.in_place files.old) (storage F.disk F.failed F.in_place files.new) text.now image.now) }
 {
     let mut note = String::new(alloc);
-    assemble(alloc, files, text, image, &mut note)
+    assemble(alloc, files, text, image, false, &mut note)
 }
 
 /// `dis` without a note.
@@ -34,7 +34,7 @@ fn disassembled<F: Files>(
     ensures err { IfErr result (ReadFails (F.disk files.now) image.now) }
 {
     let mut note = String::new(alloc);
-    disassemble(alloc, files, image, has_slots, &mut note)
+    disassemble(alloc, files, image, has_slots, false, &mut note)
 }
 
 /// Does what is asked for. The answer is true of the files as they were. No file is written but the
@@ -45,8 +45,8 @@ pub fn find<F: Files>(
     files: &mut F,
     action: &Action<'_>,
 ) -> Result<ActionResult, Failure>
-    ensures settles { IfOk result (Settles (storage F.disk F.failed files.old) (storage F.disk F.failed files.new) action.now) }
-    ensures fails { IfErr result (Fails (storage F.disk F.failed files.old) (storage F.disk F.failed files.new) action.now) }
+    ensures settles { IfOk result (Settles (storage F.disk F.failed F.in_place files.old) (storage F.disk F.failed F.in_place files.new) action.now) }
+    ensures fails { IfErr result (Fails (storage F.disk F.failed F.in_place files.old) (storage F.disk F.failed F.in_place files.new) action.now) }
 {
     match action {
         Action::Verify { image } => match load(alloc, files, image) {

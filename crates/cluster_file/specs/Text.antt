@@ -4,6 +4,7 @@ use Rattle.std.specs.Fmt.{decimal, signed_decimal}
 use Rattle.std.specs.Int.{w64, cast_signed}
 use Rattle.hex.specs.Hex.{encode_lower}
 use Rattle.placement.specs.Placement.{group_of}
+use Rattle.escaped_text.specs.Escaped.{escaped}
 use Rattle.cluster_file.specs.Plan.{calls_of}
 use Rattle.cluster_file.specs.Planned.{PlannedCall}
 use Rattle.cluster_file.specs.declared.planned_step.PlannedStep.{PlannedStep}
@@ -25,11 +26,11 @@ end_text (Replied place code output) =
 end_text (Refused reason) = codes " refused " ++ (reason ++ codes "\n")
 
 -- the request of a call, if it is shown: the group of the object, and the request in the words of
--- the file, ` group 12 request a lock lock -`
+-- the file, ` group 12 request a lock lock -`; bytes other than printable ASCII are escaped
 abbrev pub asked_text : ℕ → PlannedCall → List ℕ
 asked_text groups call =
-    codes " group " ++ (decimal (group_of call.object groups) ++ (codes " request " ++ (call.object ++ (codes " " ++ (call.word
-    ++ (codes " " ++ (call.method ++ (codes " " ++ digits_or_dash (encode_lower call.input)))))))))
+    codes " group " ++ (decimal (group_of call.object groups) ++ (codes " request " ++ (escaped call.object ++ (codes " " ++ (escaped call.word
+    ++ (codes " " ++ (escaped call.method ++ (codes " " ++ digits_or_dash (encode_lower call.input)))))))))
 
 abbrev pub asked_if : Option ℕ → PlannedCall → List ℕ
 asked_if None call = []

@@ -1,9 +1,11 @@
 ghost use Rattle.std.specs.Prelude.{◌≡◌, ◌++◌, IfOk, IfSome, IsTrue, OnOk, string_bytes};
 ghost use Rattle.std.specs.Int.{w64, cast_unsigned};
 ghost use Rattle.placement.specs.Placement.{is_group_count};
+ghost use Rattle.escaped_text.specs.Escaped.{escaped};
 ghost use Rattle.cluster_file.specs.Text.{Replied, Refused, asked_text, bad_line, digits_or_dash, end_text, head_text, refused_line};
 
 use crate::planned_call::PlannedCall;
+use escaped_text::push_escaped;
 use placement::group_of;
 use std::alloc::{AllocError, Global};
 use std::fmt::Display;
@@ -33,6 +35,15 @@ fn or_dash(digits: &str) -> &str
     if digits.is_empty() { "-" } else { digits }
 }
 
+/// A word in printable ASCII alone.
+fn escaped(alloc: Global, word: &str) -> Result<String, AllocError>
+    ensures { IfOk result (λ t. string_bytes t ≡ escaped word.now) }
+{
+    let mut text = String::new(alloc);
+    push_escaped(&mut text, word)?;
+    Ok(text)
+}
+
 /// Adds the client of a call, and the call's number among those of its client.
 pub fn push_head(text: &mut String, client: usize, number: usize) -> Result<(), AllocError>
     ensures { OnOk result (string_bytes text.new ≡ string_bytes text.old ++ head_text client number) }
@@ -53,7 +64,8 @@ pub fn push_asked(
 {
     let object = call.object().text();
     let group = group_of(object.as_bytes(), groups);
-    let (class, method) = (call.word(), call.method());
+    let object = escaped(alloc, object)?;
+    let (class, method) = (escaped(alloc, call.word())?, escaped(alloc, call.method())?);
     let digits = hex::encode(alloc, call.input())?;
     let input = or_dash(&digits);
     let asked = format!(in alloc; " group {group} request {object} {class} {method} {input}")?;

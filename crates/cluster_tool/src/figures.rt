@@ -2,7 +2,7 @@
 
 use osd::{DeliveryMode, Fate, Gate};
 use std::sync::atomic::{AtomicBool, AtomicU64, Ordering};
-use std::time::{Clock, Instant};
+use std::time::Clock;
 use std::{fmt, thread};
 
 /// Nanoseconds of a second.
@@ -19,7 +19,7 @@ const QUIET_TURNS: u64 = 1_000;
 const TURN_LIMIT: u64 = 100_000;
 
 /// The counts of a run, from its first call on. All threads that play it add to them; they are
-/// shown as seven lines. Counts are modulo 2^64.
+/// shown as eight lines. Counts are modulo 2^64.
 #[derive(Drop)]
 pub struct Figures {
     /// True if the first call has begun, and when that was, in nanoseconds of the clock.
@@ -29,6 +29,10 @@ pub struct Figures {
     /// The nanoseconds of all calls, and of the longest.
     nanoseconds: AtomicU64,
     worst: AtomicU64,
+    /// When the last map began to be made and when the last answer came, in nanoseconds of the
+    /// clock; 2^64 - 1 and 0 before the first.
+    mapped: AtomicU64,
+    answered: AtomicU64,
     /// The nanoseconds of the run.
     whole: AtomicU64,
     /// The operations that workers took, the requests among them, and the messages that nodes sent.
@@ -43,27 +47,24 @@ fn add(count: &AtomicU64, more: u64) {
     count.fetch_add(more, Ordering::SeqCst);
 }
 
-/// This moment, if the clock can be read.
-pub(crate) fn now<C: Clock>(clock: &C) -> Option<Instant> {
-    Instant::now(clock).ok()
-}
-
-/// The nanoseconds since that moment; 0 if the clock can't be read.
-fn since<C: Clock>(clock: &C, start: Option<Instant>) -> u64 {
-    let Some(start) = start else {
-        return 0;
-    };
-    match start.elapsed(clock) {
-        Ok(time) => time.as_nanos().min(u128::from(u64::MAX)) as u64,
-        Err(_) => 0,
+/// The nanoseconds that the clock shows, if it can be read.
+pub(crate) fn now<C: Clock>(clock: &C) -> Option<u64> {
+    match clock.monotonic() {
+        Ok(time) => Some(time.as_nanos().min(u128::from(u64::MAX)) as u64),
+        Err(_) => None,
     }
 }
 
-/// The nanoseconds that the clock shows; 0 if it can't be read.
+/// The same; 0 if it can't be read.
 pub(crate) fn shown_by<C: Clock>(clock: &C) -> u64 {
-    match clock.monotonic() {
-        Ok(time) => time.as_nanos().min(u128::from(u64::MAX)) as u64,
-        Err(_) => 0,
+    now(clock).unwrap_or(0)
+}
+
+/// The nanoseconds between two moments; 0 if one isn't known.
+fn between(start: Option<u64>, end: Option<u64>) -> u64 {
+    match (start, end) {
+        (Some(start), Some(end)) => end.saturating_sub(start),
+        _ => 0,
     }
 }
 
@@ -84,6 +85,8 @@ impl Figures {
             calls: AtomicU64::new(0),
             nanoseconds: AtomicU64::new(0),
             worst: AtomicU64::new(0),
+            mapped: AtomicU64::new(u64::MAX),
+            answered: AtomicU64::new(0),
             whole: AtomicU64::new(0),
             operations: AtomicU64::new(0),
             requests: AtomicU64::new(0),
@@ -123,12 +126,27 @@ impl Figures {
         }
     }
 
-    /// Notes that a call began then, and has ended.
-    pub fn note_call<C: Clock>(&self, clock: &C, start: Option<Instant>) {
-        let nanoseconds = since(clock, start);
+    /// Notes that a call began then, if the clock could be read, and has ended.
+    pub fn note_call<C: Clock>(&self, clock: &C, start: Option<u64>) {
+        let end = now(clock);
+        let nanoseconds = between(start, end);
         add(&self.calls, 1);
         add(&self.nanoseconds, nanoseconds);
         self.worst.fetch_max(nanoseconds, Ordering::SeqCst);
+        self.answered.fetch_max(end.unwrap_or(0), Ordering::SeqCst);
+    }
+
+    /// Notes that a map is about to be made.
+    pub fn note_map<C: Clock>(&self, clock: &C) {
+        self.mapped
+            .store(now(clock).unwrap_or(u64::MAX), Ordering::SeqCst);
+    }
+
+    /// The nanoseconds from the last map to the last answer; 0 if no answer came after it, or no map
+    /// was made.
+    fn since_map(&self) -> u64 {
+        let mapped = self.mapped.load(Ordering::SeqCst);
+        self.answered.load(Ordering::SeqCst).saturating_sub(mapped)
     }
 
     /// The number of calls that have ended.
@@ -175,11 +193,13 @@ impl fmt::Display for Figures {
         let rate = rate(calls, self.whole.load(Ordering::SeqCst));
         let mean = self.nanoseconds.load(Ordering::SeqCst) / calls.max(1) / MICROSECOND;
         let worst = self.worst.load(Ordering::SeqCst) / MICROSECOND;
+        let since_map = self.since_map() / MICROSECOND;
         let messages = self.messages.load(Ordering::SeqCst);
         let repeats = self.requests.load(Ordering::SeqCst).saturating_sub(calls);
         let nudges = self.nudges.load(Ordering::SeqCst);
         write!(f, "calls {calls}\ncalls a second {rate}\n")?;
         write!(f, "mean microseconds {mean}\nworst microseconds {worst}\n")?;
+        write!(f, "map to last answer microseconds {since_map}\n")?;
         write!(
             f,
             "messages {messages}\nrepeats {repeats}\nnudges {nudges}\n"

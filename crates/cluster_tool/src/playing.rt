@@ -216,6 +216,7 @@ fn play_steps<'a, N: ClusterName + Send + Sync, R: Threads + Wait + Clock + Sync
         match &steps[at] {
             PlannedStep::Map(line, nodes) => {
                 call_all(alloc, running, figures, &steps[from..at], callers);
+                figures.note_map(running.runtime());
                 if let Err(why) = running.new_map(nodes.items()) {
                     return Some((*line, why));
                 }

@@ -1,12 +1,12 @@
 -- The end of `verify --all`.
-use Rattle.std.proofs.Common.{◌≡◌, ◌++◌, inl, inr, refl, sym, subst, Bool, true, false, List, ℕ, Option}
+use Rattle.std.proofs.Common.{◌++◌, inl, inr, Bool, List, ℕ, Option}
 use Rattle.class_tool.specs.Each.{AreVerdicts}
-use Rattle.class_tool.specs.Explained.{IsFileNote}
+use Rattle.class_tool.specs.Explained.{IfAsked, IsFileNote}
 use Rattle.class_tool.specs.Files.{Disk}
 use Rattle.class_tool.specs.Image.{ReadFails}
 use Rattle.class_tool.specs.declared.each.Verdicts.{Verdicts}
 use Rattle.class_tool.specs.declared.failure.Failure.{Failure}
-use Rattle.radoscls_program.specs.Judged.{EachEnds, IsNoteAsked, Shows, note_if}
+use Rattle.radoscls_program.specs.Judged.{EachEnds, Shows}
 use Rattle.radoscls_program.specs.Streams.{IsPrinted, Stream, failure_line}
 use Rattle.radoscls_program.specs.declared.status.ExitStatus.{ExitStatus}
 use Rattle.radoscls_program.specs.declared.status.ExitStatus.TheVariants.{Done, Refused, Usage}
@@ -19,18 +19,7 @@ module _ (disk : Option Disk) (old new : Stream) (image : List ℕ) (e : Bool) w
   judged v Refused are (inr lost) = inr (inl (record { verdicts = v; are = are; unprinted = lost }))
   judged v Usage are none = absurd none
 
-  asked : (b : Bool) (failure : Failure) (note : List ℕ) → IsFileNote disk image failure note → IsNoteAsked b disk image failure (note_if b note)
-  asked true failure note is = is
-  asked false failure note is = refl
-
   -- by a failure that was told
-  pub unjudged : (failure : Failure) (note said : List ℕ) → ReadFails disk image failure → IsFileNote disk image failure note → said ≡ note_if e note
-      → IsPrinted old new (failure_line failure ++ said) → EachEnds disk old new image e Refused
-  unjudged failure note said fails is same printed =
-      inr (inr (record {
-        failure = failure;
-        fails = fails;
-        note = said;
-        noted = subst (λ (n : List ℕ). IsNoteAsked e disk image failure n) (sym same) (asked e failure note is);
-        printed = printed;
-      }))
+  pub unjudged : (failure : Failure) (note : List ℕ) → ReadFails disk image failure → IfAsked e (IsFileNote disk image failure) note
+      → IsPrinted old new (failure_line failure ++ note) → EachEnds disk old new image e Refused
+  unjudged failure note fails is printed = inr (inr (record { failure = failure; fails = fails; note = note; noted = is; printed = printed }))

@@ -1,5 +1,5 @@
 -- The arguments of each subcommand.
-use Rattle.std.specs.Prelude.{◌≡◌, ◌==◌, ◌&&◌, ◌||◌, Bool, true, false, Option, Some, None, is_none, if◌then◌else◌, length, option_and_then, option_map, codes}
+use Rattle.std.specs.Prelude.{◌≡◌, ◌==◌, ◌&&◌, ◌||◌, not, Bool, true, false, Option, Some, None, is_none, if◌then◌else◌, length, option_and_then, option_map, codes}
 use Rattle.std.specs.Str.{bytes_eq}
 use Rattle.bpf_decode.specs.declared.rule_set.RuleSet.{RuleSet}
 use Rattle.bpf_decode.specs.declared.rule_set.RuleSet.TheVariants.{One, Two}
@@ -46,6 +46,16 @@ loads_alone p =
     is_none (one_in p (codes "load"))
     || (is_none (one_in p (codes "object")) && ((length (all_in p (codes "xattr")) == 0) && (length (all_in p (codes "key")) == 0)))
 
+-- a file that isn't named by the word for the class's
+abbrev pub is_another : Option Text → Option Text → Bool
+is_another None class = true
+is_another (Some saved) None = true
+is_another (Some saved) (Some class) = not (bytes_eq saved class)
+
+-- The object isn't saved over its class: the word of --save isn't that of IN.
+abbrev pub saves_apart : Parsed → Bool
+saves_apart p = is_another (one_in p (codes "save")) (one_in p (codes "IN"))
+
 -- `run` takes that, the object's data --object, an xattr of each --xattr and a key of each --key,
 -- the files --load and --save, and whether --show is there. A file may hold a value.
 pub record TakesCall (p : Parsed) (call : MethodCall) : Type 0 where
@@ -56,6 +66,7 @@ pub record TakesCall (p : Parsed) (call : MethodCall) : Type 0 where
   pub load : one_in p (codes "load") ≡ option_map (λ t. t.now) call.load
   pub save : one_in p (codes "save") ≡ option_map (λ t. t.now) call.save
   pub alone : loads_alone p ≡ true
+  pub apart : saves_apart p ≡ true
   pub shown : call.is_shown ≡ is_set_in p (codes "show")
 
 -- The arguments of each action but a call: to tell whether a class is safe, the file IN, without

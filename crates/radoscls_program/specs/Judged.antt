@@ -1,7 +1,7 @@
 -- The end of `verify --all`, and the text that it printed.
-use Rattle.std.specs.Prelude.{◌≡◌, ◌⊎◌, ◌++◌, ℕ, Bool, true, false, List, [], Option, string_bytes}
+use Rattle.std.specs.Prelude.{◌≡◌, ◌⊎◌, ◌++◌, ℕ, Bool, true, false, List, Option, string_bytes}
 use Rattle.class_tool.specs.Each.{AreVerdicts}
-use Rattle.class_tool.specs.Explained.{IsFileNote}
+use Rattle.class_tool.specs.Explained.{IfAsked, IsFileNote}
 use Rattle.class_tool.specs.Files.{Disk}
 use Rattle.class_tool.specs.Image.{ReadFails}
 use Rattle.class_tool.specs.declared.each.Verdicts.{Verdicts}
@@ -24,28 +24,18 @@ Shows old new verdicts Done = (verdicts.are_accepted ≡ true) × Took old new (
 Shows old new verdicts Refused = ((verdicts.are_accepted ≡ false) × Took old new (string_bytes verdicts.lines)) ⊎ Lost old new (string_bytes verdicts.lines)
 Shows old new verdicts Usage = ⊥
 
--- a note, if it is asked for
-abbrev pub note_if : Bool → List ℕ → List ℕ
-note_if false note = []
-note_if true note = note
-
 -- a beginning of the verdicts was printed, and a write or a flush of standard output failed
 pub record IsUnprinted (disk : Option Disk) (old new : Stream) (image : List ℕ) (is_explained : Bool) : Type 0 where
   pub verdicts : Verdicts
   pub are : AreVerdicts disk image is_explained verdicts
   pub unprinted : Lost old new (string_bytes verdicts.lines)
 
--- the note after a failure's line, if it is asked for
-abbrev pub IsNoteAsked : Bool → Option Disk → List ℕ → Failure → List ℕ → Type 0
-IsNoteAsked false disk image failure note = note ≡ []
-IsNoteAsked true disk image failure note = IsFileNote disk image failure note
-
 -- no class was read, and a line says why; with --explain a note follows
 pub record IsUnjudged (disk : Option Disk) (old new : Stream) (image : List ℕ) (is_explained : Bool) : Type 0 where
   pub failure : Failure
   pub fails : ReadFails disk image failure
   pub note : List ℕ
-  pub noted : IsNoteAsked is_explained disk image failure note
+  pub noted : IfAsked is_explained (IsFileNote disk image failure) note
   pub printed : IsPrinted old new (failure_line failure ++ note)
 
 abbrev pub EachEnds : Option Disk → Stream → Stream → List ℕ → Bool → ExitStatus → Type 0

@@ -54,7 +54,7 @@ IsNoteAsked false disk action failure note = note ≡ []
 IsNoteAsked true disk action failure note = IsNote disk action failure note
 
 -- The action that the words name failed, and the line of its failure was printed; with --explain a
--- note follows.
+-- note follows. Each file is as it was, but one that is written in place.
 pub record IsFailed (before after : Storage) (old new : Stream) (words : List Text) : Type 0 where
   pub action : Action
   pub is_explained : Bool

@@ -9,7 +9,7 @@ ghost use Rattle.class_tool.specs.declared.action.Packing.{Packing as APacking};
 ghost use Rattle.cluster_tool.specs.declared.asked.Clustering.{Clustering as AClustering};
 ghost use Rattle.sim.specs.declared.asked.Simulation.{Simulation as ASimulation};
 ghost use Rattle.radoscls_program.specs.declared.actions.Plain.{Plain as APlain};
-ghost use Rattle.radoscls_program.specs.Arguments.{TakesCall, TakesCluster, TakesPacking, TakesPlain, TakesSim, loads_alone, rules_named};
+ghost use Rattle.radoscls_program.specs.Arguments.{TakesCall, TakesCluster, TakesPacking, TakesPlain, TakesSim, loads_alone, rules_named, saves_apart};
 ghost use Rattle.radoscls_program.specs.Entries.{AreEntries};
 ghost use Rattle.radoscls_program.specs.Tenants.{SpellsTenants, are_tenants};
 
@@ -110,6 +110,21 @@ fn check_object<'a>(alloc: Global, words: &ParsedWords<'a>) -> Result<(), Mistak
     }
 }
 
+/// Refuses words by which the object is saved over its class, whose file is `image`.
+fn check_saved<'a>(words: &ParsedWords<'a>, image: &str) -> Result<(), Mistake<'a>>
+    requires { one_in (parsed_of words.now) (codes "IN") ≡ Some image.now }
+    ensures ok { IfOk result (λ _. saves_apart (parsed_of words.now) ≡ true) }
+    ensures err { IfErr result (λ _. saves_apart (parsed_of words.now) ≡ false) }
+{
+    let Some(saved) = words.one("save") else {
+        return Ok(());
+    };
+    if saved == image {
+        return Err(Mistake::Value(Wanted::SavedApart, saved));
+    }
+    Ok(())
+}
+
 /// The call that `run` asks for.
 pub(crate) fn call_of<'a>(
     alloc: Global,
@@ -123,6 +138,7 @@ pub(crate) fn call_of<'a>(
         Err(mistake) => return Err(mistake),
     };
     check_object(alloc, words)?;
+    check_saved(words, plain.image)?;
     let xattrs = entries_of(alloc, words, "xattr", Wanted::Xattr)?;
     let keys = entries_of(alloc, words, "key", Wanted::Key)?;
     Ok(MethodCall {

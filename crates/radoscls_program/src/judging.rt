@@ -1,6 +1,6 @@
 //! `verify --all`.
-ghost use Rattle.std.specs.Prelude.{◌≡◌, ◌++◌};
-ghost use Rattle.radoscls_program.specs.Judged.{EachEnds, Shows, note_if};
+ghost use Rattle.std.specs.Prelude.{◌++◌};
+ghost use Rattle.radoscls_program.specs.Judged.{EachEnds, Shows};
 ghost use Rattle.radoscls_program.specs.Streams.{IsPrinted, failure_line, stream};
 
 use crate::status::ExitStatus;
@@ -21,13 +21,6 @@ fn show<O: Output>(verdicts: &Verdicts, out: &mut O) -> ExitStatus
         }
         Err(_) => ExitStatus::Refused,
     }
-}
-
-/// A note, if it is asked for.
-fn note_if<'a>(is_explained: bool, note: &'a str) -> &'a str
-    ensures { result.now ≡ note_if is_explained note.now }
-{
-    if is_explained { note } else { "" }
 }
 
 /// Prints a failure's line, and a note.
@@ -51,7 +44,7 @@ pub(crate) fn judge<F: Files, O: Output>(
     match verify_each(alloc, files, image, is_explained, &mut note) {
         Ok(verdicts) => show(&verdicts, out),
         Err(failure) => {
-            tell(failure, note_if(is_explained, &note), out);
+            tell(failure, &note, out);
             ExitStatus::Refused
         }
     }

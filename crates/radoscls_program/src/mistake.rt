@@ -29,6 +29,7 @@ pub(crate) enum Wanted {
     FewerClasses,
     Output,
     Saved,
+    SavedApart,
 }
 
 impl Wanted {
@@ -47,6 +48,7 @@ impl Wanted {
             Wanted::FewerClasses => ("--class <NAME=IMAGE>", "at most 62 classes"),
             Wanted::Output       => ("<OUT>", "a file, and not standard input ('./-' is a file of that name)"),
             Wanted::Saved        => ("--save <FILE>", "a file, and not standard input ('./-' is a file of that name)"),
+            Wanted::SavedApart   => ("--save <FILE>", "another file than <IN>, which has the class"),
         }
     }
 }

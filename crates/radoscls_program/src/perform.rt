@@ -61,7 +61,7 @@ fn find_with_note<F: Files>(
     note: &mut String,
 ) -> Result<ActionResult, Failure>
     requires { string_bytes note.old ≡ [] }
-    ensures { Found (storage F.disk F.failed files.old) (storage F.disk F.failed files.new) action.now is_explained result (string_bytes note.new) }
+    ensures { Found (storage F.disk F.failed F.in_place files.old) (storage F.disk F.failed F.in_place files.new) action.now is_explained result (string_bytes note.new) }
 {
     if is_explained {
         find_noted(alloc, files, action, note)
@@ -70,19 +70,38 @@ fn find_with_note<F: Files>(
     }
 }
 
-/// Does what is asked of a class, and prints it.
-fn act<F: Files, O: Output>(
+/// Says that a call's object was saved, though the answer was not printed.
+fn tell_saved<E: io::Write>(action: &Action<'_>, err: &mut E) {
+    if let Action::Run(call) = action {
+        if let Some(file) = call.save {
+            let _ = writeln!(
+                err,
+                "radoscls: standard output failed; the object was saved to {file}"
+            );
+        }
+    }
+}
+
+/// Does what is asked of a class, and prints it. Where an answer could not be printed, a line on
+/// `err` says that a call's object was saved: the same call again would count twice.
+fn act<F: Files, O: Output, E: io::Write>(
     alloc: Global,
     files: &mut F,
     action: &Action<'_>,
     is_explained: bool,
     out: &mut O,
+    err: &mut E,
 ) -> ExitStatus
-    ensures { Acts (storage F.disk F.failed files.old) (storage F.disk F.failed files.new) (stream O.printed O.failed out.old) (stream O.printed O.failed out.new) action.now is_explained result }
+    ensures { Acts (storage F.disk F.failed F.in_place files.old) (storage F.disk F.failed F.in_place files.new) (stream O.printed O.failed out.old) (stream O.printed O.failed out.new) action.now is_explained result }
 {
     let mut note = String::new(alloc);
     let found = find_with_note(alloc, files, action, is_explained, &mut note);
-    respond(found, &note, out)
+    let is_answered = found.is_ok();
+    let status = respond(found, &note, out);
+    if is_answered && status == ExitStatus::Refused {
+        tell_saved(action, err);
+    }
+    status
 }
 
 /// Prints that a value's file can't be read, and what the files tell of it, if that is asked for.
@@ -110,21 +129,22 @@ fn refuse_value<F: Files, O: Output>(
 }
 
 /// Makes a call, after its values' files are read, and prints what it comes to.
-fn act_call<F: Files, O: Output>(
+fn act_call<F: Files, O: Output, E: io::Write>(
     alloc: Global,
     files: &mut F,
     call: &MethodCall<'_>,
     is_explained: bool,
     out: &mut O,
+    err: &mut E,
 ) -> ExitStatus
-    ensures { CallEnds (storage F.disk F.failed files.old) (storage F.disk F.failed files.new) (stream O.printed O.failed out.old) (stream O.printed O.failed out.new) call.now is_explained result }
+    ensures { CallEnds (storage F.disk F.failed F.in_place files.old) (storage F.disk F.failed F.in_place files.new) (stream O.printed O.failed out.old) (stream O.printed O.failed out.new) call.now is_explained result }
 {
     let values = match filled(alloc, files, call) {
         Ok(values) => values,
         Err(failure) => return refuse_value(alloc, files, failure, is_explained, out),
     };
     match call_with(alloc, call, &values) {
-        Ok(made) => act(alloc, files, &Action::Run(made), is_explained, out),
+        Ok(made) => act(alloc, files, &Action::Run(made), is_explained, out, err),
         Err(_) => refuse(Failure::NoMemory, out),
     }
 }
@@ -183,13 +203,13 @@ fn do_task<R: AllocGlobal + Threads + Wait + Clock + Sync, F: Files, O: Output, 
     out: &mut O,
     err: &mut E,
 ) -> ExitStatus
-    ensures { TaskEnds (storage F.disk F.failed files.old) (storage F.disk F.failed files.new) (stream O.printed O.failed out.old) (stream O.printed O.failed out.new) task.now result }
+    ensures { TaskEnds (storage F.disk F.failed F.in_place files.old) (storage F.disk F.failed F.in_place files.new) (stream O.printed O.failed out.old) (stream O.printed O.failed out.new) task.now result }
 {
     let alloc = rt.alloc();
     match task {
-        Task::Class(action, is_explained) => act(alloc, files, action, *is_explained, out),
+        Task::Class(action, is_explained) => act(alloc, files, action, *is_explained, out, err),
         Task::Each(image, is_explained) => judge(alloc, files, image, *is_explained, out),
-        Task::Run(call, is_explained) => act_call(alloc, files, call, *is_explained, out),
+        Task::Run(call, is_explained) => act_call(alloc, files, call, *is_explained, out, err),
         Task::Sim(simulation) => play(alloc, files, simulation, out),
         Task::Cluster(cluster) => measure(rt, files, cluster, out, err),
     }
@@ -216,7 +236,7 @@ pub(crate) fn perform<
     O: Output,
     E: io::Write,
 >(rt: &R, words: &[S], files: &mut F, out: &mut O, err: &mut E) -> ExitStatus
-    ensures { Ends (storage F.disk F.failed files.old) (storage F.disk F.failed files.new) (stream O.printed O.failed out.old) (stream O.printed O.failed out.new) (map S.text words.now) result }
+    ensures { Ends (storage F.disk F.failed F.in_place files.old) (storage F.disk F.failed F.in_place files.new) (stream O.printed O.failed out.old) (stream O.printed O.failed out.new) (map S.text words.now) result }
 {
     match asked(rt.alloc(), words) {
         Ok(task) => {
@@ -239,7 +259,8 @@ pub(crate) fn perform<
 /// refused, or a write or a flush of `out` failed, and then a beginning of it was printed; 2 after
 /// usage or help, where the words name no task without a fault. No file is written but the one that
 /// `asm` or `pack` names for the image, and that one only where the text or the raw code is right,
-/// and the one that `run --save` names for the object.
+/// and the one that `run --save` names for the object; where that fails, it is as it was. If only
+/// the answer of a call could not be printed, a line on `err` says that its object was saved.
 /// `sim` prints of each line of its file what it comes to before the next is done; `cluster` prints
 /// its lines once all calls have ended.
 ///
@@ -253,9 +274,9 @@ pub fn program<
     E: io::Write,
 >(rt: &R, words: &[S], files: &mut F, out: &mut O, err: &mut E) -> u8
     ensures status { (status : AStatus) × (result ≡ code_of status) }
-    ensures done { result ≡ 0 → IsDone (storage F.disk F.failed files.old) (storage F.disk F.failed files.new) (stream O.printed O.failed out.old) (stream O.printed O.failed out.new) (map S.text words.now) }
-    ensures refused { result ≡ 1 → IsRefused (storage F.disk F.failed files.old) (storage F.disk F.failed files.new) (stream O.printed O.failed out.old) (stream O.printed O.failed out.new) (map S.text words.now) }
-    ensures usage { result ≡ 2 → IsUsage (storage F.disk F.failed files.old) (storage F.disk F.failed files.new) (stream O.printed O.failed out.old) (stream O.printed O.failed out.new) (map S.text words.now) }
+    ensures done { result ≡ 0 → IsDone (storage F.disk F.failed F.in_place files.old) (storage F.disk F.failed F.in_place files.new) (stream O.printed O.failed out.old) (stream O.printed O.failed out.new) (map S.text words.now) }
+    ensures refused { result ≡ 1 → IsRefused (storage F.disk F.failed F.in_place files.old) (storage F.disk F.failed F.in_place files.new) (stream O.printed O.failed out.old) (stream O.printed O.failed out.new) (map S.text words.now) }
+    ensures usage { result ≡ 2 → IsUsage (storage F.disk F.failed F.in_place files.old) (storage F.disk F.failed F.in_place files.new) (stream O.printed O.failed out.old) (stream O.printed O.failed out.new) (map S.text words.now) }
     // Where a write or a flush of `out` fails, the ending is 1.
     ensures failed { O.failed out.old ≡ false → O.failed out.new ≡ true → result ≡ 1 }
 {

@@ -49,8 +49,8 @@ pub fn end_of<
     O: Output,
     E: io::Write,
 >(rt: &R, words: &io::Result<Vec<String>>, files: &mut F, out: &mut O, err: &mut E) -> ExitStatus
-    ensures asked { IfOk words.now (λ all. Ends (storage F.disk F.failed files.old) (storage F.disk F.failed files.new) (stream O.printed O.failed out.old) (stream O.printed O.failed out.new) (map string_bytes all.items) result) }
-    ensures unread { IfErr words.now (λ _. IsUnstarted (storage F.disk F.failed files.old) (storage F.disk F.failed files.new) (stream O.printed O.failed out.old) (stream O.printed O.failed out.new) result) }
+    ensures asked { IfOk words.now (λ all. Ends (storage F.disk F.failed F.in_place files.old) (storage F.disk F.failed F.in_place files.new) (stream O.printed O.failed out.old) (stream O.printed O.failed out.new) (map string_bytes all.items) result) }
+    ensures unread { IfErr words.now (λ _. IsUnstarted (storage F.disk F.failed F.in_place files.old) (storage F.disk F.failed F.in_place files.new) (stream O.printed O.failed out.old) (stream O.printed O.failed out.new) result) }
     ensures memory { IfErr words.now (λ e. (result ≡ ExitStatus.Refused) ↔ (error_kind e ≡ ErrorKind.OutOfMemory)) }
 {
     match words {

@@ -3,6 +3,7 @@
 use Rattle.std.specs.Prelude.{◌≡◌, ℕ, suc, min, Bool, true, List, [], ◌∷◌, ◌++◌, map, Option, Some, None, is_some, if◌then◌else◌, codes, string_bytes}
 use Rattle.std.specs.Fmt.{decimal}
 use Rattle.class_tool.specs.Output.{Begins}
+use Rattle.escaped_text.specs.Escaped.{escaped}
 use Rattle.pg_log.specs.Log.{Classes}
 use Rattle.group_world.specs.declared.party.Party.{Party}
 use Rattle.group_world.specs.declared.party.Party.TheVariants.{Node as ANode, Monitor as TheMonitor, Client as AClient}
@@ -76,7 +77,8 @@ abbrev pub done_if : Option What → Taken → Option What
 done_if None t = None
 done_if (Some what) t = Some (done_of what t)
 
--- THE TEXT OF AN EVENT begins with its line, but for a delivery
+-- THE TEXT OF AN EVENT begins with its line, but for a delivery; its bytes other than printable
+-- ASCII are escaped
 abbrev pub line_of_step : What → List ℕ → List ℕ
 line_of_step (At column) line = line
 line_of_step (Asked client node) line = line
@@ -105,7 +107,7 @@ said_after (taken.Shown s) = after_colon (said_text (taken.Shown s))
 said_after (taken.Again numbers) = again_after (codes ": ") numbers
 
 abbrev pub said : List ℕ → What → Taken → List ℕ
-said line what t = line_of_step what line ++ said_after t
+said line what t = escaped (line_of_step what line) ++ said_after t
 
 -- the number of messages that it sent
 abbrev pub sent_by : Taken → ℕ

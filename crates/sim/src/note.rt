@@ -3,6 +3,7 @@ ghost use Rattle.std.specs.Prelude.{◌≡◌, ◌++◌, IfOk, OnOk, codes, map,
 ghost use Rattle.sim.specs.Drawing.{after_colon, again_after, column_of, column_of_node, delivery_of, done_if, done_of, line_of_step, meant_by, noted_as, noted_if, said, said_after, sent_by};
 ghost use Rattle.sim_text.specs.Texts.{said_text};
 
+use escaped_text::push_escaped;
 use group_world::Party;
 use placement::NodeId;
 use sim_text::{Line, Taken, said_text};
@@ -138,7 +139,8 @@ fn line_of_step(what: What, line: &str) -> &str
 fn said(alloc: Global, line: &str, what: What, taken: &Taken) -> Result<String, AllocError>
     ensures { IfOk result (λ t. string_bytes t ≡ said line.now what taken.now) }
 {
-    let mut text = String::from_str(alloc, line_of_step(what, line))?;
+    let mut text = String::new(alloc);
+    push_escaped(&mut text, line_of_step(what, line))?;
     let after = said_after(alloc, taken)?;
     text.push_str(after.as_str())?;
     Ok(text)

@@ -2,8 +2,14 @@
 #![tactic(auto)]
 
 #[cfg(test)]
-mod assembling;
-#[cfg(test)]
-mod decoding;
+mod code;
 #[cfg(test)]
 mod digits;
+#[cfg(test)]
+mod images;
+#[cfg(test)]
+mod limits;
+#[cfg(test)]
+mod opcodes;
+#[cfg(test)]
+mod texts;

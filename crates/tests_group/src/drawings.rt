@@ -1,6 +1,6 @@
 //! Drawings of runs, by hand.
 
-use super::checks::see;
+use super::words::see;
 use sim_trace::{Column, DrawnMessage, DrawnStep, What, draw};
 use std::alloc::Global;
 use std::process::Abort;

@@ -45,26 +45,6 @@ fn all_answer(alloc: Global, class: &VerifiedClass) -> bool {
     true
 }
 
-/// The fate of bytes that are read as an image.
-#[derive(Clone, Copy, PartialEq, Eq)]
-enum Fate {
-    /// They are no image, or that of a class that isn't safe.
-    Refused,
-    /// They are written again as they were, and the class's methods answer.
-    Accepted,
-    /// They are written otherwise, or a method of an accepted class doesn't answer.
-    Wrong,
-}
-
-/// The fate of a class that was read.
-fn verdict(alloc: Global, image: &ClassImage) -> Fate {
-    match verify(alloc, image) {
-        Err(_) => Fate::Refused,
-        Ok(class) if all_answer(alloc, &class) => Fate::Accepted,
-        Ok(_) => Fate::Wrong,
-    }
-}
-
 /// True if a class's image is written as these bytes.
 fn is_written(alloc: Global, image: &ClassImage, bytes: &[u8]) -> bool {
     match write_image(alloc, image) {
@@ -73,11 +53,22 @@ fn is_written(alloc: Global, image: &ClassImage, bytes: &[u8]) -> bool {
     }
 }
 
-fn come_of(alloc: Global, bytes: &[u8]) -> Fate {
+/// True if the methods of a class answer, false if it isn't safe; `None` if one doesn't answer.
+fn is_safe(alloc: Global, image: &ClassImage) -> Option<bool> {
+    match verify(alloc, image) {
+        Err(_) => Some(false),
+        Ok(class) if all_answer(alloc, &class) => Some(true),
+        Ok(_) => None,
+    }
+}
+
+/// True if bytes are the image of a class that answers, false if they are no image or that of a
+/// class that isn't safe; `None` if the image is written otherwise, or a method doesn't answer.
+fn is_accepted(alloc: Global, bytes: &[u8]) -> Option<bool> {
     match read_image(alloc, bytes) {
-        Err(_) => Fate::Refused,
-        Ok(image) if is_written(alloc, &image, bytes) => verdict(alloc, &image),
-        Ok(_) => Fate::Wrong,
+        Err(_) => Some(false),
+        Ok(image) if is_written(alloc, &image, bytes) => is_safe(alloc, &image),
+        Ok(_) => None,
     }
 }
 
@@ -88,10 +79,8 @@ fn accepted_at(alloc: Global, bytes: &mut [u8], place: usize) -> Option<usize> {
     let mut accepted = 0usize;
     for value in 0..=255u8 {
         *bytes.get_mut(place)? = value;
-        match come_of(alloc, bytes) {
-            Fate::Refused => {}
-            Fate::Accepted => accepted = accepted.wrapping_add(1),
-            Fate::Wrong => return None,
+        if is_accepted(alloc, bytes)? {
+            accepted = accepted.wrapping_add(1);
         }
     }
     *bytes.get_mut(place)? = kept;

@@ -1,145 +1,135 @@
-mod added;
-mod adopt;
-mod append;
-mod class_tests;
-mod full;
-mod lists;
-mod replay;
-mod undone;
+//! The log of a group: the worked rows of its answers and refusals, and the parts of a request.
+ghost use Rattle.std.specs.Prelude.{◌≡◌};
+ghost use mathlib.Core.List.{IsPrefix};
 
-use super::checks::see;
-use super::classes::class;
-use super::printed::prints;
-use super::requests::{RequestParts, client, number, request};
-use super::script::go_through;
+use super::requests::request_of;
+use super::script::{Script, check, go_on_with, table};
+use super::words::{halves, see};
+use builtin_classes::{load_lock, load_obj};
 use interp::ClassTable;
-use pg_log::{
-    ClientId, LogError, Request, RequestNumber, adopting, classes_added, entry_crosses, folds,
-    legal_lists, objects_within_limits, pairs, refusals, replies, request_crosses, table_crosses,
-    undoing,
-};
+use pg_log::{Classes, ClientId, Group, Request, RequestNumber, class_refusal, go_on};
 use std::alloc::Global;
+use std::marker::Brand;
 use std::process::Abort;
+use verifier::VerifiedClass;
 
-/// `mov r0, 0`, `exit`.
-pub(super) const SUCCEED: [u8; 16] = [0xb7, 0, 0, 0, 0, 0, 0, 0, 0x95, 0, 0, 0, 0, 0, 0, 0];
+/// Answers of the log, worked out by hand.
+const ROWS: &str =
+    "new refusals: two clients, a logged pair whatever else the request holds, and each but a full log
+append 1 5 a lock lock - | 0
+append 1 5 a lock lock - | 0
+append 1 5 b none g 61 | 0
+append 1 4 a lock lock - | StaleNumber
+append 2 1 a none steal 61 | NoClass
+append 2 1 a lock steal 61 | NoMethod
+append 2 1 a lock lock 61 | InputTooLong
+length | 1
+append 2 1 a lock lock - | 1
+append 2 4294967295 a obj stat - | 2
+length | 3
+reply 1 5 | 0 0
+reply 2 1 | 1 -16
+reply 2 4294967295 | 2 0
+replay 2; 2 2 a obj stat - | 3
+reply 2 2 | 2 0
+replay 2; 1 5 a lock lock - | StaleNumber
+new a call that wrote and failed is logged, and its object is absent
+1 a fails f 616263 | -5 -
+length | 1
+1 a obj stat - | -2 -
+new the owner's unlock and second lock are undone, so the lock is still the owner's
+append 1 1 a lock lock - | 0
+append 1 2 a lock unlock - | 1
+append 1 3 a lock lock - | 2
+adopt 1; 2 1 a lock lock - | 1
+length | 2
+reply 2 1 | 1 -16
+adopt 2; 1 1 a lock lock - | StaleNumber
+length | 2
+adopt 1 | 1
+length | 1
+new places: past the end, the end, an earlier one, and at the end a logged pair and a lower number
+at 1 1 2 a lock lock - | none
+at 0 1 1 a lock lock - | 1
+at 0 1 1 a lock lock - | 1
+at 1 1 2 a lock lock - | 2
+at 2 1 2 a lock lock - | StaleNumber
+at 2 1 1 a lock lock - | StaleNumber
+at 0 2 1 a lock lock - | 2
+length | 2";
 
-/// `mov r2, r1`, `mov r1, 0`, `mov r3, 3`, `call 3`, `mov r0, -5`, `exit`: writes three bytes of
-/// the input, and fails.
-const WRITE_THEN_FAIL: [u8; 48] = [
-    0xbf, 0x12, 0, 0, 0, 0, 0, 0, 0xb7, 0x01, 0, 0, 0, 0, 0, 0, 0xb7, 0x03, 0, 0, 3, 0, 0, 0, 0x85,
-    0, 0, 0, 3, 0, 0, 0, 0xb7, 0, 0, 0, 0xfb, 0xff, 0xff, 0xff, 0x95, 0, 0, 0, 0, 0, 0, 0,
-];
-
-/// `mov r2, r1`, `mov r1, 0`, `mov r3, 3`, `call 3`, `exit`: writes three bytes of the input, and
-/// gives their count.
-const WRITE: [u8; 40] = [
-    0xbf, 0x12, 0, 0, 0, 0, 0, 0, 0xb7, 0x01, 0, 0, 0, 0, 0, 0, 0xb7, 0x03, 0, 0, 3, 0, 0, 0, 0x85,
-    0, 0, 0, 3, 0, 0, 0, 0x95, 0, 0, 0, 0, 0, 0, 0,
-];
-
-/// Adds a class of one method to the table.
-fn add<R: Abort>(rt: &R, alloc: Global, table: &mut ClassTable, flags: u8, code: &[u8]) {
-    let class = class(rt, alloc, flags, 3, code);
-    // Ids follow the order of adding, so the tests know them.
-    let _ = table.add(class).expect(rt, "room");
+#[test]
+fn answers_and_refusals_of_the_log(rt: HostRuntime) {
+    check(&rt, rt.alloc(), ROWS);
 }
 
-/// Class 0 succeeds, class 1 writes and fails, class 2 writes.
-pub(super) fn table<R: Abort>(rt: &R, alloc: Global) -> ClassTable {
+/// The second request names a class that isn't loaded; and then it is.
+const BEFORE: &str = "append 1 1 a lock lock - | 0
+append 1 2 b obj stat - | NoClass";
+
+const AFTER: &str = "append 1 2 b obj stat - | 1
+reply 1 2 | 1 -2";
+
+/// Goes on with a group after the class was added to its table.
+fn go_on_after<C: Classes, R: Abort>(rt: &R, alloc: Global, table: &ClassTable, group: Group<C>)
+    requires { IsPrefix C.classes table.now }
+{
+    let text = AFTER;
+    go_on(table, group, Script { rt, alloc, text });
+}
+
+/// Does the lines before, and those after the class is loaded.
+fn adds<C: Classes, R: Abort>(rt: &R, alloc: Global, mut table: ClassTable, class: VerifiedClass)
+    requires { table ≡ C.classes }
+{
+    let text = BEFORE;
+    let mut group = Group::<C>::new(alloc);
+    go_on_with(&Script { rt, alloc, text }, &table, &mut group);
+    // The lines after it name the class by its number.
+    let _ = table.add(class).expect(rt, "memory");
+    go_on_after(rt, alloc, &table, group);
+}
+
+/// A class added between two appends can be named by the second.
+#[test]
+fn class_added(rt: HostRuntime) {
+    let alloc = rt.alloc();
     let mut table = ClassTable::new(alloc);
-    add(rt, alloc, &mut table, 1, &SUCCEED);
-    add(rt, alloc, &mut table, 2, &WRITE_THEN_FAIL);
-    add(rt, alloc, &mut table, 2, &WRITE);
-    table
+    let lock = load_lock(alloc).expect(&rt, "a class");
+    // The lines name the class by its number.
+    let _ = table.add(lock).expect(&rt, "memory");
+    let obj = load_obj(alloc).expect(&rt, "a class");
+    adds::<Brand, HostRuntime>(&rt, alloc, table, obj);
 }
 
-/// Does the lines of a text with a group of those classes.
-pub(super) fn check<R: Abort>(rt: &R, alloc: Global, first: &str, text: &str) {
-    let table = table(rt, alloc);
-    go_through(rt, alloc, &table, first, text);
+/// A request, and why the classes can't run it: a class that isn't loaded comes before a method
+/// that there isn't, and that before a long input.
+const CLASS_ROWS: &str = "1 1 a lock lock - |
+1 1 a lock lock 61 | InputTooLong
+1 1 a fails f 616263 |
+1 1 a fails f 61626364 | InputTooLong
+1 1 a lock steal 61 | NoMethod
+1 1 a none steal 61 | NoClass";
+
+/// The name of the refusal of a request by the classes, or nothing if they can run it.
+fn refusal_name(table: &ClassTable, request: &Request) -> &'static str {
+    match class_refusal(table, request) {
+        Some(why) => why.name(),
+        None => "",
+    }
+}
+
+#[test]
+fn refusals_by_class(rt: HostRuntime) {
+    let table = table(&rt, rt.alloc());
+    for line in CLASS_ROWS.lines() {
+        let (text, wanted) = halves(line, '|');
+        let request = request_of(&rt, rt.alloc(), text);
+        see(&rt, refusal_name(&table, &request) == wanted, line);
+    }
 }
 
 #[test]
 fn numbers_begin_at_one(rt: HostRuntime) {
     assert!(rt; ClientId::new(0).is_none() && RequestNumber::new(0).is_none());
-    assert!(rt; client(&rt, u32::MAX).get() == 4_294_967_295 && number(&rt, 1).get() == 1);
-}
-
-/// A request with that input.
-fn request_with<R: Abort>(rt: &R, alloc: Global, input: &[u8]) -> Request {
-    let parts = RequestParts {
-        object: "object",
-        client: 3,
-        number: 4,
-        class: 5,
-        method: "f",
-        input,
-    };
-    request(rt, alloc, &parts)
-}
-
-/// True if the parts of a request are those that it was made of.
-fn has_parts(one: &Request) -> bool {
-    one.client().get() == 3
-        && one.number().get() == 4
-        && one.object().text() == "object"
-        && one.class() == 5
-        && one.method() == "f"
-        && one.input() == b"ab".as_slice()
-}
-
-#[test]
-fn parts_of_a_request(rt: HostRuntime) {
-    let one = request_with(&rt, rt.alloc(), b"ab");
-    see(&rt, has_parts(&one), "parts");
-    drop(one);
-}
-
-/// True if a request equals its copy.
-fn is_copied<R: Abort>(rt: &R, alloc: Global, one: &Request) -> bool {
-    let copy = one.copy().expect(rt, "memory");
-    let is_copied = one.is(&copy);
-    drop(copy);
-    is_copied
-}
-
-/// True if a request equals one of the same parts with this input.
-fn is_with<R: Abort>(rt: &R, alloc: Global, one: &Request, input: &[u8]) -> bool {
-    let other = request_with(rt, alloc, input);
-    let is_with = one.is(&other);
-    drop(other);
-    is_with
-}
-
-/// A request is its copy, and isn't one that differs in the last byte of its input.
-#[test]
-fn equal_requests(rt: HostRuntime) {
-    let one = request_with(&rt, rt.alloc(), b"ab");
-    see(&rt, is_copied(&rt, rt.alloc(), &one), "a copy");
-    see(&rt, !is_with(&rt, rt.alloc(), &one, b"ac"), "another input");
-    drop(one);
-}
-
-#[test]
-fn printed_refusal(rt: HostRuntime) {
-    assert!(rt; prints(&rt, rt.alloc(), &LogError::StaleNumber, "2 StaleNumber"));
-}
-
-#[test]
-fn laws_do_nothing(rt: HostRuntime) {
-    // The laws do nothing: they were proved when the crate was checked.
-    legal_lists();
-    folds();
-    replies();
-    pairs();
-    undoing();
-    classes_added();
-    adopting();
-    refusals();
-    objects_within_limits();
-    request_crosses();
-    entry_crosses();
-    table_crosses();
-    assert!(rt; LogError::InputTooLong.number() == 6 && LogError::NoClass.name() == "NoClass");
 }

@@ -1,10 +1,8 @@
-use super::checks::see;
-use super::nodes::{are_nodes, nodes};
-use super::printed::are_printed;
-use super::words::{halves, next_long, next_number};
+//! Which group an object has, and which nodes act for a group: the formulas, worked out by hand.
+use super::words::{halves, is_number, next, next_long, next_number, see};
 use placement::{
-    ClusterMap, GROUP_LIMIT, NodeId, PlacementError, acting, acting_sets as acting_sets_act,
-    group_of, has, is_acting, ranking, score,
+    ClusterMap, GROUP_LIMIT, NodeId, PlacementError, acting, are_nodes, group_of, has, is_acting,
+    score,
 };
 use std::alloc::Global;
 use std::process::Abort;
@@ -47,6 +45,27 @@ const LIMITS: &str = "0 3 64 0 | 0 1 | Limit
 64 3 64 1 | 0 1 | Limit
 0 0 0 0 | | NoneUp
 63 3 64 4294967295 | 15 | 15";
+
+/// The nodes of the numbers of a text.
+fn nodes<R: Abort>(rt: &R, alloc: Global, text: &str) -> Vec<NodeId> {
+    let mut nodes = Vec::new(alloc);
+    for word in text.split_whitespace() {
+        let number = word.parse::<u64>().expect(rt, "a node");
+        nodes.push(NodeId::new(number)).expect(rt, "memory");
+    }
+    nodes
+}
+
+/// True if nodes have the numbers of a text.
+fn have_numbers(nodes: &[NodeId], text: &str) -> bool {
+    let mut words = text.split_whitespace();
+    for node in nodes {
+        if !is_number(next(&mut words), node.get()) {
+            return false;
+        }
+    }
+    words.next().is_none()
+}
 
 /// True if a name belongs to this group, of 64 groups.
 fn is_group(name: &str, group: u64) -> bool {
@@ -95,7 +114,7 @@ fn name_of(error: PlacementError) -> &'static str {
 /// True if the acting set is these nodes, or is refused by an error of this name.
 fn are_acting(alloc: Global, map: &ClusterMap, group: u64, wanted: &str) -> bool {
     match acting(alloc, map, group) {
-        Ok(found) => are_nodes(&found, wanted),
+        Ok(found) => have_numbers(&found, wanted),
         Err(error) => name_of(error) == wanted,
     }
 }
@@ -128,21 +147,6 @@ fn refusals(rt: HostRuntime) {
     assert!(rt; GROUP_LIMIT == 64);
 }
 
-const REFUSALS: [PlacementError; 3] = [
-    PlacementError::NoneUp,
-    PlacementError::Limit,
-    PlacementError::NoMemory,
-];
-
-#[test]
-fn printed(rt: HostRuntime) {
-    let text = "1 NoneUp\n2 Limit\n3 NoMemory";
-    assert!(rt; are_printed(&rt, rt.alloc(), &REFUSALS, text));
-    // The laws do nothing: they were proved when the crate was checked.
-    ranking();
-    acting_sets_act();
-}
-
 /// Nodes, and `yes` if they may act: one to three, each below 16, none twice.
 const MAY_ACT: &str = "| no
 0 | yes
@@ -164,7 +168,7 @@ fn lists_that_may_act(rt: HostRuntime) {
 
 /// True if the number of a node is among these, and no number is there twice.
 fn is_among(nodes: &[NodeId], number: u64) -> bool {
-    placement::are_nodes(nodes) && has(NodeId::new(number), nodes)
+    are_nodes(nodes) && has(NodeId::new(number), nodes)
 }
 
 #[test]

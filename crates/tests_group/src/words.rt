@@ -1,6 +1,11 @@
-//! The words of a line.
+//! The words of a line, and checks that a line names.
 use std::process::Abort;
 use std::str::SplitWhitespace;
+
+/// Asserts that a line of a text is right, and names the line or the word if it is not.
+pub(super) fn see<R: Abort>(rt: &R, is_right: bool, line: &str) {
+    assert!(rt; is_right, "{line}");
+}
 
 /// The next word, or an empty one after the last.
 pub(super) fn next<'a>(words: &mut SplitWhitespace<'a>) -> &'a str {

@@ -1,71 +1,88 @@
-//! Collects the history of a run, which is judged, from the nodes and the callers.
+//! What the nodes of a run keep.
 
-use crate::caller::{Caller, names};
-use crate::trouble::Trouble;
-use crate::unrest::{acting_of, all_nodes};
+use crate::lines::log_line;
 use osd::{ClusterName, LoggedEntry, Running};
-use placement::NodeId;
-use std::alloc::Global;
+use placement::{ClusterMap, NodeId, acting};
+use std::alloc::{AllocError, Global};
 use std::sync::Wait;
-use tests_history::{Client, History, Kept};
 
-/// The most entries of a log.
-const LIMIT: usize = 65_536;
-
-/// The history of a run in which all nodes are up by the newest map. None if memory is refused, or
-/// a node doesn't tell.
-pub fn history_of<N: ClusterName, R: Wait>(
-    alloc: Global,
-    running: &Running<N, R>,
-    trouble: &Trouble,
-    callers: Vec<Caller>,
-) -> Option<History> {
-    let mut kept = Vec::new(alloc);
-    for group in 0..trouble.shape.config.groups {
-        kept.push(kept_of(alloc, running, trouble, group)?).ok()?;
+/// The nodes with the numbers below this.
+fn all_nodes(alloc: Global, count: u64) -> Result<Vec<NodeId>, AllocError> {
+    let mut nodes = Vec::new(alloc);
+    for number in 0..count {
+        nodes.push(NodeId::new(number))?;
     }
-    let mut groups = Vec::new(alloc);
-    for name in names(alloc, trouble.shape.objects)? {
-        groups.push(running.group_of(&name)).ok()?;
-    }
-    Some(History {
-        clients: clients(alloc, callers)?,
-        groups,
-        kept,
-        limit: LIMIT,
-    })
+    Ok(nodes)
 }
 
-/// The clients.
-fn clients(alloc: Global, callers: Vec<Caller>) -> Option<Vec<Client>> {
-    let mut clients = Vec::new(alloc);
-    for caller in callers {
-        let (number, made) = caller.into_calls();
-        clients.push(Client { number, made }).ok()?;
-    }
-    Some(clients)
-}
-
-/// The lists of the nodes that act for a group.
-pub fn kept_of<N: ClusterName, R: Wait>(
-    alloc: Global,
+/// A node's log of a group.
+fn log_of<N: ClusterName, R: Wait>(
     running: &Running<N, R>,
-    trouble: &Trouble,
-    group: u64,
-) -> Option<Kept> {
-    let up = all_nodes(alloc, trouble.shape.config.nodes).ok()?;
-    let mut lists = Vec::new(alloc);
-    for node in acting_of(alloc, trouble, up, group) {
-        lists.push(list_of(running, node, group)?).ok()?;
-    }
-    Some(Kept { lists })
-}
-
-/// A node's list of a group.
-fn list_of<N: ClusterName, R: Wait>(
-    running: &Running<N, R>,
-    node: NodeId,
+    node: u64,
     group: u64,
 ) -> Option<Vec<LoggedEntry>> {
-    running.logged(node, (group % 64) as usize).ok()
+    let group = usize::try_from(group).ok()?;
+    running.logged(NodeId::new(node), group).ok()
+}
+
+/// The lines of all logs. None if memory is refused, or a node doesn't tell.
+pub fn push_logs<N: ClusterName, R: Wait>(
+    alloc: Global,
+    running: &Running<N, R>,
+    texts: &mut Vec<String>,
+) -> Option<()> {
+    for node in 0..running.config().nodes {
+        push_logs_of(alloc, running, node, texts)?;
+    }
+    Some(())
+}
+
+/// The lines of a node's logs.
+fn push_logs_of<N: ClusterName, R: Wait>(
+    alloc: Global,
+    running: &Running<N, R>,
+    node: u64,
+    texts: &mut Vec<String>,
+) -> Option<()> {
+    for group in 0..running.config().groups {
+        let entries = log_of(running, node, group)?;
+        texts
+            .push(log_line(alloc, node, group, &entries).ok()?)
+            .ok()?;
+    }
+    Some(())
+}
+
+/// True if the nodes that act for each group where all are up keep one list.
+pub fn is_settled<N: ClusterName, R: Wait>(alloc: Global, running: &Running<N, R>) -> bool {
+    for group in 0..running.config().groups {
+        if is_one_list(alloc, running, group) != Some(true) {
+            return false;
+        }
+    }
+    true
+}
+
+/// True if the nodes that act for a group keep one list. None if memory is refused.
+fn is_one_list<N: ClusterName, R: Wait>(
+    alloc: Global,
+    running: &Running<N, R>,
+    group: u64,
+) -> Option<bool> {
+    let config = running.config();
+    let map = ClusterMap {
+        epoch: 1,
+        up: all_nodes(alloc, config.nodes).ok()?,
+        replicas: config.replicas,
+        groups: config.groups,
+    };
+    let nodes = acting(alloc, &map, group).ok()?;
+    let first = log_of(running, nodes.first()?.get(), group)?;
+    for node in &nodes {
+        let other = log_of(running, node.get(), group)?;
+        if first.as_slice() != other.as_slice() {
+            return Some(false);
+        }
+    }
+    Some(true)
 }

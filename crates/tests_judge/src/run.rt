@@ -1,70 +1,55 @@
-//! One run: a cluster, its workers, its callers and its unrest, each in a thread of its own.
+//! A run: a cluster, its workers, its callers and its unrest, each in a thread of its own.
 ghost use Rattle.std.specs.Prelude.{◌≡◌};
 
 use crate::caller::Caller;
 use crate::crossing::{caller_crosses, trouble_crosses, unrest_crosses};
-use crate::history::history_of;
-use crate::shape::Shape;
-use crate::totals::Totals;
+use crate::history::push_logs;
+use crate::lines::messages_line;
+use crate::plan::{Plan, PlannedClient};
 use crate::trouble::Trouble;
 use crate::unrest::Unrest;
 use osd::{ClusterName, ClusterParts, Running, running_crosses};
 use pg_log::ClassTable;
 use rados_client::Cluster;
-use std::alloc::{AllocError, Global};
+use std::alloc::Global;
 use std::marker::Brand;
 use std::sync::Wait;
 use std::thread::{Threads, for_each_mut, join};
 use std::time::Clock;
-use tests_history::{Fault, History, fault_of};
 
 /// The workers and the callers of a run, at most.
 const WORKERS: usize = 4;
 
-const CALLERS: usize = 64;
+const CALLERS: usize = 63;
 
-/// The remains of a run: its history, if memory sufficed, and the fault that its threads saw.
+/// What is left of a run: the lines of its history, and the fault that a thread saw.
 #[derive(Drop)]
-struct Played {
-    history: Option<History>,
-    said: Option<Fault>,
+pub struct Played {
+    pub texts: Vec<String>,
+    pub fault: Option<&'static str>,
 }
 
-/// Plays a run of that shape, adds to the totals, and tells what is wrong, if anything is.
+/// Plays a run, or says why not.
 pub fn run<R: AllocGlobal + Threads + Wait + Clock + Sync>(
     rt: &R,
-    shape: Shape,
-    totals: &mut Totals,
-) -> Result<Option<Fault>, AllocError> {
+    plan: Plan,
+) -> Result<Played, &'static str> {
     let alloc = rt.alloc();
-    let Ok(mut cluster) = Cluster::new(alloc, shape.config) else {
-        return Ok(Some(Fault::Said("no cluster")));
+    let callers = plan.clients.len().min(CALLERS) as u32;
+    if plan.clients.len() > CALLERS || plan.numbers.config.workers > WORKERS {
+        return Err("too many clients or workers");
+    }
+    let Ok(mut cluster) = Cluster::new(alloc, plan.numbers.config) else {
+        return Err("no cluster");
     };
     let Some((parts, table)) = cluster.start() else {
-        return Ok(Some(Fault::Said("no parts")));
+        return Err("no parts");
     };
-    let trouble = Trouble::new(shape);
-    let Some(played) = play(rt, parts, table, &trouble, totals) else {
-        return Ok(Some(Fault::Said("memory for the nodes is refused")));
-    };
-    totals.note_messages(trouble.counts());
-    judged(alloc, &played, totals)
-}
-
-/// The fault of a run that was played, if it has one.
-fn judged(
-    alloc: Global,
-    played: &Played,
-    totals: &mut Totals,
-) -> Result<Option<Fault>, AllocError> {
-    if let Some(fault) = played.said {
-        return Ok(Some(fault));
+    let trouble = Trouble::new(plan.numbers, callers);
+    match play(rt, parts, table, &trouble, plan) {
+        Some(played) => Ok(played),
+        None => Err("memory is refused"),
     }
-    let Some(history) = &played.history else {
-        return Ok(Some(Fault::Said("what nodes keep isn't told")));
-    };
-    totals.note_history(history);
-    fault_of(alloc, history)
 }
 
 fn play<R: AllocGlobal + Threads + Wait + Clock + Sync + Drop>(
@@ -72,9 +57,9 @@ fn play<R: AllocGlobal + Threads + Wait + Clock + Sync + Drop>(
     parts: ClusterParts,
     table: ClassTable,
     trouble: &Trouble,
-    totals: &mut Totals,
+    plan: Plan,
 ) -> Option<Played> {
-    play_named::<Brand, R>(rt, parts, table, trouble, totals)
+    play_named::<Brand, R>(rt, parts, table, trouble, plan)
 }
 
 /// Names the cluster, and plays on it.
@@ -83,7 +68,7 @@ fn play_named<N: ClusterName + Send + Sync, R: AllocGlobal + Threads + Wait + Cl
     parts: ClusterParts,
     table: ClassTable,
     trouble: &Trouble,
-    totals: &mut Totals,
+    plan: Plan,
 ) -> Option<Played>
     requires board { parts.board ≡ N.board }
     requires queues { parts.queues ≡ N.queues }
@@ -92,7 +77,7 @@ fn play_named<N: ClusterName + Send + Sync, R: AllocGlobal + Threads + Wait + Cl
 {
     let alloc = rt.alloc();
     let running = Running::<N, R>::named(alloc, rt, parts, table).ok()?;
-    play_served(alloc, &running, trouble, totals)
+    play_served(alloc, &running, trouble, plan)
 }
 
 /// Plays while all workers serve.
@@ -100,36 +85,46 @@ fn play_served<N: ClusterName + Send + Sync, R: Threads + Wait + Clock + Sync>(
     alloc: Global,
     running: &Running<N, R>,
     trouble: &Trouble,
-    totals: &mut Totals,
+    plan: Plan,
 ) -> Option<Played> {
-    let mut callers = callers(alloc, trouble)?;
-    let mut unrest = Unrest::new(alloc, trouble).ok()?;
+    let Plan {
+        numbers: _,
+        clients,
+        events,
+        calm,
+        is_calm: _,
+    } = plan;
+    let mut unrest = Unrest::new(alloc, events, calm);
+    let mut callers = callers(alloc, clients)?;
     play_all(alloc, running, trouble, &mut callers, &mut unrest);
-    totals.note_unrest(&unrest);
-    let said = said_by(&callers, &unrest);
-    let history = history_of(alloc, running, trouble, callers);
-    Some(Played { history, said })
+    let fault = fault_of(&callers, &unrest);
+    let mut texts = Vec::new(alloc);
+    texts.push(unrest.into_text()).ok()?;
+    for caller in callers {
+        texts.push(caller.into_text()).ok()?;
+    }
+    texts.push(messages_line(alloc, trouble).ok()?).ok()?;
+    push_logs(alloc, running, &mut texts)?;
+    Some(Played { texts, fault })
 }
 
 /// The callers of a run.
-fn callers(alloc: Global, trouble: &Trouble) -> Option<Vec<Caller>> {
+fn callers(alloc: Global, clients: Vec<PlannedClient>) -> Option<Vec<Caller>> {
     let mut callers = Vec::new(alloc);
-    for place in 0..trouble.shape.callers {
-        let random = trouble.shape.caller(place);
-        callers.push(Caller::new(alloc, random)).ok()?;
+    for client in clients {
+        callers.push(Caller::new(alloc, client)).ok()?;
     }
     Some(callers)
 }
 
 /// The fault that a thread saw, if one did.
-fn said_by(callers: &[Caller], unrest: &Unrest) -> Option<Fault> {
+fn fault_of(callers: &[Caller], unrest: &Unrest) -> Option<&'static str> {
     for caller in callers {
-        if let Some(text) = caller.fault {
-            return Some(Fault::Said(text));
+        if caller.fault.is_some() {
+            return caller.fault;
         }
     }
-    let text = unrest.fault?;
-    Some(Fault::Said(text))
+    unrest.fault
 }
 
 /// Serves by all workers until all callers are done.

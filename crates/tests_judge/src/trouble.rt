@@ -1,7 +1,6 @@
 //! The fate of a run's messages, and the numbers that its threads share.
 
-use crate::random::Random;
-use crate::shape::Shape;
+use crate::plan::Numbers;
 use osd::{DeliveryMode, Fate, Gate};
 use std::sync::atomic::{AtomicBool, AtomicU32, AtomicU64, Ordering};
 use std::thread::{sleep, yield_now};
@@ -15,10 +14,10 @@ const LOOKS: u32 = 6_000_000;
 
 const LOOK_MICROSECONDS: u64 = 50;
 
-/// The threads of a run share its shape, the fate of its messages, and how far all have come.
+/// The threads of a run share its numbers, the fate of its messages, and how far all have come.
 #[derive(Drop)]
 pub struct Trouble {
-    pub shape: Shape,
+    pub numbers: Numbers,
     /// Counts the beginnings and the ends of calls, in their order.
     ticks: AtomicU64,
     /// The number of callers that make calls in the trouble, and of those to be answered after it.
@@ -26,7 +25,7 @@ pub struct Trouble {
     ending: AtomicU32,
     /// No node is stopped any more, and the newest map has all nodes.
     is_calm: AtomicBool,
-    dropped: AtomicU64,
+    lost: AtomicU64,
     doubled: AtomicU64,
     late: AtomicU64,
 }
@@ -37,15 +36,15 @@ fn read(count: &AtomicU64) -> u64 {
 }
 
 impl Trouble {
-    /// Before a run of that shape.
-    pub fn new(shape: Shape) -> Trouble {
+    /// Before a run of these numbers, with so many callers.
+    pub fn new(numbers: Numbers, callers: u32) -> Trouble {
         Trouble {
-            shape,
+            numbers,
             ticks: AtomicU64::new(0),
-            calling: AtomicU32::new(shape.callers),
-            ending: AtomicU32::new(shape.callers),
+            calling: AtomicU32::new(callers),
+            ending: AtomicU32::new(callers),
             is_calm: AtomicBool::new(false),
-            dropped: AtomicU64::new(0),
+            lost: AtomicU64::new(0),
             doubled: AtomicU64::new(0),
             late: AtomicU64::new(0),
         }
@@ -81,10 +80,14 @@ impl Trouble {
         self.is_calm.store(true, Ordering::SeqCst);
     }
 
-    /// True if callers make no more calls in the trouble, since it is over. If a log is to be full
-    /// they go on.
+    /// True if callers go on until a log is full, also after the trouble.
+    pub fn goes_on(&self) -> bool {
+        self.numbers.rounds > 1
+    }
+
+    /// True if callers make no more calls in the trouble, since it is over.
     pub fn is_over(&self) -> bool {
-        self.is_calm.load(Ordering::SeqCst) && !self.shape.is_full()
+        self.is_calm.load(Ordering::SeqCst) && !self.goes_on()
     }
 
     /// Waits until the trouble is over. False where that doesn't come.
@@ -100,17 +103,20 @@ impl Trouble {
 
     /// The numbers of messages that were lost, doubled and late.
     pub fn counts(&self) -> (u64, u64, u64) {
-        (read(&self.dropped), read(&self.doubled), read(&self.late))
+        (read(&self.lost), read(&self.doubled), read(&self.late))
     }
 
-    /// A number below 1,024 that looks random, made of the run's seed, that party and that number.
-    fn chance(&self, who: u64, n: u64) -> u32 {
-        let seed = self.shape.seed.wrapping_add(self.shape.number);
-        Random::new(
-            seed.wrapping_add(n.wrapping_mul(0x9e37_79b9_7f4a_7c15)),
-            who,
-        )
-        .below(1_024)
+    /// A number below 1,024 that looks random, made of the run's seed and these numbers by
+    /// splitmix64's finalizer.
+    fn chance(&self, who: u64, n: u64) -> u64 {
+        let z = self
+            .numbers
+            .seed
+            .wrapping_add(who.wrapping_mul(0xd1b5_4a32_d192_ed03));
+        let z = z.wrapping_add(n.wrapping_mul(0x9e37_79b9_7f4a_7c15));
+        let z = (z ^ (z >> 30)).wrapping_mul(0xbf58_476d_1ce4_e5b9);
+        let z = (z ^ (z >> 27)).wrapping_mul(0x94d0_49bb_1331_11eb);
+        (z ^ (z >> 31)) % 1_024
     }
 }
 
@@ -120,16 +126,16 @@ impl Fate for Trouble {
         if self.is_over() {
             return DeliveryMode::Pass;
         }
-        let shares = self.shape.shares;
+        let numbers = &self.numbers;
         let chance = self.chance(worker as u64, n);
-        let doubled = shares.dropped.saturating_add(shares.doubled);
-        if chance < shares.dropped {
-            self.dropped.fetch_add(1, Ordering::SeqCst);
+        let doubled = numbers.lost.saturating_add(numbers.doubled);
+        if chance < numbers.lost {
+            self.lost.fetch_add(1, Ordering::SeqCst);
             DeliveryMode::Drop
         } else if chance < doubled {
             self.doubled.fetch_add(1, Ordering::SeqCst);
             DeliveryMode::Twice
-        } else if chance < doubled.saturating_add(shares.late) {
+        } else if chance < doubled.saturating_add(numbers.late) {
             self.late.fetch_add(1, Ordering::SeqCst);
             DeliveryMode::Late
         } else {
@@ -141,7 +147,7 @@ impl Fate for Trouble {
 /// Keeps some requests for a while.
 impl Gate for Trouble {
     fn before(&self, number: u64) {
-        if number == 0 || self.chance(number, read(&self.ticks)) >= self.shape.shares.kept {
+        if number == 0 || self.chance(number, read(&self.ticks)) >= self.numbers.kept {
             return;
         }
         for _ in 0..TURNS {

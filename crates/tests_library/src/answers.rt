@@ -89,25 +89,3 @@ fn each_answer(rt: HostRuntime) {
         assert!(rt; is_answered_twice(rt.alloc(), call));
     }
 }
-
-/// True if the class of an image with a byte changed is loaded, or refused at a place that it has.
-fn is_judged(alloc: Global, image: &[u8]) -> bool {
-    match load(alloc, image) {
-        Ok(class) => class.methods().len() == 1,
-        Err(ClassError::Image(error)) => error.methods <= 1,
-        Err(ClassError::Verdict(refusal)) => refusal.method == 0 && refusal.slot < 5,
-        Err(ClassError::NoMemory) => false,
-    }
-}
-
-/// An image with each byte changed to several values: each is loaded or refused.
-#[test]
-fn hostile_images(rt: HostRuntime) {
-    for at in 0..WRITE.len() {
-        for by in [1, 2, 16, 128, 255] {
-            let mut image = WRITE;
-            image[at] ^= by;
-            assert!(rt; is_judged(rt.alloc(), &image));
-        }
-    }
-}

@@ -1,15 +1,11 @@
-//! Tests alone, of the calls on bytes: flat forms, edits, answers, limits, parts that are left out,
-//! and a host in Rattle.
+//! Tests alone, of the calls on bytes: flat forms and edits, answers, limits, the parts that a
+//! method needs, and a host in Rattle.
 #![tactic(auto)]
 
 #[cfg(test)]
 mod answers;
 #[cfg(test)]
-mod code;
-#[cfg(test)]
-mod edits;
-#[cfg(test)]
-mod flat;
+mod bytes;
 #[cfg(test)]
 mod host;
 #[cfg(test)]

@@ -1,9 +1,9 @@
 //! Objects at their limits of data, xattrs and keys: forms, edits, and calls that would pass a
 //! limit.
 
-use crate::code::{begin, image_of, point, set, slot};
+use crate::bytes::is_form;
 use class_calls::{Answer, answer_on};
-use object_bytes::{FlatError, edits_of, flat_form, read_object};
+use object_bytes::{edits_of, read_object};
 use object_store::Object;
 use std::alloc::Global;
 
@@ -44,19 +44,30 @@ const SIZES: [(Size, bool); 7] = [
     ((0, 0, 1025), false),
 ];
 
-/// True if a form is read, and then written as it was; none if memory was refused.
-fn is_form(alloc: Global, form: &[u8]) -> Option<bool> {
-    match read_object(alloc, form) {
-        Ok(object) => Some(flat_form(alloc, object.as_ref()).ok()?.as_slice() == form),
-        Err(FlatError::Malformed) => Some(false),
-        Err(FlatError::NoMemory) => None,
-    }
+/// The flat form of an object of one xattr, of that many bytes of name and of value.
+fn long(alloc: Global, name: u8, value: u16) -> Option<Vec<u8>> {
+    let mut form = Vec::new(alloc);
+    form.extend_from_slice(&[1, 0, 0, 0, 0, 1, 0, name]).ok()?;
+    form.extend_from_slice(&vec![in alloc; 65; usize::from(name)].ok()?)
+        .ok()?;
+    form.extend_from_slice(&value.to_le_bytes()).ok()?;
+    form.extend_from_slice(&vec![in alloc; 66; usize::from(value)].ok()?)
+        .ok()?;
+    form.extend_from_slice(&[0, 0]).ok()?;
+    Some(form)
 }
+
+/// Bytes of a name and of a value, and whether an object may have them.
+const LENGTHS: [(u8, u16, bool); 3] = [(64, 4096, true), (65, 0, false), (1, 4097, false)];
 
 #[test]
 fn forms_at_the_limits(rt: HostRuntime) {
     for (size, expected) in &SIZES {
         let form = form(rt.alloc(), *size).expect(&rt, "memory");
+        assert!(rt; is_form(rt.alloc(), &form) == Some(*expected));
+    }
+    for (name, value, expected) in &LENGTHS {
+        let form = long(rt.alloc(), *name, *value).expect(&rt, "memory");
         assert!(rt; is_form(rt.alloc(), &form) == Some(*expected));
     }
 }
@@ -98,28 +109,37 @@ fn edits_at_the_limits(rt: HostRuntime) {
     }
 }
 
-/// The image of a method that calls a helper for its answer: `write` of the input's first byte at a
-/// place, or a set of the name that the input begins with to its third byte.
-fn asking(alloc: Global, helper: u32, place: u32) -> Option<Vec<u8>> {
-    let mut code = Vec::new(alloc);
-    begin(&mut code)?;
-    if helper == 3 {
-        set(&mut code, 1, place)?;
-        point(&mut code, 2, 7, 0)?;
-        set(&mut code, 3, 1)?;
-    } else {
-        point(&mut code, 1, 7, 0)?;
-        set(&mut code, 2, 2)?;
-        point(&mut code, 3, 7, 2)?;
-        set(&mut code, 4, 1)?;
-    }
-    slot(&mut code, 0x85, 0, helper)?;
-    slot(&mut code, 0x95, 0, 0)?;
-    image_of(alloc, &code)
+/// `f`, flags 3, at most 8 bytes of input: it writes the input's first byte at a place.
+#[rattlefmt::skip]
+fn writing(place: u32) -> [u8; 57] {
+    let [a, b, c, d] = place.to_le_bytes();
+    [
+        0x52, 0x43, 0x4c, 0x31, 1, 0, 0, 0, 1, 0x66, 3, 8, 0, 0, 0, 5, 0,
+        0xbf, 0x12, 0, 0, 0, 0, 0, 0, // mov r2, r1
+        0xb7, 0x01, 0, 0, a, b, c, d, // mov r1, place
+        0xb7, 0x03, 0, 0, 1, 0, 0, 0, // mov r3, 1
+        0x85, 0x00, 0, 0, 3, 0, 0, 0, // call 3
+        0x95, 0x00, 0, 0, 0, 0, 0, 0, // exit
+    ]
+}
+
+/// The same of a method that sets the name of two bytes that the input begins with to its third
+/// byte: the xattr by helper 7, the key by helper 10.
+#[rattlefmt::skip]
+fn setting(helper: u8) -> [u8; 65] {
+    [
+        0x52, 0x43, 0x4c, 0x31, 1, 0, 0, 0, 1, 0x66, 3, 8, 0, 0, 0, 6, 0,
+        0xb7, 0x02, 0, 0, 2, 0, 0, 0, // mov r2, 2
+        0xbf, 0x13, 0, 0, 0, 0, 0, 0, // mov r3, r1
+        0x07, 0x03, 0, 0, 2, 0, 0, 0, // add r3, 2
+        0xb7, 0x04, 0, 0, 1, 0, 0, 0, // mov r4, 1
+        0x85, 0x00, 0, 0, helper, 0, 0, 0, // call helper
+        0x95, 0x00, 0, 0, 0, 0, 0, 0, // exit
+    ]
 }
 
 /// Helper, place, name and value, an object's size; the answer, and how many bytes of edits.
-type Row = (u32, u32, &'static [u8], Size, i64, usize);
+type Row = (u8, u32, &'static [u8], Size, i64, usize);
 
 #[rattlefmt::skip]
 const ROWS: [Row; 11] = [
@@ -137,8 +157,12 @@ const ROWS: [Row; 11] = [
 ];
 
 fn answered(alloc: Global, row: &Row) -> Option<Answer> {
-    let image = asking(alloc, row.0, row.1)?;
-    answer_on(alloc, &image, b"f", &form(alloc, row.3)?, 1, row.2).ok()
+    let form = form(alloc, row.3)?;
+    if row.0 == 3 {
+        answer_on(alloc, &writing(row.1), b"f", &form, 1, row.2).ok()
+    } else {
+        answer_on(alloc, &setting(row.0), b"f", &form, 1, row.2).ok()
+    }
 }
 
 #[test]

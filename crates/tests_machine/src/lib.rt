@@ -1,16 +1,26 @@
-//! Only tests: calls of `interp`, and calls of verified methods compared with the plain run of
-//! their raw bytes, on generated programs.
+//! Only tests: calls of `interp` with answers from outside (RFC 9669, or computed by hand), calls
+//! at all limits, in one room, and the table of classes; and runs of raw bytes.
 #![tactic(auto)]
 
 #[cfg(test)]
-mod answers;
+mod helper_calls;
 #[cfg(test)]
-mod calls;
+mod limits;
 #[cfg(test)]
-mod classes;
+mod methods;
 #[cfg(test)]
-mod code;
+mod operations;
 #[cfg(test)]
-mod compared;
+mod parts;
 #[cfg(test)]
-mod contents;
+mod plain_runs;
+#[cfg(test)]
+mod programs;
+#[cfg(test)]
+mod rooms;
+#[cfg(test)]
+mod tables;
+#[cfg(test)]
+mod values;
+#[cfg(test)]
+mod words;

@@ -2,7 +2,7 @@
 //! once is taken.
 ghost use Rattle.std.specs.Prelude.{◌≡◌};
 
-use crate::history::account::{Asked, request, table};
+use crate::account::{PUT, request, table};
 use group_world::{
     Event, GroupMap, HandleError, Message, MessageKind, Messages, Packet, Party, Status,
 };
@@ -18,6 +18,10 @@ const FULL: u32 = 65_536;
 /// A number of a request in the middle.
 const SOME: u32 = 30_000;
 
+/// A list that each message shares is sent on so often in less than a second. A message that copies
+/// it would take minutes, and a test has one.
+const OFTEN: u32 = 200_000;
+
 /// Nodes 1, 2 and 3. Node 1 leads node 2, then node 3 leads node 2.
 #[derive(Drop)]
 struct Trio<C: Classes> {
@@ -30,14 +34,7 @@ struct Trio<C: Classes> {
 
 /// Client 1's request of that number, which puts 1 to an account: the answer is the number.
 fn put<R: Abort>(rt: &R, alloc: Global, number: u32) -> Event {
-    let asked = Asked {
-        client: 0,
-        number,
-        account: 0,
-        takes: false,
-        amount: 1,
-    };
-    Event::Request(request(rt, alloc, asked))
+    Event::Request(request(rt, alloc, 1, number, PUT))
 }
 
 /// The answer of a node to an event.
@@ -236,6 +233,9 @@ impl<C: Classes> Trio<C> {
         let log = one(rt, self.alloc, log);
         let install = answer(rt, table, &mut self.third, log);
         assert!(rt; has_full_list(&install));
+        for _time in 0..OFTEN {
+            assert!(rt; self.third.resend().expect(rt, "memory").items().len() == 1);
+        }
         let installs = self.third.resend().expect(rt, "memory").into_items();
         assert!(rt; installs.iter().all(|packet| has_full_list(packet)));
         let installed = answer(rt, table, &mut self.second, installs);

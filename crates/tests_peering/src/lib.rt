@@ -1,20 +1,21 @@
-//! Tests alone, of nodes and their monitor: the monitor's refusals, and long histories, made by
-//! chance. Runs by hand are files of events, which `tests_play` plays.
+//! Tests alone, of nodes and their monitor, and of the values under the locks of a cluster: a
+//! group's cell, and the book of maps. Runs by hand are files of events, which tests of the program
+//! play.
 #![tactic(auto)]
 
 #[cfg(test)]
-mod checks;
+mod account;
+#[cfg(test)]
+mod cell;
 #[cfg(test)]
 mod full;
 #[cfg(test)]
-mod history;
+mod laws;
+#[cfg(test)]
+mod maps;
+#[cfg(test)]
+mod messages;
 #[cfg(test)]
 mod monitor;
 #[cfg(test)]
-mod nodes;
-#[cfg(test)]
-mod reps;
-#[cfg(test)]
-mod theorem;
-#[cfg(test)]
-mod unusable;
+mod words;

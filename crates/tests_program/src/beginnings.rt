@@ -1,5 +1,6 @@
+use crate::ended::prints_on;
+use crate::folder::{Folder, TWO};
 use class_tool::Printer;
-use memory_folder::{Folder, TWO, run_on};
 use radoscls_program::{ExitStatus, end_of, program};
 use std::alloc::Global;
 use std::io::{self, ErrorKind, Write};
@@ -55,7 +56,7 @@ fn prints_beginning<R: Abort + AllocGlobal + Threads + Wait + Clock + Sync>(
 ) -> bool {
     let alloc = rt.alloc();
     let mut folder = Folder::of(alloc, TWO, text).expect(rt, "memory");
-    let made = run_on(rt, &["asm", "text", "image"], &mut folder).expect(rt, "memory");
+    let is_made = prints_on(rt, &["asm", "text", "image"], &mut folder, "", 0);
     let mut out = Filling {
         room,
         step,
@@ -67,7 +68,7 @@ fn prints_beginning<R: Abort + AllocGlobal + Threads + Wait + Clock + Sync>(
     let status = program(rt, &words, &mut folder, &mut printer, &mut err);
     let has_failed = printer.has_failed();
     let is_whole = text.len() <= room;
-    made.status == 0
+    is_made
         && out.taken.as_slice() == &text[..text.len().min(room)]
         && status == u8::from(!is_whole)
         && has_failed != is_whole

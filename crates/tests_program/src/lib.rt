@@ -1,25 +1,33 @@
-//! Tests alone, of the program on words, files and writers: the pages' examples, objects of words
-//! and of files, words that ask for nothing, and its end if standard output fails. And of `bench`'s
-//! tables.
+//! Tests alone, of the program on words, a folder in memory and writers: worked rows of its
+//! commands, its end if standard output fails, its threads, and what it measures by a clock that is
+//! made. And of calls below it: files of which contracts know what they hold, the lines of a file of
+//! events, the plan of a file of calls. Other rows of the commands are those of
+//! tools/process_rows.py, which run the program as a process.
 #![tactic(auto)]
 
 #[cfg(test)]
+mod answers;
+#[cfg(test)]
 mod beginnings;
 #[cfg(test)]
-mod bench;
+mod ended;
 #[cfg(test)]
-mod each;
+mod figures;
 #[cfg(test)]
-mod examples;
+mod folder;
 #[cfg(test)]
-mod explained;
+mod groups;
 #[cfg(test)]
-mod full_object;
+mod images;
 #[cfg(test)]
-mod objects;
+mod known;
 #[cfg(test)]
-mod pages;
+mod lines;
 #[cfg(test)]
-mod saved;
+mod plans;
 #[cfg(test)]
 mod streams;
+#[cfg(test)]
+mod texts;
+#[cfg(test)]
+mod threads;

@@ -25,53 +25,12 @@ fn few<R: Abort>(rt: &R, alloc: Global) -> SharedMap<u8> {
     map
 }
 
-/// True if the key `ab` has that value, and the map that many keys.
-fn is(map: &SharedMap<u8>, value: Option<u8>, len: usize) -> bool {
-    map.get(b"ab").copied() == value && map.len() == len
-}
-
 /// True if the lookups of some bytes give that value and that next key.
 fn is_read(map: &SharedMap<u8>, key: &[u8], value: Option<u8>, above: Option<&[u8]>) -> bool {
     map.get(key).copied() == value && map.key_above(key) == above
 }
 
-/// The number of rows before the first that is read otherwise.
-fn right_reads(map: &SharedMap<u8>) -> usize {
-    let mut count = 0usize;
-    for (key, value, above) in &READS {
-        if !is_read(map, *key, *value, *above) {
-            break;
-        }
-        count = count.saturating_add(1);
-    }
-    count
-}
-
-#[test]
-fn reads(rt: HostRuntime) {
-    let map = few(&rt, rt.alloc());
-    let (right, len) = (right_reads(&map), map.len());
-    drop(map);
-    assert!(rt; right == 8);
-    assert!(rt; len == 5);
-}
-
-/// The entries in the order of their keys.
-static IN_ORDER: [(&[u8], u8); 5] = [(b"", 3), (b"a", 4), (b"ab", 1), (b"abc", 5), (b"b", 2)];
-
-/// The number of rows before the first that the map has otherwise.
-fn right_places(map: &SharedMap<u8>) -> usize {
-    let mut count = 0usize;
-    for (key, value) in &IN_ORDER {
-        if !is_at(map, count, *key, *value) {
-            break;
-        }
-        count = count.saturating_add(1);
-    }
-    count
-}
-
-/// True if that key with that value is at a place.
+/// True if the key at a place is that one, with that value.
 fn is_at(map: &SharedMap<u8>, place: usize, key: &[u8], value: u8) -> bool {
     match map.nth(place) {
         None => false,
@@ -79,36 +38,28 @@ fn is_at(map: &SharedMap<u8>, place: usize, key: &[u8], value: u8) -> bool {
     }
 }
 
-#[test]
-fn places(rt: HostRuntime) {
-    let map = few(&rt, rt.alloc());
-    let (right, past) = (right_places(&map), map.nth(5).is_none());
-    drop(map);
-    assert!(rt; right == 5 && past);
+/// True if each row is read as it says, and the keys stand in their order.
+fn is_few(map: &SharedMap<u8>) -> bool {
+    let mut right = map.len() == 5 && map.nth(5).is_none();
+    for (key, value, above) in &READS {
+        right = right && is_read(map, *key, *value, *above);
+    }
+    right && is_at(map, 0, b"", 3) && is_at(map, 2, b"ab", 1) && is_at(map, 4, b"b", 2)
 }
 
-#[test]
-fn an_old_key_gets_a_new_value(rt: HostRuntime) {
-    let alloc = rt.alloc();
-    let mut map = few(&rt, alloc);
-    map.set(alloc, b"ab", 9).expect(&rt, "memory");
-    let right = is(&map, Some(9), 5);
-    drop(map);
-    assert!(rt; right);
-}
-
-/// Removes a key. True if a copy made before stays as it was.
+/// Sets a key anew and removes two. True if a copy made before stays as it was.
 fn copy_stays<R: Abort>(rt: &R, alloc: Global, map: &mut SharedMap<u8>) -> bool {
     let copy = map.copy().expect(rt, "memory");
+    map.set(alloc, b"b", 9).expect(rt, "memory");
     map.remove(alloc, b"ab").expect(rt, "memory");
     map.remove(alloc, b"none").expect(rt, "memory");
-    let stays = is(&copy, Some(1), 5);
+    let stays = is_few(&copy);
     drop(copy);
-    stays && is(map, None, 4)
+    stays && is_read(map, b"ab", None, Some(b"abc")) && is_at(map, 3, b"b", 9) && map.len() == 4
 }
 
 #[test]
-fn a_copy_stays_as_it_is(rt: HostRuntime) {
+fn each_call(rt: HostRuntime) {
     let alloc = rt.alloc();
     let mut map = few(&rt, alloc);
     let stays = copy_stays(&rt, alloc, &mut map);
@@ -118,9 +69,6 @@ fn a_copy_stays_as_it_is(rt: HostRuntime) {
 
 /// The number of keys of the high maps.
 const MANY: u16 = 1024;
-
-/// The most nodes on a way down that a map of that many keys may have.
-const LOW: u8 = 15;
 
 /// A map of the numbers below `MANY`, set in the order of the numbers xor that mask.
 fn many<R: Abort>(rt: &R, alloc: Global, mask: u16) -> SharedMap<u16> {
@@ -132,29 +80,14 @@ fn many<R: Abort>(rt: &R, alloc: Global, mask: u16) -> SharedMap<u16> {
     map
 }
 
-/// The fewest nodes on the longest way down of any tree of that many keys: one of ten nodes has at
-/// most 1,023.
-const LEAST: u8 = 11;
-
-/// True if a map has all numbers, that key the last one set, and the tree is low.
-fn is_low(map: &SharedMap<u16>, key: [u8; 2]) -> bool {
-    map.height() <= LOW
-        && map.height() >= LEAST
-        && map.len() == 1024
-        && map.get(&key).copied() == Some(1023)
-}
-
 /// Rising and falling keys: the mask, and the last one set.
 static ORDERS: [(u16, [u8; 2]); 2] = [(0, [3, 255]), (MANY - 1, [0, 0])];
 
-#[test]
-fn maps_stay_low(rt: HostRuntime) {
-    for (mask, last) in &ORDERS {
-        let map = many(&rt, rt.alloc(), *mask);
-        let low = is_low(&map, *last);
-        drop(map);
-        assert!(rt; low);
-    }
+/// True if a map has all numbers, that key the last one set, and the longest way down is short: a
+/// tree of ten nodes on each way has at most 1,023 keys.
+fn is_low(map: &SharedMap<u16>, key: [u8; 2]) -> bool {
+    let (len, height) = (map.len(), map.height());
+    len == 1024 && height >= 11 && height <= 15 && map.get(&key).copied() == Some(1023)
 }
 
 /// Removes all numbers but the last eight. True if the tree is low then.
@@ -166,10 +99,12 @@ fn is_low_when_cut<R: Abort>(rt: &R, alloc: Global, map: &mut SharedMap<u16>) ->
 }
 
 #[test]
-fn removals_keep_it_low(rt: HostRuntime) {
+fn maps_stay_low(rt: HostRuntime) {
     let alloc = rt.alloc();
-    let mut map = many(&rt, alloc, 0);
-    let low = is_low_when_cut(&rt, alloc, &mut map);
-    drop(map);
-    assert!(rt; low);
+    for (mask, last) in &ORDERS {
+        let mut map = many(&rt, alloc, *mask);
+        let low = is_low(&map, *last) && is_low_when_cut(&rt, alloc, &mut map);
+        drop(map);
+        assert!(rt; low);
+    }
 }

@@ -1,8 +1,9 @@
+//! The effect of a call on its object: staged, applied and undone.
+
 ghost use Rattle.std.specs.Prelude.{◌≡◌};
 
-use crate::pair::{Pair, is, is_empty, is_long, two_names};
-use crate::words::numbered;
-use object_store::{DATA_LIMIT, KEY_LIMIT, Object, ObjectName, Objects, StoreError, XATTR_LIMIT};
+use crate::objects::named;
+use object_store::{Object, ObjectName, Objects, StoreError};
 use std::alloc::Global;
 use std::process::Abort;
 use txn::{Change, Staged, apply, undo};
@@ -19,35 +20,15 @@ fn reads(object: Option<&Object>, at: u64, want: [u8; 4]) -> bool {
     }
 }
 
-/// The change that makes a new object: of full size, or with four bytes at 4,094.
-fn made<R: Abort>(rt: &R, alloc: Global, full: bool) -> Change {
+/// The change that makes an object of four bytes at 4,094.
+fn made<R: Abort>(rt: &R, alloc: Global) -> Change {
     let mut staged = Staged::over(None);
-    let done = if full {
-        fill(alloc, &mut staged)
-    } else {
-        staged.write(alloc, 4_094, b"abcd")
-    };
-    done.expect(rt, "memory");
+    staged.write(alloc, 4_094, b"abcd").expect(rt, "memory");
     staged.finish().expect(rt, "memory")
 }
 
-/// True if an object was made that has zeros before its bytes.
-fn has_gap(change: &Change) -> bool {
-    let object = change.after();
-    let made = change.before().is_none() && is_long(object, 4_098);
-    made && reads(object, 4_094, *b"abcd") && reads(object, 0, [0; 4])
-}
-
-#[test]
-fn a_gap_is_zero(rt: HostRuntime) {
-    let change = made(&rt, rt.alloc(), false);
-    let gap = has_gap(&change);
-    drop(change);
-    assert!(rt; gap);
-}
-
-// Cut bytes are not seen again, and the object that was staged has them still.
-fn reads_zeros<R: Abort>(rt: &R, alloc: Global, object: Option<&Object>) -> bool {
+/// Cuts the data and extends it. True if the cut bytes are zeros then.
+fn is_cut<R: Abort>(rt: &R, alloc: Global, object: Option<&Object>) -> bool {
     let mut staged = Staged::over(object);
     staged.truncate(alloc, 4_095).expect(rt, "memory");
     staged.truncate(alloc, 4_098).expect(rt, "memory");
@@ -56,210 +37,106 @@ fn reads_zeros<R: Abort>(rt: &R, alloc: Global, object: Option<&Object>) -> bool
     right
 }
 
-/// True if a cut is forgotten, and the object of the change stays.
-fn forgets<R: Abort>(rt: &R, alloc: Global, change: &Change) -> bool {
+/// True if the gap before the bytes is zeros, and a cut that is forgotten leaves them.
+fn has_gap<R: Abort>(rt: &R, alloc: Global, change: &Change) -> bool {
     let object = change.after();
-    reads_zeros(rt, alloc, object) && reads(object, 4_094, *b"abcd")
+    change.before().is_none()
+        && reads(object, 0, [0; 4])
+        && is_cut(rt, alloc, object)
+        && reads(object, 4_094, *b"abcd")
 }
 
 #[test]
-fn a_cut_is_forgotten(rt: HostRuntime) {
+fn a_gap_and_a_cut_are_zero(rt: HostRuntime) {
     let alloc = rt.alloc();
-    let change = made(&rt, alloc, false);
-    let forgotten = forgets(&rt, alloc, &change);
+    let change = made(&rt, alloc);
+    let right = has_gap(&rt, alloc, &change);
     drop(change);
-    assert!(rt; forgotten);
+    assert!(rt; right);
 }
 
-/// A step: the effect of a call on its object.
-#[derive(Clone, Copy)]
-enum Step {
-    Write,
-    Truncate,
-    SetXattr,
-    RemoveXattr,
-    SetKey,
-    RemoveKey,
-    Remove,
-    Renew,
-    MakeOne,
-    MakeOther,
-}
-
-/// The steps on an object that is there.
-static STEPS: [Step; 8] = [
-    Step::Write,
-    Step::Truncate,
-    Step::SetXattr,
-    Step::RemoveXattr,
-    Step::SetKey,
-    Step::RemoveKey,
-    Step::Remove,
-    Step::Renew,
-];
-
-/// Does a step. If it is refused the object stays.
-fn take(alloc: Global, staged: &mut Staged, step: Step) -> Result<(), StoreError>
+/// Stages an xattr and a key, each after another that is gone then.
+fn stage_names(alloc: Global, staged: &mut Staged, value: &[u8]) -> Result<(), StoreError>
     ensures { staged.new.before ≡ staged.old.before }
 {
-    match step {
-        Step::Write => staged.write(alloc, 1, b"xyz"),
-        Step::Truncate => staged.truncate(alloc, 1),
-        Step::SetXattr => staged.set_xattr(alloc, b"n", b"new"),
-        Step::RemoveXattr => staged.remove_xattr(alloc, b"n"),
-        Step::SetKey => staged.set_key(alloc, b"k", b"new"),
-        Step::RemoveKey => staged.remove_key(alloc, b"k"),
-        Step::Remove => {
-            staged.remove();
-            Ok(())
-        }
-        Step::Renew => {
-            staged.remove();
-            staged.create();
-            Ok(())
-        }
-        Step::MakeOne => stage(alloc, staged, b"abcd", b"value"),
-        Step::MakeOther => stage(alloc, staged, b"efgh", b"other"),
-    }
+    staged.set_xattr(alloc, b"gone", value)?;
+    staged.set_xattr(alloc, b"n", value)?;
+    staged.remove_xattr(alloc, b"gone")?;
+    staged.set_key(alloc, b"k", value)?;
+    staged.set_key(alloc, b"gone", value)?;
+    staged.remove_key(alloc, b"gone")
 }
 
-/// Applies a step to the object of a name.
+/// Stages a change of each part of an object that is made, or was removed and is made anew.
+fn stage(alloc: Global, staged: &mut Staged, value: &[u8]) -> Result<(), StoreError>
+    ensures { staged.new.before ≡ staged.old.before }
+{
+    staged.remove();
+    staged.create();
+    staged.write(alloc, 0, b"abcdef")?;
+    staged.truncate(alloc, 4)?;
+    stage_names(alloc, staged, value)
+}
+
+/// Applies such a change to the object of a name.
 fn step_on<R: Abort>(
     rt: &R,
     alloc: Global,
     objects: &mut Objects,
     name: &ObjectName,
-    step: Step,
+    value: &[u8],
 ) -> Change {
     let mut staged = Staged::over(objects.get(name));
-    // A refused step leaves the object as it is: a test sees that it didn't change.
-    let _ = take(alloc, &mut staged, step);
+    stage(alloc, &mut staged, value).expect(rt, "memory");
     let change = staged.finish().expect(rt, "memory");
     apply(alloc, objects, name, &change).expect(rt, "memory");
     change
 }
 
-/// True if an object has these data, this value of the xattr `n` and of the key `k`.
-fn holds(object: Option<&Object>, data: [u8; 4], value: &[u8]) -> bool {
-    let sized = is_long(object, 4) && reads(object, 0, data);
-    match object {
+/// True if the object is there with four bytes, one xattr and one key, both of that value.
+fn is_made(objects: &Objects, name: &ObjectName, value: &[u8]) -> bool {
+    let object = objects.get(name);
+    let right = match object {
         None => false,
-        Some(object) => sized && is(object.xattr(b"n"), value) && is(object.key(b"k"), value),
-    }
+        Some(object) => object.xattr(b"n") == Some(value) && object.key(b"k") == Some(value),
+    };
+    right && reads(object, 0, *b"abcd") && objects.len() == 1
 }
 
-/// Stages data, an xattr and a key. A part that is refused is missing in the object.
-fn stage(alloc: Global, staged: &mut Staged, data: &[u8], value: &[u8]) -> Result<(), StoreError>
-    ensures { staged.new.before ≡ staged.old.before }
-{
-    // A refusal is seen by the tests, which look for each part.
-    let _ = staged.write(alloc, 0, data);
-    let _ = staged.set_xattr(alloc, b"n", value);
-    staged.set_key(alloc, b"k", value)
-}
-
-/// Two objects, made one after the other; the tests change the first.
-fn two_objects<R: Abort>(rt: &R, alloc: Global) -> Pair {
-    let mut pair = two_names(rt, alloc);
-    let one = step_on(rt, alloc, &mut pair.objects, &pair.one, Step::MakeOne);
-    drop(one);
-    let other = step_on(rt, alloc, &mut pair.objects, &pair.other, Step::MakeOther);
-    drop(other);
-    pair
-}
-
-/// True if both objects are as they were made.
-fn is_as_made(pair: &Pair) -> bool {
-    holds(pair.objects.get(&pair.one), *b"abcd", b"value")
-        && holds(pair.objects.get(&pair.other), *b"efgh", b"other")
-        && pair.objects.len() == 2
-}
-
-/// True if a step changes the first object, and undoing it restores both.
-fn undoes<R: Abort>(rt: &R, alloc: Global, pair: &mut Pair, step: Step) -> bool {
-    let change = step_on(rt, alloc, &mut pair.objects, &pair.one, step);
-    let changed = !is_as_made(pair);
-    let done = undo(alloc, &mut pair.objects, &pair.one, &change);
+/// Applies such a change and undoes a copy of it. True if the object was so in between.
+fn undoes<R: Abort>(
+    rt: &R,
+    alloc: Global,
+    objects: &mut Objects,
+    name: &ObjectName,
+    value: &[u8],
+) -> bool {
+    let change = step_on(rt, alloc, objects, name, value);
+    let right = is_made(objects, name, value);
+    let copy = change.copy();
     drop(change);
+    let copy = copy.expect(rt, "memory");
+    let done = undo(alloc, objects, name, &copy);
+    drop(copy);
     done.expect(rt, "memory");
-    changed && is_as_made(pair)
+    right
 }
 
-/// The number of steps before the first that isn't undone.
-fn undone<R: Abort>(rt: &R, alloc: Global, pair: &mut Pair) -> usize {
-    let mut count = 0usize;
-    for step in &STEPS {
-        if !undoes(rt, alloc, pair, *step) {
-            break;
-        }
-        count = count.saturating_add(1);
-    }
-    count
+/// True if the change of an absent object and that of one that is there are undone.
+fn are_undone<R: Abort>(rt: &R, alloc: Global, objects: &mut Objects, name: &ObjectName) -> bool {
+    let absent = undoes(rt, alloc, objects, name, b"1") && objects.len() == 0;
+    let change = step_on(rt, alloc, objects, name, b"1");
+    drop(change);
+    absent && undoes(rt, alloc, objects, name, b"2") && is_made(objects, name, b"1")
 }
 
 #[test]
 fn undo_restores_what_was(rt: HostRuntime) {
     let alloc = rt.alloc();
-    let mut pair = two_objects(&rt, alloc);
-    let count = undone(&rt, alloc, &mut pair);
-    drop(pair);
-    assert!(rt; count == 8);
-}
-
-/// A copy of the change that creates an object.
-fn creation<R: Abort>(rt: &R, alloc: Global, objects: &mut Objects, name: &ObjectName) -> Change {
-    let change = step_on(rt, alloc, objects, name, Step::Write);
-    let copy = change.copy();
-    drop(change);
-    copy.expect(rt, "memory")
-}
-
-/// Creates the first object and undoes a copy of that change. True if the object was there in
-/// between.
-fn undoes_creation<R: Abort>(rt: &R, alloc: Global, pair: &mut Pair) -> bool {
-    let change = creation(rt, alloc, &mut pair.objects, &pair.one);
-    let created = is_long(pair.objects.get(&pair.one), 4);
-    let done = undo(alloc, &mut pair.objects, &pair.one, &change);
-    drop(change);
-    done.expect(rt, "memory");
-    created
-}
-
-/// True if the undone creation leaves nothing.
-fn leaves_nothing<R: Abort>(rt: &R, alloc: Global) -> bool {
-    let mut pair = two_names(rt, alloc);
-    let nothing = undoes_creation(rt, alloc, &mut pair) && is_empty(&pair);
-    drop(pair);
-    nothing
-}
-
-#[test]
-fn undo_makes_it_absent(rt: HostRuntime) {
-    assert!(rt; leaves_nothing(&rt, rt.alloc()));
-}
-
-/// Sets the key of a number, and while an object may have more xattrs, the xattr too.
-fn set_both(alloc: Global, staged: &mut Staged, n: u16, value: &[u8]) -> Result<(), StoreError> {
-    let name = numbered(n);
-    if usize::from(n) < XATTR_LIMIT {
-        staged.set_xattr(alloc, &name, value)?;
-    }
-    staged.set_key(alloc, &name, value)
-}
-
-/// Sets the most keys and xattrs that an object may have, with the longest names and values, and
-/// writes the last byte.
-fn fill(alloc: Global, staged: &mut Staged) -> Result<(), StoreError> {
-    for n in 0..KEY_LIMIT as u16 {
-        set_both(alloc, staged, n, &[0x5a; 4096])?;
-    }
-    staged.write(alloc, DATA_LIMIT as u64 - 1, b"z")
-}
-
-#[test]
-fn an_object_of_full_size(rt: HostRuntime) {
-    let change = made(&rt, rt.alloc(), true);
-    let long = is_long(change.after(), 65_536);
-    drop(change);
-    assert!(rt; long);
+    let mut objects = Objects::new();
+    let name = named(&rt, alloc, "a");
+    let undone = are_undone(&rt, alloc, &mut objects, &name);
+    drop(name);
+    drop(objects);
+    assert!(rt; undone);
 }

@@ -1,10 +1,8 @@
-//! Tests alone, of the verifier: what is known before a run of a number, and of the registers at a
-//! slot; verdicts on methods and classes. And a law that needs the machine and frames both: what a
-//! frame says of the stack's bytes.
+//! Tests alone, of the verifier: what is known before a run of a number, and verdicts on methods and
+//! classes. And a law that needs the machine and frames both: what a frame says of the stack's
+//! bytes.
 #![tactic(auto)]
 
-#[cfg(test)]
-mod frames;
 #[cfg(test)]
 mod numbers;
 mod slots;

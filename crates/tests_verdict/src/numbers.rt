@@ -1,7 +1,6 @@
 mod edges;
 mod parts;
 mod rows;
-mod small;
 
 use abstract_num::{Bits, Number, Product, SRange, URange};
 

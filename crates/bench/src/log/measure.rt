@@ -1,8 +1,8 @@
 ghost use mathlib.Core.List.{IsPrefix};
 
-use crate::timing::{Time, nanos_since, now};
+use crate::requests::lock_request;
+use crate::timing::{Least, Time, nanos_since, now};
 use anyhow::Result;
-use bench_table::{Least, lock_request};
 use builtin_classes::load_lock;
 use pg_log::{ClassTable, Classes, Group, GroupWork, Request, with_group};
 use std::alloc::Global;

@@ -1,6 +1,5 @@
-use crate::timing::{Time, least_of};
+use crate::timing::{Time, Work, least_of};
 use anyhow::{Error, Result};
-use bench_table::Work;
 use object_store::{Object, StoreError, calls};
 use std::alloc::Global;
 use std::time::Clock;

@@ -1,6 +1,6 @@
 use super::subject::Reading;
+use crate::timing::Work;
 use anyhow::Result;
-use bench_table::Work;
 use object_store::Object;
 use std::alloc::Global;
 

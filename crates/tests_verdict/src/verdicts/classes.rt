@@ -1,10 +1,9 @@
-//! Whole classes: which method is refused, what a verified one keeps, and every byte of an image.
+//! Whole classes: which method is refused, and what a verified one keeps.
 
 use super::{class, is_judged, method_of, put};
-use bpf_decode::{ClassImage, Method, RuleSet, encode, read_image};
+use bpf_decode::{ClassImage, Method, RuleSet};
 use bpf_machine::Caps;
 use bpf_ops::Op;
-use flat_machine::{Ending, Layout, Machine, RunStart, flat_run, is_layout};
 use std::alloc::Global;
 use verifier::{Refusal, Rule, VerifiedClass, VerifiedMethod, first_rule_set, one_table, verify};
 
@@ -18,12 +17,6 @@ const EXIT_ALONE: &str = "1 0 0: 9500000000000000 | exit";
 /// A method of flags 2, in_cap 3 and out_cap 4.
 const WRITER: &str =
     "2 3 4: 0500000000000000 1800000007000000 0000000000000000 9500000000000000 | ja +0; lddw r0, 7; exit";
-
-/// A method `f` of flags 1 and no input and output: `mov r0, 0`, `exit`.
-const IMAGE: [u8; 33] = [
-    0x52, 0x43, 0x4c, 0x31, 1, 0, 0, 0, 1, 0x66, 1, 0, 0, 0, 0, 2, 0, 0xb7, 0, 0, 0, 0, 0, 0, 0,
-    0x95, 0, 0, 0, 0, 0, 0, 0,
-];
 
 static RULES: [(Rule, &str); 17] = [
     (Rule::Backward, "1 Backward"),
@@ -214,89 +207,4 @@ fn keeps_what_is_declared(rt: HostRuntime) {
         None => false,
     };
     assert!(rt; kept);
-}
-
-/// True if a run on the flat machine with that input reaches its exit within that many steps.
-fn ends(alloc: Global, caps: &Caps, code: &[u8], input: &[u8], limit: usize) -> bool {
-    let layout = Layout {
-        input: 0x1000,
-        output: 0x4000,
-        stack: 0x8000,
-    };
-    if caps.in_cap > 4096 || caps.out_cap > 4096 || input.len() > usize::from(caps.in_cap) {
-        return false;
-    }
-    if !is_layout(caps, &layout) {
-        return false;
-    }
-    let machine = Machine::new(*caps, layout);
-    let start = RunStart {
-        object: None,
-        caller: 1,
-        input,
-    };
-    match flat_run(alloc, &machine, code, &start, limit) {
-        Ok(ending) => matches!(ending, Ending::Ended { .. }),
-        Err(_) => false,
-    }
-}
-
-/// True if a method with that input reaches its exit.
-fn exits(alloc: Global, method: &Method, caps: &Caps, input: &[u8]) -> bool {
-    let instructions = method.instructions();
-    match encode(alloc, instructions) {
-        Ok(code) => ends(alloc, caps, &code, input, instructions.len()),
-        Err(_) => false,
-    }
-}
-
-/// True if a method reaches its exit on an empty input, and on the longest.
-fn exits_on_inputs(alloc: Global, method: &Method, caps: &Caps) -> bool {
-    let most = [0xffu8; 4096];
-    match most.get(..usize::from(caps.in_cap)) {
-        Some(input) => exits(alloc, method, caps, &[]) && exits(alloc, method, caps, input),
-        None => false,
-    }
-}
-
-/// True if a class that was accepted has one method, which reaches its exit.
-fn its_method_exits(alloc: Global, class: &VerifiedClass, image: &ClassImage) -> bool {
-    match (class.methods(), image.methods()) {
-        ([verified], [method]) => exits_on_inputs(alloc, method, &verified.caps()),
-        _ => false,
-    }
-}
-
-/// True if the one method of a class reaches its exit; None if the class isn't accepted.
-fn exits_if_verified(alloc: Global, image: &ClassImage) -> Option<bool> {
-    match verify(alloc, image) {
-        Ok(class) => Some(its_method_exits(alloc, &class, image)),
-        Err(_) => None,
-    }
-}
-
-/// True if the one method of an image reaches its exit; None if the bytes are no image of a class
-/// that is accepted.
-fn exits_if_accepted(alloc: Global, bytes: &[u8]) -> Option<bool> {
-    match read_image(alloc, bytes) {
-        Ok(image) => exits_if_verified(alloc, &image),
-        Err(_) => None,
-    }
-}
-
-#[test]
-fn runs_what_it_accepts(rt: HostRuntime) {
-    let mut accepted = 0usize;
-    for place in 0..IMAGE.len() {
-        for byte in 0..=255u8 {
-            let mut bytes = IMAGE;
-            bytes[place] = byte;
-            if let Some(exits) = exits_if_accepted(rt.alloc(), &bytes) {
-                assert!(rt; exits);
-                accepted = accepted.wrapping_add(1);
-            }
-        }
-    }
-    // the image as it stands, 33 times, and others
-    assert!(rt; accepted > 33);
 }

@@ -1,9 +1,10 @@
-//! The longest methods and the largest class.
+//! The longest methods, the longest jumps, and the largest class.
 
 use super::{Declared, is_judged, method, put};
 use abstract_regs::{Frame, Kind};
 use bpf_decode::{ClassImage, Insn, Method, Region, RuleSet};
 use std::alloc::{AllocError, Global};
+use std::process::Abort;
 use verifier::{RefusedSlot, Rule, refused_slot, verify};
 
 const MOV_R0_0: u64 = 0xb700000000000000;
@@ -113,6 +114,107 @@ fn takes_each_slot_once(rt: HostRuntime) {
     for row in &ROWS {
         assert!(rt; is_longest_judged(rt.alloc(), row), "{}", row.3);
     }
+}
+
+/// The number of branches of a method with long jumps.
+const BRANCHES: u16 = 2000;
+
+/// Puts `jeq r2, N` for each N below 2,000. With one target each goes to the slot after all of
+/// them, else each goes 2,000 slots ahead, to a slot of its own.
+fn put_branches(code: &mut Vec<u8>, has_one_target: bool) -> Result<(), AllocError> {
+    for n in 0..BRANCHES {
+        let passed = if has_one_target { n } else { 0 };
+        let [d0, d1] = (BRANCHES - 1).wrapping_sub(passed).to_le_bytes();
+        let [n0, n1] = n.to_le_bytes();
+        code.extend_from_slice(&[0x15, 0x02, d0, d1, n0, n1, 0, 0])?;
+    }
+    Ok(())
+}
+
+/// Writes a first slot, 2,000 branches, the slots to which they go, if they are told, and `exit`.
+fn put_far(code: &mut Vec<u8>, first: u64, landing: Option<u64>) -> Result<(), AllocError> {
+    code.extend_from_slice(&first.to_be_bytes())?;
+    put_branches(code, landing.is_none())?;
+    if let Some(landing) = landing {
+        for _ in 0..BRANCHES {
+            code.extend_from_slice(&landing.to_be_bytes())?;
+        }
+    }
+    code.extend_from_slice(&EXIT.to_be_bytes())
+}
+
+/// A method with those slots and the greatest caps.
+fn far(alloc: Global, first: u64, landing: Option<u64>) -> Option<Method> {
+    let mut code = Vec::new(alloc);
+    if put_far(&mut code, first, landing).is_err() {
+        return None;
+    }
+    method(alloc, "f", &code, GREATEST)
+}
+
+const ADD_R0_1: u64 = 0x0700000001000000;
+
+/// `stxdw [r10-8], r1`
+const SPILL_R1: u64 = 0x7b1af8ff00000000;
+
+/// `ldxdw r0, [r10-8]`
+const LOAD_R0: u64 = 0x79a0f8ff00000000;
+
+/// A rule set, the first slot, and the slot that stands at each branch's target, or none if all go
+/// to the `exit`; and the verdict.
+type Far = (RuleSet, u64, Option<u64>, &'static str);
+
+#[rattlefmt::skip]
+const TO_ONE_EXIT: [Far; 6] = [
+    (RuleSet::One, MOV_R0_0, None, "ok"),
+    (RuleSet::Two, MOV_R0_0, None, "ok"),
+    (RuleSet::One, MOV_R0_R1, None, "2001:15"),
+    (RuleSet::Two, MOV_R0_R1, None, "2001:15"),
+    (RuleSet::One, SPILL_R1, None, "0:9"),
+    (RuleSet::Two, SPILL_R1, None, "2001:5"),
+];
+
+#[rattlefmt::skip]
+const TO_TARGETS: [Far; 6] = [
+    (RuleSet::One, MOV_R0_0, Some(ADD_R0_1), "ok"),
+    (RuleSet::Two, MOV_R0_0, Some(ADD_R0_1), "ok"),
+    (RuleSet::One, MOV_R0_R1, Some(ADD_R0_1), "4001:15"),
+    (RuleSet::Two, MOV_R0_R1, Some(ADD_R0_1), "4001:15"),
+    (RuleSet::One, SPILL_R1, Some(LOAD_R0), "0:9"),
+    (RuleSet::Two, SPILL_R1, Some(LOAD_R0), "4001:15"),
+];
+
+/// True if `verify` gives the row's verdict on a class of its method.
+fn is_far_judged(alloc: Global, row: &Far) -> bool {
+    let mut methods = Vec::new(alloc);
+    if !put(&mut methods, far(alloc, row.1, row.2)) {
+        return false;
+    }
+    match ClassImage::new(methods, row.0) {
+        Ok(class) => is_judged(alloc, &class, 0, row.3),
+        Err(_) => false,
+    }
+}
+
+/// Asserts that `verify` gives the verdicts of these rows.
+fn assert_all(rt: &impl Abort, alloc: Global, rows: &[Far]) {
+    for row in rows {
+        assert!(rt; is_far_judged(alloc, row), "{}", row.3);
+    }
+}
+
+/// Each branch compares the length, at most 4,096, with another number below 2,000, so that both of
+/// its edges may be taken: 2,000 flows meet at one slot. What is known before the branches is known
+/// after them: register 0 holds a number or the input's place.
+#[test]
+fn meets_far_ahead(rt: HostRuntime) {
+    assert_all(&rt, rt.alloc(), &TO_ONE_EXIT);
+}
+
+/// The same with 2,000 flows that wait for a slot each. By rule set 2 they know the stack too.
+#[test]
+fn goes_far_ahead(rt: HostRuntime) {
+    assert_all(&rt, rt.alloc(), &TO_TARGETS);
 }
 
 /// True if `exit` is refused at the last of 4,096 slots, and before it register 0 and the highest

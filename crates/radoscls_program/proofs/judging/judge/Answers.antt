@@ -13,5 +13,5 @@ pub returns : goal.returns
 returns g c =
     let out = stream g.O.Output.printed g.O.Output.failed in
     unjudged (g.F.Reads.disk c.args.files.now) (out c.args.out.now) (out c.tell.new.out) c.args.image.now c.args.is_explained c.in-Err.failure
-    (string_bytes c.verify_each.new.note) c.note_if.result.now c.in-Err.ensures.err c.in-Err.ensures.noted
-    (rw c.deref.ensures at c.note_if.ensures) c.tell.ensures
+    (string_bytes c.verify_each.new.note) c.in-Err.ensures.err c.in-Err.ensures.noted
+    (rw c.deref.ensures at c.tell.ensures)

@@ -1,0 +1,2 @@
+-- A reader must believe Escaped.
+pub mod Escaped

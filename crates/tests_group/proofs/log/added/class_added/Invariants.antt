@@ -1,4 +1,0 @@
-use Rattle.tests_group.proofs.log.added.class_added.Given as goal
-
-abbrev pub ghosts-adds : goal.ghosts-adds
-ghosts-adds g a = record { classes = a.table }
