@@ -8,12 +8,14 @@
 #     ceph/cluster.sh osd DIR N      starts OSD N again
 #
 # Then `ceph -c DIR/ceph.conf ..`, `rados -c DIR/ceph.conf -p bpf ..` and `radosbpf -c DIR/ceph.conf
-# -p bpf ..` reach it. `client.admin` may do all, `client.tenant` may call the method `exec` of the
-# class `bpf` and nothing else.
+# -p bpf ..` reach it. `client.admin` may do all, `client.tenant` may call the methods `exec` and
+# `query` of the class `bpf`, in the pool's namespace `tenant`, and nothing else, and `client.adder` the
+# method `add` of the class `counter` in the pool.
 #
-# Of the environment: CLASSES is the folder of the OSDs' classes (Ceph's own), STORE what they keep
-# objects in (bluestore; memstore forgets all at a kill), CPUS the processors that they run on, as
-# `taskset` takes them (all), EXTRA lines that end ceph.conf.
+# Of the environment: CLASSES is the folder of the OSDs' classes (Ceph's own), LISTED names classes
+# that they may open besides the shipped ones and `bpf` (none), STORE what they keep objects in
+# (bluestore; memstore forgets all at a kill), CPUS the processors that they run on, as `taskset`
+# takes them (all), EXTRA lines that end ceph.conf.
 set -eu
 here=$(cd "$(dirname "$0")" && pwd)
 command=${1-} dir=$(realpath -m "${2:-.}") number=${3-}
@@ -23,6 +25,9 @@ usage() {
     sed -n 's/^# *\(ceph\/cluster.sh\)/\1/p' "$here/cluster.sh" >&2
     exit 2
 }
+
+# The classes that an OSD opens as it is shipped. `ceph-osd` is asked for them without a cluster.
+shipped_classes() { ceph-osd --show-config-value osd_class_load_list -c /dev/null; }
 
 # No `ceph` command is waited for forever: without a monitor it would try on, and some hang without
 # a manager.
@@ -141,8 +146,7 @@ osd scrub end hour = 1
 osd max scrubs = 4
 osd class update on start = false
 osd class dir = ${CLASSES:-/usr/lib/$(uname -m)-linux-gnu/rados-classes}
-osd class load list = *
-osd class default list = cephfs hello journal lock log numops lua rbd refcount version
+osd class load list = $(shipped_classes) bpf ${LISTED-}
 debug objclass = 1
 ${EXTRA-}
 END
@@ -162,7 +166,9 @@ make_keys() {
     ceph-authtool "$dir/keyring" --create-keyring > /dev/null
     key mon. mon 'allow *'
     key client.admin mon 'allow *' mgr 'allow *' osd 'allow *'
-    key client.tenant mon 'allow r' osd 'allow class bpf exec'
+    place='pool=bpf namespace=tenant'
+    key client.tenant mon 'allow r' osd "allow class bpf exec $place, allow class bpf query $place"
+    key client.adder mon 'allow r' osd 'allow class counter add pool=bpf'
     key mgr.x mon 'allow profile mgr' osd 'allow *'
     for number in 0 1 2; do
         key "osd.$number" mon 'allow profile osd' mgr 'allow profile osd' osd 'allow *'
@@ -173,8 +179,8 @@ start_monitor() {
     monmaptool --create --fsid "$fsid" --addv a "[$monitor]" "$dir/monmap" > /dev/null
     ceph-mon -c "$conf" --mkfs -i a --monmap "$dir/monmap" --keyring "$dir/keyring"
     daemon mon ceph-mon -c "$conf" -i a -f
-    answers() { ceph_within 5 mon stat > /dev/null 2>&1; }
-    await 60 answers
+    answers() { ceph_within 20 mon stat > /dev/null 2>&1; }
+    await 120 answers
 }
 
 start_osds() {
@@ -199,7 +205,7 @@ start() {
     start_osds
     ceph_within 60 osd pool create bpf 16 16 replicated > /dev/null 2>&1
     ceph_within 20 osd pool application enable bpf rados > /dev/null 2>&1
-    clean() { ceph_within 10 pg stat 2> /dev/null | grep -qE '^([0-9]+) pgs: \1 active\+clean;'; }
+    clean() { ceph_within 20 pg stat 2> /dev/null | grep -qE '^([0-9]+) pgs: \1 active\+clean;'; }
     await 120 clean
     echo "a cluster in $dir: $(ceph_within 20 osd stat)"
 }

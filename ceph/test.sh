@@ -1,15 +1,19 @@
 #!/usr/bin/env bash
 # Tests the plug-in, as a package, in a real Ceph cluster of Debian's packages on 127.0.0.1. Some
-# six minutes; the last line is `ok` or `failed`.
+# ten minutes; the last line is `ok` or `failed`.
 #
-#     ceph/test.sh      as root: it installs the packages that are missing, and the plug-in's own,
-#                       which it removes again
+#     ceph/test.sh                 as root: it installs the packages that are missing, and the
+#                                  plug-in's own, which it removes again
+#     ceph/test.sh --release 18    the same in the folder of ceph/chroot.sh, with the packages that are
+#                                  built here: one package is for all releases
 #
 # Whatever can't be run is a failure. It keeps all in a folder under /tmp, which it removes, and
 # ends the processes that it started by their ids.
 #
 # Of the environment: that of ceph/build.sh, and RADOSCLS, the program
-# (crates/radoscls/out/radoscls). KEEP=1 keeps the folder.
+# (crates/radoscls/out/radoscls). KEEP=1 keeps the folder. CHROOT is the folder of ceph/chroot.sh
+# (/var/tmp/sillarnica-chroot). PACKAGES is a folder of packages of the plug-in and of a class, which are
+# installed in place of those that are built.
 set -u
 here=$(cd "$(dirname "$0")" && pwd)
 top=$(dirname "$here")
@@ -19,19 +23,53 @@ export SILLARNICA_LIBC=${SILLARNICA_LIBC:-$(dirname "$(rt doc)")/c/liblibc_c.a}
 radoscls=${RADOSCLS:-$top/crates/radoscls/out/radoscls}
 work=$(mktemp -d /tmp/sillarnica-ceph.XXXXXX)
 cluster=$work/cluster libraries=/usr/lib/$(uname -m)-linux-gnu
+folder=$libraries/rados-classes
+# Classes that are installed, and files in the folder that are none, besides `counter`, a package.
+natives=(helpers count lock.2) odd=(cut none bpf.old link)
 # The tests take the cluster and the command from here, and nothing of the caller's settings.
 export CEPH_CONF=$cluster/ceph.conf RADOSBPF=/usr/bin/radosbpf PYTHONDONTWRITEBYTECODE=1
-unset CLASSES STORE EXTRA
+unset CLASSES LISTED STORE EXTRA
 bad=0
-packages=(g++ binutils python3 man-db bash-completion ceph-base ceph-common ceph-mgr ceph-mon ceph-osd
+packages=(g++ binutils python3 python3-rados man-db bash-completion ceph-base ceph-common ceph-mgr ceph-mon ceph-osd
     librados2 librados-dev libradospp-dev rados-objclass-dev)
 
+# Runs all of it in a folder with another release of Ceph.
+other_release() {
+    local root=${CHROOT:-/var/tmp/sillarnica-chroot} to
+    "$here/chroot.sh" "$root" || exit 1
+    chroot "$root" ceph-osd --version | grep -q "version $1\\." || { echo "$root has no Ceph $1"; exit 1; }
+    to=$root/srv/sillarnica
+    rm -rf "$to"
+    mkdir -p "$to"
+    cp -r "$here" "$top/docs" "$top/include" "$top/examples" "$top/LICENSE" "$to"
+    cp "$SILLARNICA_ARCHIVE" "$SILLARNICA_LIBC" "$radoscls" "$to"
+    "$here/package.sh" "$to/packages" && "$here/package.sh" "$to/packages" --class "$here/classes/counter.img" || exit 1
+    trap 'umount "$root/dev" "$root/proc"; rm -rf "$to" "$work"' EXIT
+    mount --bind /proc "$root/proc"
+    mount --bind /dev "$root/dev"
+    chroot "$root" env -i HOME=/root LANG=C.UTF-8 PATH=/usr/sbin:/usr/bin:/sbin:/bin \
+        SILLARNICA_ARCHIVE="/srv/sillarnica/$(basename "$SILLARNICA_ARCHIVE")" \
+        SILLARNICA_LIBC="/srv/sillarnica/$(basename "$SILLARNICA_LIBC")" SILLARNICA_INCLUDE=/srv/sillarnica/include \
+        RADOSCLS="/srv/sillarnica/$(basename "$radoscls")" PACKAGES=/srv/sillarnica/packages /srv/sillarnica/ceph/test.sh
+    exit
+}
+
+case $#,${1-} in
+    0,) ;;
+    2,--release) other_release "$2" ;;
+    *) sed -n 's/^#  *\(ceph\/\)/\1/p' "$0" >&2; exit 2 ;;
+esac
+
 finish() {
-    local job
+    local job name
     trap - EXIT
     for job in $(jobs -p); do kill "$job" 2> /dev/null; done
     "$here/cluster.sh" stop "$cluster"
-    if [ -n "${installed-}" ]; then dpkg --purge sillarnica-ceph > /dev/null 2>&1; fi
+    if [ -n "${installed-}" ]; then
+        for name in "${natives[@]}"; do radosbpf uninstall "$name" > /dev/null 2>&1; done
+        for name in "${odd[@]}" bpf; do rm -f "$folder/libcls_$name.so" "$folder/$name".{img,sent}; done
+        dpkg --purge sillarnica-class-counter sillarnica-ceph > /dev/null 2>&1
+    fi
     if [ -n "${KEEP-}" ]; then echo "all is in $work"; else rm -rf "$work"; fi
     if [ "$1" = 0 ]; then echo ok; else echo failed; fi
     exit "$1"
@@ -73,12 +111,12 @@ await() {
     done
 }
 
-is_clean() { ceph_within 10 pg stat | grep -qE '^([0-9]+) pgs: \1 active\+clean;'; }
+is_clean() { ceph_within 20 pg stat | grep -qE '^([0-9]+) pgs: \1 active\+clean;'; }
 
 # A command's status, and all that it prints, in one line.
 said() {
     local printed
-    printed=$(timeout 60 "$@" 2>&1 < /dev/null)
+    printed=$(timeout "${WITHIN:-60}" "$@" 2>&1 < /dev/null)
     echo "$? ${printed//$'\n'/, }"
 }
 
@@ -99,7 +137,7 @@ install_packages() {
 make_images() {
     local name
     mkdir "$work/images"
-    for name in lock reads; do
+    for name in lock reads counter; do
         "$radoscls" asm "$here/classes/$name.txt" "$work/$name.img"
         cmp "$work/$name.img" "$here/classes/$name.img"
         want "$name.img is the image of $name.txt" $? 0
@@ -114,28 +152,38 @@ try_build() {
     printf '#!/bin/sh\necho ceph version 17.2.0\n' > "$none/bin/ceph-osd"
     chmod +x "$none/bin/ceph-osd"
     want "a build for another release" "$(PATH=$none/bin:$PATH said "$here/build.sh" "$none/out")" \
-        "1 ceph/build.sh: this is Ceph 17.2.0, and the plug-in is for 16"
+        "1 ceph/build.sh: this is Ceph 17.2.0, and the plug-in is for 16, 18"
     {
         echo 'int missing(void); int sillarnica_version(void) { return missing(); }'
-        printf 'int sillarnica_%s(void) { return 0; }\n' verify explain needs call
+        printf 'int sillarnica_%s(void) { return 0; }\n' verify explain needs call verified_open verified_call
     } > "$none/none.c"
     gcc -fPIC -c "$none/none.c" -o "$none/none.o" && ar rcs "$none/none.a" "$none/none.o"
-    want "a name that the OSD doesn't export" "$(SILLARNICA_ARCHIVE=$none/none.a said "$here/build.sh" "$none/out")" \
+    want "a name that the OSD doesn't export" "$(WITHIN=300 SILLARNICA_ARCHIVE=$none/none.a said "$here/build.sh" "$none/out")" \
         "1 ceph/build.sh: this Ceph doesn't export missing"
-    timeout 200 "$here/package.sh" "$work/package" > "$work/log" 2>&1 || stop_at "there is no package"
+    timeout 300 "$here/package.sh" "$work/package" > "$work/log" 2>&1 || stop_at "there is no package"
 }
 
 install_package() {
     local file
     installed=yes
+    if [ -n "${PACKAGES-}" ]; then cp "$PACKAGES"/*.deb "$work/package"; fi
     dpkg -i "$work"/package/sillarnica-ceph_*.deb > "$work/log" 2>&1 || stop_at "the package can't be installed"
-    for file in "$libraries/rados-classes/libcls_bpf.so" /usr/bin/radosbpf /usr/share/man/man1/radosbpf.1.gz \
+    for file in "$folder"/{libcls_bpf,sillarnica_engine,sillarnica_calls}.so /usr/bin/radosbpf /usr/share/man/man1/radosbpf.1.gz \
         /usr/share/bash-completion/completions/radosbpf /usr/share/doc/sillarnica-ceph/CEPH.md; do
         want "the package has $file" "$(dpkg -S "$file" 2>&1)" "sillarnica-ceph: $file"
     done
+    timeout 200 "$here/package.sh" "$work/package" --class "$here/classes/counter.img" > "$work/log" 2>&1 ||
+        stop_at "there is no package of a class"
+    if [ -n "${PACKAGES-}" ]; then cp "$PACKAGES"/*.deb "$work/package"; fi
+    dpkg -i "$work"/package/sillarnica-class-counter_1_*.deb > "$work/log" 2>&1 ||
+        stop_at "a class's package can't be installed"
+    for file in "$folder"/{libcls_counter.so,counter.img}; do
+        want "a class's package has $file" "$(dpkg -S "$file" 2>&1)" "sillarnica-class-counter: $file"
+    done
     want "the man page" "$(man --warnings -P cat radosbpf 2>&1 | head -n 1 | tr -s ' ')" \
         "RADOSBPF(1) User Commands RADOSBPF(1)"
-    want "the completion" "$(completed radosbpf -p bpf lo)" "load"
+    want "the completion" "$(completed radosbpf -p bpf -N tenant lo)" "load"
+    want "the completion of an option" "$(completed radosbpf --na)" "--namespace --name"
     want "the completion of a class" "$(cd "$here/classes" && completed radosbpf -p bpf call a @lock.i)" "@lock.img"
 }
 
@@ -145,33 +193,76 @@ completed() {
         COMP_WORDS=("$@") COMP_CWORD=$(($# - 1)); _radosbpf; echo "${COMPREPLY[@]}"' - "$@"
 }
 
-# The plug-in's own functions over a stand-in of the OSD's calls, with the compiler's tests of
-# memory and of arithmetic.
+# The plug-in over a stand-in of the OSD's calls, with the compiler's tests of memory and of
+# arithmetic, and of threads.
 try_stand_in() {
-    local program=$work/stand_in
-    g++ -std=c++17 -g -O1 -Wall -Wextra -Werror -fsanitize=address,undefined -fno-sanitize-recover=undefined \
-        -I"$SILLARNICA_INCLUDE" -o "$program" "$here"/tests/stand_in.cc "$here"/plugin/{cls_bpf,object}.cc \
-        "$SILLARNICA_ARCHIVE" "$SILLARNICA_LIBC" \
-        -Wl,--wrap=malloc,--wrap=realloc -L"$libraries/ceph" -l:libceph-common.so.2 -Wl,-rpath,"$libraries/ceph" \
-        > "$work/log" 2>&1 ||
-        stop_at "the stand-in can't be built"
-    test_of 60 refusals "$work/images" stand-in "$program"
-    test_of 300 bad_requests "$work/images" "$radoscls" 255 stand-in "$program"
-    test_of 60 random_calls "$work/images" - 6000 0 5 stand-in "$program"
+    local sanitizers to words
+    for sanitizers in address,undefined thread; do
+        to=$work/${sanitizers%,*}
+        "$here/tests/stand_in.sh" "$here/plugin" "$to" "$work/images" $sanitizers > "$work/log" 2>&1 ||
+            stop_at "the stand-in can't be built"
+    done
+    test_of 60 threads "$work/images" "$work/thread/stand_in" "$work/thread/classes"
+    words=(stand-in "$work/address/stand_in" "$work/address/classes")
+    for each in native refusals lock limits; do test_of 60 $each "$work/images" "${words[@]}"; done
+    test_of 300 bad_requests "$work/images" "$radoscls" 255 "${words[@]}"
+    test_of 60 random_calls "$work/images" - 6000 0 5 "${words[@]}"
+}
+
+# Plug-ins with a mistake each, of which a test fails for each.
+try_wrong() {
+    RADOSCLS=$radoscls "$here/wrong.sh" > "$work/wrong" 2>&1
+    want "plug-ins with a mistake" $? 0
+    grep '^ok   .*fails$\|^BAD' "$work/wrong"
+}
+
+# What radosbpf says on an OSD's machine, and what it leaves in the folder of classes.
+try_install() {
+    local name sum there=$work/there line
+    install_of() { want "$1" "$(said radosbpf "${@:3}")" "$2"; }
+    sum=$(sha256sum < "$here/classes/counter.img" | cut -c 1-64)
+    cp "$work/images/lock.img" "$work/images/lock.2.img"
+    head -c 40 "$here/classes/lock.img" > "$work/cut.img"
+    for name in "${natives[@]}"; do
+        radosbpf install "$work/images/$name.img" > "$work/log" 2>&1 || stop_at "$name can't be installed"
+    done
+    rm "$work/images/lock.2.img"
+    want "installed" "$(radosbpf installed)" "$(for name in count counter helpers lock.2; do
+        echo "$name $(sha256sum < "$folder/$name.img" | cut -c 1-64)"
+    done)"
+    install_of "a cut image" "1 refused: image refused after 0 methods: 1 Truncated" install "$work/cut.img"
+    install_of "a class of Ceph's own" "1 refused: it would replace $folder/libcls_lock.so, a class of another's: \
+--replace does so" install "$here/classes/lock.img"
+    install_of "the plug-in's own name" "1 refused: bpf is no name for a class: 1 to 64 letters, digits and _ . -, \
+and not bpf" install "$(cp "$here/classes/lock.img" "$work/bpf.img" && echo "$work/bpf.img")"
+    install_of "no image's name" "1 refused: the image's file is called NAME.img, by the class's name" \
+        install "$here/classes/lock.txt"
+    install_of "a class that isn't installed" "1 refused: no class lock is installed in $folder" uninstall lock
+    mkdir "$there"
+    ln -s "$folder/libcls_lock.so" "$there"
+    line=$(radosbpf install "$here/classes/lock.img" --dir "$there" --replace | head -n 1)
+    want "replaced" "$line" "replaced $there/libcls_lock.so, a class of another's"
+    want "the files" "$(ls -A "$there")" "$(printf '%s\n' libcls_lock.so libcls_lock.so.replaced lock.img sillarnica_engine.so)"
+    install_of "uninstalled" "0 $there/libcls_lock.so is there again, uninstalled lock from $there" \
+        uninstall lock --dir "$there"
+    want "Ceph's own again" "$(readlink "$there/libcls_lock.so")" "$folder/libcls_lock.so"
+    # What no OSD can open as a class, and has to survive.
+    for name in cut none bpf.old; do cp "$folder/libcls_bpf.so" "$folder/libcls_$name.so"; done
+    cp "$work/cut.img" "$folder"
+    ln -s libcls_count.so "$folder/libcls_link.so"
 }
 
 try_demo() {
     local shown
-    shown=$(CLASSES=$libraries/rados-classes timeout 120 "$here/demo.sh" 2>&1)
+    shown=$(BUILT=$folder timeout 120 "$here/demo.sh" 2>&1)
     want "the demo ends" $? 0
-    want "its two answers" "$(grep -E '^(code|output|steps|object)' <<< "$shown" | tr '\n' ' ')" \
-        "code 0 output - steps 20 code -16 output - steps 16 object 0 1 0 "
+    want "its answers" "$(grep -E '^(installed|added|refused|the sum)' <<< "$shown" | sed 's/ in .*//' | tr '\n' ' ')" \
+        "installed counter added 40 added 2 refused -1 refused -1 added 58 the sum is 100 "
 }
 
-# osd.2 may not open the plug-in at first: an OSD reads that list when it starts. The caps of
-# `client.tenant` are in ceph/cluster.sh.
+# osd.2 may not open the plug-in at first: an OSD reads that list when it starts.
 start_cluster() {
-    EXTRA=$'[osd.2]\nosd class load list = lock' \
+    LISTED="counter ${natives[*]} ${odd[*]}" EXTRA=$'[osd.2]\nosd class load list = lock' \
         timeout 200 "$here/cluster.sh" start "$cluster" > "$work/log" 2>&1 || stop_at "no cluster"
 }
 
@@ -189,20 +280,70 @@ object_of_two() {
 # bpf WHAT WANTED WORDS: what radosbpf says to the words, after its status.
 bpf() { want "$1" "$(said radosbpf -p bpf "${@:3}")" "$2"; }
 
+# What docs/CEPH.md shows, of a pool `bpf` and a namespace `tenant`: the words behind these.
+on_page() {
+    local line
+    line=$(sed -n "s/^    $1 //p" "$top/docs/CEPH.md")
+    line=${line//POOL/bpf}
+    echo "${line//TENANT/tenant}"
+}
+
+caps_of() { ceph_within 20 auth get "$1" | grep caps; }
+
+# The list of classes and the caps are those of docs/CEPH.md, by its own commands.
 try_rights() {
-    local object lock=$here/classes/lock.img
+    local object words number lock=$here/classes/lock.img
     local no_right="1 refused -1: no right to call it, or the OSD's osd_class_load_list lacks bpf"
     object=$(object_of_two)
     bpf "osd_class_load_list without bpf" "$no_right" load "$object" lock "$lock"
-    sed -i '/^\[osd.2\]$/,$d' "$CEPH_CONF"
+    sed -i '/^\[osd.2\]$/,$d; /^osd class load list/d' "$CEPH_CONF"
+    eval "timeout 40 ceph config set osd osd_class_load_list $(on_page 'ceph config set osd osd_class_load_list')"
+    want "the list" "$(ceph_within 20 config get osd osd_class_load_list)" \
+        "$(ceph-osd --show-config-value osd_class_load_list -c /dev/null) counter bpf"
     "$here/cluster.sh" kill "$cluster" 2
     "$here/cluster.sh" osd "$cluster" 2
-    await 60 is_clean
+    await 120 is_clean
     bpf "with bpf on it" "0 " load "$object" lock "$lock"
-    bpf "a tenant calls exec" "0 code 0, output -, steps 20" -n client.tenant call "$object" lock lock
-    bpf "a tenant loads nothing" "$no_right" -n client.tenant load "$object" lock "$lock"
-    want "a tenant reads nothing else" \
-        "$(said rados -n client.tenant -p bpf get "$object" - | grep -c 'not permitted')" 1
+    bpf "an image in a request" "1 refused -95: the OSD has no class bpf, or no such method of it: those for classes \
+that are sent are off unless asked for" call "$object" @"$lock" lock --input 6d65
+    want "the check finds what osd.2 lacks" "$(said radosbpf check bpf | tr ',' '\n' | grep -c '^ *1* *osd.2 class .* isn.t there')" 6
+    touch "$folder/bpf.sent"
+    ceph_within 20 config set osd osd_class_load_list \
+        "$(ceph_within 20 config get osd osd_class_load_list) ${natives[*]} ${odd[*]}"
+    for number in 0 1 2; do
+        "$here/cluster.sh" kill "$cluster" $number
+        "$here/cluster.sh" osd "$cluster" $number
+    done
+    await 120 is_clean
+    words=$(on_page 'ceph auth get-or-create client.tenant')
+    eval "ceph_within 20 auth get-or-create client.page $words" > "$work/page.keyring"
+    want "caps of the page" "$(caps_of client.page)" "$(caps_of client.tenant)"
+    ceph_within 20 osd erasure-code-profile set coded k=2 m=1 crush-failure-domain=osd
+    ceph_within 20 osd pool create coded 1 1 erasure coded
+    ceph_within 20 osd pool application enable coded rados
+    await 120 is_clean
+    words=$(on_page 'ceph auth get-or-create client.adder')
+    eval "ceph_within 20 auth get-or-create client.adder $words" > "$work/adder.keyring"
+    test_of 60 rights "$work/images" "$CEPH_CONF" client.page "$work/page.keyring"
+}
+
+# What the OSDs say of the files in the folder, in their logs.
+try_opened() {
+    local log=$cluster/log/osd.0.log name line number
+    for line in "class counter is opened, image $(sha256sum < "$here/classes/counter.img" | cut -c 1-64)" \
+        "class cut is refused: image refused after 0 methods: 1 Truncated" \
+        "class none is refused: there is no image $folder/none.img" \
+        "class bpf.old is refused: there is no image $folder/bpf.old.img" \
+        "class count is opened under another name, or a second time"; do
+        want "the log says: $line" "$(grep -cF "bpf: $line" "$log" | sed 's/^[1-9].*/yes/')" yes
+    done
+    want "calls in the log" "$(grep -c 'counter.add' "$log")" 0
+    want "stats" "$(radosbpf -p bpf stats o | head -n 1)" "class method calls refusals steps nanoseconds edit_bytes"
+    want "stats for Prometheus" "$(radosbpf -p bpf stats o --prometheus | grep -cE \
+        '^sillarnica_calls_total\{osd="[012]",class="counter",method="(add|get)"\} [0-9]+$')" 2
+    want "check" "$(radosbpf check bpf)" "$(for number in 0 1 2; do
+        for name in bpf.old cut none; do echo "osd.$number class $name is refused: the OSD's log says why"; done
+    done | sort -k 3,3 -s; echo "3 OSDs asked: they differ")"
 }
 
 try_command() {
@@ -210,15 +351,26 @@ try_command() {
     head -c 40 "$here/classes/lock.img" > "$bad_class"
     cd "$here/classes" || exit 1
     bpf "load" "0 " load o lock lock.img
-    bpf "list" "0 lock 386" list o
-    bpf "verify" "0 lock ok 25, unlock ok 19" verify lock.img
+    bpf "list" "0 lock 1015" list o
+    bpf "verify" "0 break ok 19, lock ok 52, unlock ok 50" verify lock.img
     want "verify, as radoscls does it" "$(radosbpf -p bpf verify lock.img)" "$("$radoscls" verify lock.img)"
     bpf "verify, refused" "1 image refused after 0 methods: 1 Truncated" verify "$bad_class"
-    bpf "call" "0 code -61, output -, steps 12" call o lock unlock
-    bpf "call, with an image" "0 code -2, output -, steps 12, object absent" call new @lock.img unlock --show
+    bpf "call" "0 code -61, output -, steps 10" call o lock break
+    bpf "call, with an image" "0 code -2, output -, steps 10, object absent" call new @lock.img break --show
     bpf "call, as a read" "1 refused -30: the call changes the object, and was asked to read alone" \
-        call o lock lock --read
+        call o lock lock --input 6d65 --read
     bpf "call, no such method" "1 refused -38: the class has no such method" call o lock none
+    bpf "an owner that is too long" "1 refused -90: the input is longer than the method takes" \
+        call o lock lock --input "$(printf '%0130d' 0)"
+    bpf "in a namespace" "0 code 0, output -, steps 21, object 0 1 0, data -, xattr lock 6d65" \
+        -N tenant call new @lock.img lock --input 6d65 --show
+    bpf "in another" "0 code -2, output -, steps 10" -N other call new @lock.img break
+    bpf "a class for a tenant" "0 " -N tenant load new lock lock.img
+    bpf "a tenant" "0 code -16, output -, steps 19" -N tenant -n client.tenant call new lock lock --input 796f75
+    bpf "a tenant's image" "1 refused -1: no right to call it, or the OSD's osd_class_load_list lacks bpf" \
+        -N tenant -n client.tenant call new @lock.img lock --input 796f75
+    bpf "a tenant who may read nothing else" "1 code 0, output -, steps 43, refused -1: no right to call it, or the \
+OSD's osd_class_load_list lacks bpf" -N tenant -n client.tenant call new lock lock --input 6d65 --show
     bpf "load, refused" "1 refused -8: the class is refused: radosbpf verify says why" load o bad "$bad_class"
     bpf "unload" "0 " unload o lock
     bpf "unloaded" "1 refused -61: no class of that name is loaded beside the object" call o lock lock
@@ -244,7 +396,7 @@ try_lost() {
         "$here/cluster.sh" kill "$cluster" "$number"
         sleep 10
         "$here/cluster.sh" osd "$cluster" "$number"
-        await 60 is_clean || echo "     the groups aren't clean yet"
+        await 120 is_clean || echo "     the groups aren't clean yet"
     done
     wait $calls
     want "random calls end" $? 0
@@ -256,19 +408,19 @@ try_lost() {
 # All OSDs are lost at once: what was answered is there.
 try_all_lost() {
     local number
-    bpf "a lock before" "0 code 0, output -, steps 20" call kept @"$here/classes/lock.img" lock
+    bpf "a lock before" "0 code 0, output -, steps 21" call kept @"$here/classes/lock.img" lock --input 6d65
     for number in 0 1 2; do "$here/cluster.sh" kill "$cluster" "$number"; done
     for number in 0 1 2; do "$here/cluster.sh" osd "$cluster" "$number"; done
-    await 60 is_clean
-    bpf "it is there after all OSDs were lost" "0 code -16, output -, steps 16" \
-        call kept @"$here/classes/lock.img" lock
+    await 120 is_clean
+    bpf "it is there after all OSDs were lost" "0 code -16, output -, steps 19" \
+        call kept @"$here/classes/lock.img" lock --input 796f75
 }
 
 scrubbed() { grep -oE ' 1\.[0-9a-f]+ deep-scrub (ok|.*error.*)' "$cluster/log/cluster.log" | sort -u; }
 all_scrubbed() { [ "$(scrubbed | wc -l)" -ge 16 ]; }
 
 try_scrub() {
-    await 60 is_clean
+    await 120 is_clean
     ceph_within 20 osd deep-scrub all > /dev/null
     await 90 all_scrubbed
     want "deep scrub of all 16 groups" "$(scrubbed | grep -c 'deep-scrub ok')" 16
@@ -282,7 +434,7 @@ try_no_manager() {
     sleep 1
     timeout 5 ceph pg stat > "$work/log" 2>&1
     want "a command without a manager ends by its limit" $? 124
-    bpf "calls go on" "0 code -16, output -, steps 16" call kept @"$here/classes/lock.img" lock
+    bpf "calls go on" "0 code -16, output -, steps 19" call kept @"$here/classes/lock.img" lock --input 796f75
 }
 
 try_end() {
@@ -297,13 +449,17 @@ try_end() {
 [ "$(id -u)" = 0 ] || stop_at "it wants to be root"
 [ -x "$radoscls" ] || stop_at "there is no $radoscls"
 [ -f "$SILLARNICA_ARCHIVE" ] || stop_at "there is no $SILLARNICA_ARCHIVE"
-for step in install_packages make_images try_build install_package try_stand_in try_demo; do
+for step in install_packages make_images try_build install_package try_stand_in try_wrong try_demo try_install; do
     $step
 done
 for step in start_cluster try_rights try_command; do
     $step
 done
-test_of 60 refusals "$work/images" cluster "$CEPH_CONF"
+test_of 100 native "$work/images" cluster "$CEPH_CONF" client.adder "$work/adder.keyring"
+try_opened
+for each in refusals lock limits; do test_of 60 $each "$work/images" cluster "$CEPH_CONF"; done
+test_of 60 commits "$here/classes" "$CEPH_CONF"
+timeout 20 ceph osd pool rm coded coded --yes-i-really-really-mean-it > "$work/log" 2>&1
 test_of 200 bad_requests "$work/images" - 2 cluster "$CEPH_CONF"
 for step in try_lost try_all_lost try_scrub try_no_manager try_end; do
     $step

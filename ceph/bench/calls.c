@@ -3,17 +3,21 @@
  *     calls WORK CLIENTS SECONDS SIZE CLASSES [MOST]
  *
  * Each client is a thread with a session of its own, and one object of its own with SIZE bytes of
- * data. CLASSES is a folder of our class images. With MOST it ends after so many calls, if the time
- * isn't up before. The cluster is that of CEPH_CONF, its pool `bpf`. It prints calls per second, mean
- * and 99th percentile of the latency in microseconds, and failed calls. WORK is one of
+ * data and KEYS of the environment (0) other keys. CLASSES is a folder of our class images. With MOST
+ * it ends after so many calls, if the time isn't up before. The cluster is that of CEPH_CONF, its pool
+ * `bpf`. It prints calls per second, mean and 99th percentile of the latency in microseconds, and
+ * failed calls. WORK is one of
  *
  *     lock                 Ceph's class lock, in C++: lock and unlock by turns
- *     bpf_lock             ours
+ *     lock.2               ours, installed
+ *     bpf_lock             ours, loaded beside the object
  *     numops               Ceph's class numops, in C++: adds 1 to a value in the omap
- *     bpf_count            ours
+ *     count                ours, installed
+ *     bpf_count            ours, loaded beside the object
  *     lua                  the same in Ceph's class for tenants' code
  *     hello                Ceph's class hello, in C++: answers a word and reads nothing
- *     bpf_stat, bpf_read   ours: the length of the data; its first 64 bytes
+ *     stat, read           ours, installed: the length of the data; its first 64 bytes
+ *     bpf_stat, bpf_read   ours, loaded beside the object
  */
 #include <pthread.h>
 #include <rados/librados.h>
@@ -44,7 +48,7 @@ static const char *work, *classes;
 static size_t size;
 static long most;
 static double end;
-static char data[1 << 17];
+static char data[4 << 20];
 
 static const char SCRIPT[] = "function add(input, output) local found, value = pcall(objclass.map_get_val, 'n') "
                              "local n = found and tonumber(value:str()) or 0 local made = bufferlist.new() "
@@ -100,6 +104,19 @@ static void load(struct client *one, const char *class) {
     must(rados_exec(one->pool, one->object, "bpf", "load", request.bytes, request.length, NULL, 0), "load");
 }
 
+/* Keys beside the one that is counted. */
+static void put_keys(struct client *one, int count) {
+    char names[16];
+    for (int i = 0; i < count; i++) {
+        const char *name = names, *value = "value";
+        size_t length = snprintf(names, sizeof names, "other%d", i), size = 5;
+        rados_write_op_t op = rados_create_write_op();
+        rados_write_op_omap_set2(op, &name, &value, &length, &size, 1);
+        must(rados_write_op_operate(op, one->pool, one->object, NULL, 0), "key");
+        rados_release_write_op(op);
+    }
+}
+
 static void begin(struct client *one, int number) {
     must(rados_create2(&one->cluster, "ceph", "client.admin", 0), "session");
     must(rados_conf_read_file(one->cluster, getenv("CEPH_CONF")), "CEPH_CONF");
@@ -108,11 +125,16 @@ static void begin(struct client *one, int number) {
     snprintf(one->object, sizeof one->object, "bench.%s.%zu.%d", work, size, number);
     rados_remove(one->pool, one->object);
     must(rados_write_full(one->pool, one->object, data, size), "object");
+    put_keys(one, getenv("KEYS") ? atoi(getenv("KEYS")) : 0);
     one->latency = malloc(sizeof(float) * MOST_CALLS);
     if (!strcmp(work, "bpf_lock")) {
         load(one, "lock");
         ask(&one->first, "lock", "lock");
+        put(&one->first, "owner", 5);
         ask(&one->second, "lock", "unlock");
+        put(&one->second, "owner", 5);
+    } else if (!strcmp(work, "lock.2")) {
+        put(&one->first, "owner", 5);
     } else if (!strcmp(work, "bpf_count")) {
         load(one, "count");
         ask(&one->first, "count", "count");
@@ -138,7 +160,13 @@ static int call(struct client *one) {
     if (!strcmp(work, "lock"))
         return second ? rados_unlock(one->pool, one->object, "l", "c")
                       : rados_lock_exclusive(one->pool, one->object, "l", "c", "", NULL, 0);
-    if (!strcmp(work, "numops"))
+    if (!strcmp(work, "lock.2"))
+        class = work, method = second ? "unlock" : "lock";
+    else if (!strcmp(work, "count"))
+        class = method = work;
+    else if (!strcmp(work, "stat") || !strcmp(work, "read"))
+        class = "reads", method = work;
+    else if (!strcmp(work, "numops"))
         class = "numops", method = "add";
     else if (!strcmp(work, "lua"))
         class = "lua", method = "eval_json";

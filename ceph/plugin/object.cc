@@ -78,6 +78,15 @@ struct whole {
         return cls_cxx_map_read_header(context, &header);
     }
 
+    // Removes the object and makes it again, without these xattrs.
+    int make_without(cls_method_context_t context, const std::vector<std::string> &names) {
+        for (auto &name : names)
+            if (!xattrs.erase(name) && !own.erase(name))
+                return BROKEN;
+        int result = cls_cxx_remove(context);
+        return result < 0 ? result : write(context);
+    }
+
     int write(cls_method_context_t context) {
         int result = cls_cxx_create(context, true);
         if (result >= 0 && data.length())
@@ -168,7 +177,7 @@ int read_flat(cls_method_context_t context, unsigned needs, bytes &flat) {
     }
     if (result < 0)
         return result;
-    if (size > DATA_LIMIT)
+    if (needs & NEEDS_DATA && size > DATA_LIMIT)
         return DATA_TOO_LONG;
     ceph::bufferlist data;
     values xattrs, own, keys;
@@ -190,13 +199,17 @@ int read_flat(cls_method_context_t context, unsigned needs, bytes &flat) {
 int remove_xattrs(cls_method_context_t context, const std::vector<std::string> &names) {
     whole object;
     int result = object.read(context);
-    if (result < 0)
-        return result;
-    for (auto &name : names)
-        if (!object.xattrs.erase(name) && !object.own.erase(name))
-            return BROKEN;
-    result = cls_cxx_remove(context);
-    return result < 0 ? result : object.write(context);
+    return result < 0 ? result : object.make_without(context, names);
+}
+
+int remove_own_xattr(cls_method_context_t context, const std::string &name) {
+    whole object;
+    int result = object.read(context);
+    if (result == DATA_TOO_LONG || result == TOO_MUCH || result == -EOPNOTSUPP) {
+        ceph::bufferlist none;
+        return cls_cxx_setxattr(context, name.c_str(), &none);
+    }
+    return result < 0 ? result : object.make_without(context, {name});
 }
 
 int make_edits(cls_method_context_t context, slice written) {

@@ -22,7 +22,7 @@ using values = std::map<std::string, ceph::bufferlist>;
 bool is_own(const std::string &name);
 
 // Puts the object in the flat form of `sillarnica.h`. Parts that aren't needed are empty, and
-// nothing of them is read. Refused: DATA_TOO_LONG; TOO_MUCH of a part that is read.
+// nothing of them is read. Refused, of parts that are needed alone: DATA_TOO_LONG; TOO_MUCH.
 int read_flat(cls_method_context_t context, unsigned needs, bytes &flat);
 
 // Makes the library's edits, in their order. All are read and tested before the first is made.
@@ -31,5 +31,9 @@ int make_edits(cls_method_context_t context, slice edits);
 
 // Removes xattrs, in the one way that the OSD's calls have, which Ceph's class `rgw` uses too: the
 // object is removed and made again, all in the operation's one transaction, with its data, its omap
-// and its other xattrs. Who watches the object is cut off. Refused as `read_flat`.
+// and its other xattrs. Who watches the object is cut off. Refused as `read_flat` of all parts.
 int remove_xattrs(cls_method_context_t context, const std::vector<std::string> &names);
+
+// Removes an xattr of the plug-in's. Of an object that can't be made again, since it is past the
+// limits or its pool is erasure-coded, the xattr is left without bytes.
+int remove_own_xattr(cls_method_context_t context, const std::string &name);

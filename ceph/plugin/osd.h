@@ -1,8 +1,8 @@
 // The OSD's calls that this plug-in makes. <rados/objclass.h> declares those of the object class
-// SDK; the others are declared here by hand, as in Ceph 16's own src/objclass/objclass.h. Each name
-// is resolved when the OSD opens the plug-in: if one is missing, the plug-in isn't opened at all.
-// `ceph/build.sh` tests that the installed OSD exports every one and is of the release that this
-// page was written for.
+// SDK; the others are declared here by hand, as in Ceph's own src/objclass/objclass.h, which is the
+// same in the releases below. Each name is resolved when the OSD opens the plug-in: if one is
+// missing, the plug-in isn't opened at all. `ceph/build.sh` tests that the installed OSD exports
+// every one and is of one of these releases.
 #pragma once
 
 #include <map>
@@ -22,9 +22,9 @@ int cls_cxx_map_read_header(cls_method_context_t context, ceph::bufferlist *head
 int cls_cxx_map_write_header(cls_method_context_t context, ceph::bufferlist *header);
 int cls_cxx_truncate(cls_method_context_t context, int size);
 
-// The OSD's version, as "16.2.15".
-constexpr int RELEASE = 16;
+// The OSD's version, as "16.2.15", and the releases that this page was compared with.
 const char *ceph_version_to_str();
+constexpr int RELEASES[] = {16, 18};
 
 // The OSD's settings, of which one is read. Its type is a number of bytes.
 struct Option {

@@ -18,8 +18,9 @@ enum refusal : int {
     CLASS_REFUSED = -ENOEXEC,    // -8: the image, or its class, is refused; `verify` says why
     NO_MEMORY = -ENOMEM,         // -12
     NAME_IS_OURS = -EACCES,      // -13: the method sets or removes an xattr whose name begins with `bpf.`
-    BAD_REQUEST = -EINVAL,       // -22: the bytes are no request
-    DATA_TOO_LONG = -EFBIG,      // -27: the object has more than 65,536 bytes of data
+    BAD_REQUEST = -EINVAL,       // -22: the bytes are no request; the input is longer than an installed method takes
+    DATA_TOO_LONG = -EFBIG,      // -27: the object has more than 65,536 bytes of data, and they are needed
+    NO_ROOM_FOR_IMAGE = -ENOSPC, // -28: the images beside the object would have more than 65,536 bytes together
     CHANGE_IN_READ = -EROFS,     // -30: `query` or `see` of a call that changes the object
     NO_METHOD = -ENOSYS,         // -38: the class has no such method
     NO_CLASS = -ENODATA,         // -61: no class of that name is loaded beside the object
@@ -29,6 +30,6 @@ enum refusal : int {
     NO_CLIENT = -EUSERS,         // -87: the caller is no client, or its number doesn't fit 32 bits
     INPUT_TOO_LONG = -EMSGSIZE,  // -90: the input is longer than the method takes
     REPLY_TOO_LONG = -ENOBUFS,   // -105: a change, and its reply is over the OSD's osd_max_write_op_reply_len
-    NOT_FIRST = -EALREADY,       // -114: another step of the same operation stands before the call
+    NOT_FIRST = -EALREADY,       // -114: another step of the same operation stands before the call or the load
 };
 // clang-format on

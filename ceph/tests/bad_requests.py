@@ -2,7 +2,7 @@
 """Requests with each byte changed, and cut at each length: each answer is the expected one, and what is
 refused changes nothing.
 
-    bad_requests.py IMAGES RADOSCLS VALUES cluster CONF | stand-in PROGRAM ..
+    bad_requests.py IMAGES RADOSCLS VALUES cluster CONF | stand-in PROGRAM FOLDER
 
 VALUES is how many other values each byte takes, at most 255. Whether a changed image is accepted is what
 `radoscls verify` says, but for bytes that it reads as a text; with `-` for RADOSCLS an accepted one is
@@ -55,6 +55,7 @@ class Trial:
     def __init__(self, backend, tally, images, radoscls):
         self.backend, self.tally, self.images, self.radoscls = backend, tally, images, radoscls
         self.accepted, self.verdicts = set(images.values()), {}
+        self.is_put = False  # whether the object is as it was put: no call since then was answered
 
     def is_accepted(self, image):
         """What `radoscls` says of an image; its line is what `verify` answers."""
@@ -72,7 +73,8 @@ class Trial:
 
     def go(self, way, data):
         held = (Object(b"text", {b"x": b"1"}, {b"k": b"2"}), dict(self.images))
-        self.backend.put("bad", held[0], held[1])
+        if not self.is_put:
+            self.backend.put("bad", held[0], held[1])
         what = f"{way} {data[:60].hex()}"
         found = self.backend.call("bad", way, data)
         if way == "load":
@@ -91,8 +93,10 @@ class Trial:
                 result, output, after = expected.call(way, data, held, self.backend.number(), self.accepted)
         elif result is expected.UNKNOWN:
             result, output = -8, b""
+        left = self.backend.get("bad")
         self.tally.want(what, found, (result, b"" if result < 0 else output))
-        self.tally.want(f"the object after {what}", self.backend.get("bad"), after[0] if after else None)
+        self.tally.want(f"the object after {what}", left, after[0] if after else None)
+        self.is_put = found[0] == result < 0 and left == held[0]
 
 
 def main(words):
@@ -111,12 +115,12 @@ def main(words):
         ("exec", request(b"helpers", b"map_set", b"\3newvalue", False)),
         ("query", request(b"helpers", b"read", struct.pack("<QQ", 1, 3), False)),
     ]
-    named += [("run", request(b"lock", b"lock", b"", False)), ("see", request(b"helpers", b"map_get", b"k", False))]
+    named += [("run", request(b"lock", b"lock", b"me", False)), ("see", request(b"helpers", b"map_get", b"k", False))]
     for way, data in named:
         for each in variants(chance, data, values):
             trial.go(way, each)
     for way, data in [
-        ("exec", request(images[b"count"], b"count", b"", True)),
+        ("exec_sent", request(images[b"count"], b"count", b"", True)),
         ("load", load_request(b"new", images[b"lock"])),
         ("load", load_request(b"f", small)),
     ]:

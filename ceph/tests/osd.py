@@ -35,11 +35,13 @@ request, load_request = radosbpf.request, radosbpf.load_request
 class StandIn:
     """The plug-in over the stand-in: objects are kept here, and each call carries its own."""
 
-    def __init__(self, program):
-        self.process = subprocess.Popen(program, stdin=subprocess.PIPE, stdout=subprocess.PIPE)
+    def __init__(self, program, folder):
+        self.words = [program, folder]
+        self.process = subprocess.Popen(self.words, stdin=subprocess.PIPE, stdout=subprocess.PIPE)
         self.objects = {}  # by name: an Object, its loaded classes, its omap header
         self.client = 4711
         self.calls = 0
+        self.opened = self._read_bytes().decode().splitlines()  # the log of the classes' opening
 
     def number(self):
         return self.client
@@ -61,23 +63,58 @@ class StandIn:
         """Object, loaded classes and omap header."""
         return self.objects.get(oid)
 
-    def call(self, oid, method, data=b"", step=0, limit=REPLY_LIMIT, kind=8, number=None, failing=0, growth=0):
-        out = self._bytes(method.encode()) + self._bytes(data)
+    def call(
+        self,
+        oid,
+        method,
+        data=b"",
+        cls="bpf",
+        step=0,
+        limit=REPLY_LIMIT,
+        kind=8,
+        number=None,
+        failing=0,
+        growth=0,
+        new=0,
+    ):
         caller = self.client if number is None else number
-        out += struct.pack("<BQIIII", kind, caller, step, limit, failing, growth) + self._object(self.whole(oid))
-        self.process.stdin.write(out)
-        self.process.stdin.flush()
+        fields = struct.pack("<BQIIIII", kind, caller, step, limit, failing, growth, new)
+        self._write(b"\0" + self._call(cls, method, data, fields, self.whole(oid)))
         result = struct.unpack("<i", self._read(4))[0]
         output, after = self._read_bytes(), self._read_object()
-        self.osd_calls, self.growths = struct.unpack("<II", self._read(8))
+        self.osd_calls, self.growths, self.news = struct.unpack("<III", self._read(12))
         self.calls += 1
         misuse = self._read_bytes().decode()
-        assert not misuse, f"{misuse} at {method} of {data[:80].hex()}"
+        self.trace, self.log = (self._read_bytes().decode().splitlines() for _ in range(2))
+        if result < 0 and not (failing or growth or new) and any(self.changes()):
+            misuse += f"a refused call changes: {self.trace}"
+        assert not misuse, f"{misuse} at {cls} {method} of {data[:80].hex()}"
         if after is None:
             self.objects.pop(oid, None)
         else:
             self.objects[oid] = after
         return result, output
+
+    def changes(self):
+        """What the last call changed, by its lines."""
+        return [line for line in self.trace if line.split()[0] in ("create", "remove", "write", "truncate", "set")]
+
+    def together(self, threads, times, calls):
+        """How many of such calls, made by threads at once, are answered other than by one alone. A call is the object,
+        class, method and request.
+        """
+        fields = struct.pack("<BQIIIII", 8, self.client, 0, REPLY_LIMIT, 0, 0, 0)
+        made = [self._call(cls, method, data, fields, self.whole(oid)) for oid, cls, method, data in calls]
+        self._write(b"\1" + struct.pack("<III", threads, times, len(made)) + b"".join(made))
+        return struct.unpack("<I", self._read(4))[0]
+
+    def _write(self, out):
+        self.process.stdin.write(out)
+        self.process.stdin.flush()
+
+    def _call(self, cls, method, data, fields, whole):
+        words = (cls.encode(), method.encode(), data)
+        return b"".join(map(self._bytes, words)) + fields + self._object(whole)
 
     @staticmethod
     def _bytes(data):
@@ -119,8 +156,8 @@ class StandIn:
 class Cluster:
     """The same of a pool in a cluster, by a session of its own."""
 
-    def __init__(self, conf, pool="bpf", name="client.admin", timeout=120):
-        self.pool = radosbpf.Pool(pool, conf, name, timeout=timeout)
+    def __init__(self, conf, pool="bpf", name="client.admin", namespace="", keyring=None, timeout=120):
+        self.pool = radosbpf.Pool(pool, conf, name, keyring, timeout, namespace)
         self.c, self.io = self.pool.c, self.pool.io
 
     def number(self):
@@ -157,27 +194,27 @@ class Cluster:
         found = self.pool.read(oid.encode())
         return None if found is None else model.Object(found.data, found.xattrs, found.keys)
 
-    def call(self, oid, method, data=b""):
-        done, [(result, output)] = self.pool.steps(oid.encode(), [(method, data)])
+    def call(self, oid, method, data=b"", cls="bpf"):
+        done, [(result, output)] = self.pool.steps(oid.encode(), [(method, data)], cls=cls.encode())
         return (done, b"") if done < 0 else (result, output)
 
     def steps(self, oid, steps):
         return self.pool.steps(oid.encode(), steps)
 
-    def plain(self, oid, method, data=b""):
+    def plain(self, oid, method, data=b"", cls="bpf"):
         """As `rados_exec` does it, without RETURNVEC."""
         import ctypes as ct
 
         out = ct.create_string_buffer(65536)
         result = self.c.rados_exec(
-            self.io, oid.encode(), b"bpf", method.encode(), data, ct.c_size_t(len(data)), out, ct.c_size_t(65536)
+            self.io, oid.encode(), cls.encode(), method.encode(), data, ct.c_size_t(len(data)), out, ct.c_size_t(65536)
         )
         return result, out.raw[: max(result, 0)]
 
 
 def open_from(words):
-    """`cluster CONF`, or `stand-in PROGRAM ..`."""
-    return Cluster(words[1]) if words[0] == "cluster" else StandIn(words[1:])
+    """`cluster CONF`, or `stand-in PROGRAM FOLDER`."""
+    return Cluster(words[1]) if words[0] == "cluster" else StandIn(*words[1:3])
 
 
 class Tally:
@@ -217,7 +254,15 @@ def some_object(chance):
     pairs = lambda most, size: {
         random_name(chance): chance.randbytes(chance.randrange(size)) for _ in range(chance.randrange(most))
     }
-    return model.Object(chance.randbytes(chance.choice([0, 7, 64, 500, 4000])), pairs(5, 40), pairs(8, 40))
+    whole = model.Object(chance.randbytes(chance.choice([0, 7, 64, 500, 4000])), pairs(5, 40), pairs(8, 40))
+    past = chance.random()  # now and then past a limit
+    if past < 0.04:
+        whole.data = chance.randbytes(65537)
+    elif past < 0.07:
+        whole.xattrs.update({b"%04d" % n: b"v" for n in range(33)})
+    elif past < 0.09:
+        whole.keys[b"k" * 65] = b"v"
+    return whole
 
 
 def random_name(chance):

@@ -1,11 +1,11 @@
 #!/usr/bin/env python3
 """Random calls, each beside the expected answer, by an interpreter of its own and by `radoscls run`: code,
-steps, output, the whole object.
+steps, output, the whole object; over the stand-in also what is read and changed for it, and the line in the log.
 
-    random_calls.py IMAGES RADOSCLS CALLS SECONDS SEED cluster CONF | stand-in PROGRAM ..
+    random_calls.py IMAGES RADOSCLS CALLS SECONDS SEED cluster CONF | stand-in PROGRAM FOLDER
 
-IMAGES is a folder of class images. It makes at least so many calls, and goes on for at least so many seconds.
-In a cluster three sessions call, each on objects of its own.
+IMAGES is a folder of class images, which are installed too. It makes at least so many calls, and goes on for at
+least so many seconds. In a cluster three sessions call, each on objects of its own.
 """
 
 import struct
@@ -75,21 +75,54 @@ class Caller:
         cls = chance.choice([b"helpers"] * 4 + [*self.images])
         image = self.images[cls]
         method = chance.choice([*expected.model.methods_of(image)] if chance.random() < 0.98 else [b"none", b""])
-        way = chance.choice(["exec", "exec", "exec", "query", "run", "see"])
+        way = chance.choice(["exec", "exec", "exec", "query", "run", "see", "native", "native", "native"])
         sent = chance.random() < 0.4 or (held is None and chance.random() < 0.9)
         data = random_input(chance, method, held[0] if held else None)
-        asked = osd.request(image if sent else cls, method, data, sent)
-        before, start = held[0].copy() if held else None, time.monotonic()
-        found = self.backend.call(oid, way, asked)
-        self.slowest = max(self.slowest, time.monotonic() - start)
-        result, output, after = expected.call(way, asked, held, self.backend.number(), self.images.values())
+        before = held[0].copy() if held else None
+        if way == "native":
+            found, wanted = self.native(oid, cls, method, data, held)
+        else:
+            way += "_sent" * sent
+            asked = osd.request(image if sent else cls, method, data, sent)
+            found = self.timed(oid, way, asked)
+            wanted = expected.call(way, asked, held, self.backend.number(), self.images.values())
+        result, output, after = wanted
         what = f"{way} {cls.decode()} {method.decode()} {data[:40].hex()} on {before}"
         self.tally.want(what, found, (result, b"" if result < 0 else output))
         self.tally.want(f"the object after {what}", self.backend.get(oid), after[0] if after else None)
+        if isinstance(self.backend, osd.StandIn):
+            self.look(what, found, expected.model.methods_of(image).get(method), before, after, held)
         self.held[oid] = after
         self.made += 1
-        if self.radoscls and not (way in expected.READS and held is None):
+        is_within = not expected.limits(before, expected.model.PARTS)
+        if self.radoscls and is_within and not (way in expected.READS and held is None) and way != "native":
             self.beside(what, image, method, data, before, found, result, after)
+
+    def timed(self, *words, **others):
+        start = time.monotonic()
+        found = self.backend.call(*words, **others)
+        self.slowest = max(self.slowest, time.monotonic() - start)
+        return found
+
+    def native(self, oid, cls, method, data, held):
+        """A call of the class by its own name."""
+        name = expected.native_name(cls)
+        found = self.timed(oid, method.decode() or "none", data, cls=name)
+        declared = expected.model.methods_of(self.images[cls]).get(method)
+        if declared is None:
+            return found, (-95, b"", held)
+        return found, expected.native(declared, data, held, self.backend.number())
+
+    def look(self, what, found, method, before, after, held):
+        """What the call asked of the OSD, and what it wrote into the log."""
+        trace = [line for line in self.backend.trace if line != "origin" and not line.startswith("xattr ")]
+        levels = [line.split()[0] for line in self.backend.log]
+        is_asked = self.backend.osd_calls > 0 or self.backend.log
+        self.tally.want(f"the log of {what}", levels in (["10"], ["5"]), bool(is_asked))
+        if found[0] >= 0 and method:
+            parts, classes = expected.model.parts_of(method), held[1] if held else {}
+            wanted = expected.trace(parts, before, after[0] if after else None, classes)
+            self.tally.want(f"reads and changes of {what}", trace, wanted)
 
     def beside(self, what, image, method, data, before, found, result, after):
         """The same call by `radoscls run`."""

@@ -1,7 +1,7 @@
 #!/usr/bin/env python3
 """Each refusal and each trap, by numbers written by hand; a refused call leaves the object as it was.
 
-    refusals.py IMAGES cluster CONF | stand-in PROGRAM ..
+    refusals.py IMAGES cluster CONF | stand-in PROGRAM FOLDER
 """
 
 import os
@@ -36,7 +36,7 @@ def frame(code, steps, output=b""):
 def rows(images):
     """A line each: what, the object and whether its classes are loaded, way, request, result, output."""
     helpers, lock = images[b"helpers"], images[b"lock"]
-    text, bare = Object(b"text", {b"x": b"1"}, {b"k": b"2"}), Object()
+    text, bare = Object(b"text", {b"x": b"1", b"bpfx": b"3"}, {b"k": b"2"}), Object()
     cut, loop, wild, long = lock[:40], looping(), wild_image(), large_image()
     all_xattrs, all_keys, big = (
         Object(b"", entries(32)),
@@ -62,11 +62,11 @@ def rows(images):
         ("no such method", text, "exec", h(b"none"), -38, b""),
         ("no method's name", text, "exec", h(b""), -38, b""),
         ("a method's name in other bytes", text, "exec", h(b"\xff\xfe"), -38, b""),
-        ("an image that is cut", text, "exec", request(cut, b"lock", b"", True), -8, b""),
-        ("a class that no rule accepts", text, "exec", request(wild, b"f", b"", True), -8, b""),
-        ("a loop", text, "exec", request(loop, b"f", b"", True), -8, b""),
-        ("no image", text, "exec", request(b"", b"f", b"", True), -8, b""),
-        ("a large image", text, "exec", request(long, b"f", b"", True), -8, b""),
+        ("an image that is cut", text, "exec_sent", request(cut, b"lock", b"", True), -8, b""),
+        ("a class that no rule accepts", text, "exec_sent", request(wild, b"f", b"", True), -8, b""),
+        ("a loop", text, "exec_sent", request(loop, b"f", b"", True), -8, b""),
+        ("no image", text, "exec_sent", request(b"", b"f", b"", True), -8, b""),
+        ("a large image", text, "exec_sent", request(long, b"f", b"", True), -8, b""),
         ("an input that is too long", text, "exec", h(b"stat", b"1"), -90, b""),
         ("verify: accepted", text, "verify", lock, 0, b""),
         ("verify: cut", text, "verify", cut, 0, b"image refused after 0 methods: 1 Truncated"),
@@ -74,6 +74,11 @@ def rows(images):
         ("verify: a loop", text, "verify", loop, 0, b"refused method 0 slot 1: 1 Backward"),
         ("verify: none", text, "verify", b"", 0, b"image refused after 0 methods: 1 Truncated"),
         ("verify: a large image", text, "verify", long, 0, no_lines),
+        # images beside the object that nobody verified: whoever may write it can put them there
+        ("a stored image that is cut", text, "exec", named(b"cut", b"lock"), -8, b""),
+        ("a stored loop", text, "exec", named(b"loop", b"f"), -8, b""),
+        ("a stored image that is too long", text, "exec", named(b"long", b"f"), -8, b""),
+        ("a stored image of no bytes", text, "exec", named(b"none", b"f"), -61, b""),
         # loading
         ("load: no bytes", text, "load", b"", -22, b""),
         ("load: no name", text, "load", load_request(b"", lock), -22, b""),
@@ -89,8 +94,8 @@ def rows(images):
         ("unload: more bytes", text, "unload", load_request(b"lock", b"x"), -22, b""),
         ("unload: no bytes", text, "unload", b"", -22, b""),
         ("list: bytes", text, "list", b"x", -22, b""),
-        ("no such method of the class bpf", text, "nothing", b"", -95, b""),
-        # the object's limits, tested before anything runs
+        ("no such method of the class bpf", text, "none", b"", -95, b""),
+        # the object's limits, tested before anything runs, of the parts that the method needs
         ("65,537 bytes of data", over(data=bytes(65537)), "exec", h(b"stat"), -27, b""),
         ("65,536 bytes of data", over(data=bytes(65536)), "exec", h(b"stat"), 0, frame(65536, 2)),
         ("33 xattrs", over(xattrs=entries(33)), "exec", h(b"getxattr", b"0000"), -7, b""),
@@ -113,8 +118,14 @@ def rows(images):
             -7,
             b"",
         ),
-        ("unload beside 1,025 keys", over(keys=entries(1025)), "unload", load_request(b"lock"), -7, b""),
-        ("unload beside 65,537 bytes", over(data=bytes(65537)), "unload", load_request(b"lock"), -27, b""),
+        (
+            "rmxattr beside 65,537 bytes",
+            over(data=bytes(65537), xattrs={b"x": b"1"}),
+            "exec",
+            h(b"rmxattr", b"x"),
+            -27,
+            b"",
+        ),
         # changes in reads; codes of 64 bits in results of 32
         ("a change in query", text, "query", h(b"write", number(0) + b"other"), -30, b""),
         ("a change in see", text, "see", h(b"map_set", setter(b"new")), -30, b""),
@@ -135,20 +146,32 @@ def rows(images):
         # replies of changes, up to osd_max_write_op_reply_len
         ("exec: a reply of 65 bytes over a change", text, "exec", h(b"reply", number(49)), -105, b""),
         ("run: a reply of 65 bytes over a change", text, "run", h(b"reply", number(65)), -105, b""),
-        ("run: on an absent object", None, "run", request(helpers, b"reply", number(65), True), -105, b""),
+        ("run: on an absent object", None, "run_sent", request(helpers, b"reply", number(65), True), -105, b""),
         # xattrs' names
         ("set a name of the plug-in's", text, "exec", h(b"setxattr", setter(b"bpf.lock", b"x")), -13, b""),
         ("set another such name", text, "exec", h(b"setxattr", setter(b"bpf.", b"x")), -13, b""),
+        ("a name with a NUL byte, behind other edits", text, "exec", h(b"mix", mixed(b"\0a")), -84, b""),
+        ("a name that begins so, but for the dot", text, "see", h(b"getxattr", b"bpfx"), 1, b"3"),
         ("read one: there is none", text, "exec", h(b"getxattr", b"bpf.lock"), 0, frame(-61, 4)),
         ("remove one: there is none", text, "exec", h(b"rmxattr", b"bpf.lock"), 0, frame(-61, 2)),
         ("an xattr's name with a NUL byte", text, "exec", h(b"setxattr", setter(b"a\0b", b"x")), -84, b""),
         # reads of an absent object, which the OSD answers itself
-        ("query: absent", None, "query", request(helpers, b"code", number(5), True), -2, b""),
-        ("see: absent", None, "see", request(helpers, b"code", number(5), True), -2, b""),
+        ("query: absent", None, "query_sent", request(helpers, b"code", number(5), True), -2, b""),
+        ("see: absent", None, "see_sent", request(helpers, b"code", number(5), True), -2, b""),
         ("list: absent", None, "list", b"", -2, b""),
-        ("exec: absent, and asked", None, "exec", request(helpers, b"code", number(5), True), 0, frame(5, 2)),
+        ("verify: absent", None, "verify", lock, -2, b""),
+        ("classes: absent", None, "classes", b"", -2, b""),
+        ("stats: absent", None, "stats", b"", -2, b""),
+        ("nothing", text, "nothing", b"", 0, b""),
+        ("nothing: absent", None, "nothing", b"", 0, b""),
+        ("exec: absent, and asked", None, "exec_sent", request(helpers, b"code", number(5), True), 0, frame(5, 2)),
         ("a bare object", bare, "exec", h(b"stat"), 0, frame(0, 2)),
     ]
+
+
+def mixed(name):
+    """The input of `mix` that writes, sets an xattr of that name, two bytes, and goes on."""
+    return b"\1\1" + name + b"bcb\1" + bytes(24)
 
 
 def image_of(code):
@@ -189,15 +212,16 @@ def try_loops(backend, tally):
     backend.put("loop", Object(b"text"))
     for what, (code, line) in LOOPS.items():
         image = looping(code)
-        tally.want(f"{what}: run", backend.call("loop", "run", request(image, b"f", b"", True)), (-8, b""))
+        tally.want(f"{what}: run", backend.call("loop", "run_sent", request(image, b"f", b"", True)), (-8, b""))
         tally.want(f"{what}: load", backend.call("loop", "load", load_request(b"f", image)), (-8, b""))
         result, found = backend.call("loop", "verify", image)
         tally.want(f"{what}: verify", (result, found), (0, line))
 
 
 def try_rows(backend, tally, images):
+    stored = {b"cut": images[b"lock"][:40], b"loop": looping(), b"long": large_image(), b"none": b""}
     for what, whole, way, data, result, output in rows(images):
-        backend.put("row", whole, images)
+        backend.put("row", whole, {**images, **stored} if "stored" in what else images)
         tally.want(what, backend.call("row", way, data), (result, output))
         tally.want(f"the object after: {what}", backend.get("row"), whole)
 
@@ -238,28 +262,21 @@ def try_changes(backend, tally, images):
         ("an unload", "unload", load_request(b"lock"), (0, b""), lambda o: None),
         ("the class is gone", "exec", named(b"lock", b"lock"), (-61, b""), lambda o: None),
         ("a load", "load", load_request(b"lock", images[b"lock"]), (0, b""), lambda o: None),
-        ("the class is there", "exec", named(b"lock", b"unlock"), (0, frame(-61, 12)), lambda o: None),
+        ("the class is there", "exec", named(b"lock", b"unlock", b"me"), (0, frame(-61, 14)), lambda o: None),
     ]
     for what, way, data, wanted, change in steps:
         change(whole)
         tally.want(what, backend.call("change", way, data), wanted)
         tally.want(f"the object after: {what}", backend.get("change"), whole)
+    # a class is the object's own: another has another of that name
+    backend.put("other", whole, {b"lock": images[b"count"]})
+    found = backend.call("other", "exec", named(b"lock", b"count"))
+    tally.want("another object's class of that name", found[1][16:], struct.pack("<Q", 1))
+    tally.want("this object's", backend.call("change", "exec", named(b"lock", b"count")), (-38, b""))
     listed = b"".join(b"%s %d\n" % (name, len(images[name])) for name in sorted(images))
     tally.want("list", backend.call("change", "list"), (0, listed))
     tally.want("remove", backend.call("change", "exec", h(b"remove")), done(2))
     tally.want("it is absent", backend.get("change"), None)
-
-
-def try_classes(backend, tally, images):
-    """16 classes beside an object, and no 17th; one of them can be loaded anew."""
-    backend.put("classes", None)
-    for n in range(16):
-        tally.want(f"load {n}", backend.call("classes", "load", load_request(b"c%d" % n, images[b"lock"])), (0, b""))
-    tally.want("a 17th class", backend.call("classes", "load", load_request(b"c16", images[b"lock"])), (-82, b""))
-    tally.want("the 1st again", backend.call("classes", "load", load_request(b"c0", images[b"count"])), (0, b""))
-    tally.want("the object that load made", backend.get("classes"), Object())
-    tally.want("unload", backend.call("classes", "unload", load_request(b"c5")), (0, b""))
-    tally.want("a 16th again", backend.call("classes", "load", load_request(b"c16", images[b"lock"])), (0, b""))
 
 
 def try_stand_in(backend, tally, images):
@@ -274,11 +291,12 @@ def try_stand_in(backend, tally, images):
         tally.want(f"caller {kind} {caller}", found, (result, output))
     for way in ("exec", "query", "run", "see"):
         tally.want(f"{way} as the 2nd step", backend.call("o", way, h(b"stat"), step=1), (-114, b""))
-    tally.want("unload as the 2nd step", backend.call("o", "unload", load_request(b"lock"), step=1), (-114, b""))
+    for way, data in (("unload", load_request(b"lock")), ("load", load_request(b"new", images[b"lock"]))):
+        tally.want(f"{way} as the 2nd step", backend.call("o", way, data, step=1), (-114, b""))
     found = backend.call("o", "exec", h(b"reply", number(49)), limit=65)
     tally.want("a reply of 65 bytes where the OSD allows it", found, (0, frame(7, 10, bytes(49))))
     os.environ["CEPH_VERSION"] = "17.2.0"
-    other = osd.StandIn(backend.process.args)
+    other = osd.StandIn(*backend.words)
     other.put("o", whole, images)
     tally.want("an OSD of another release", other.call("o", "exec", h(b"stat")), (-95, b""))
     other.close()
@@ -290,32 +308,43 @@ def try_stand_in(backend, tally, images):
 
 
 def try_failing(backend, tally, images, whole):
-    """Each of the OSD's calls, and each growth of the library's memory, fails in turn: the call is refused, and
-    nothing is changed.
+    """Each of the OSD's calls, each growth of the library's memory and each `operator new` of the plug-in fails in
+    turn: the call is refused, and nothing is changed.
     """
     h = lambda method, data=b"": named(b"helpers", method, data)
-    mixed = b"\0\1ababcb\1" + bytes(24)
-    asked = [(b"mix", mixed), (b"rmxattr", b"x"), (b"create", number(0)), (b"remove", b""), (b"map_rm", b"k")]
+    asked = [(b"mix", b"\0\1ababcb\1" + bytes(24)), (b"rmxattr", b"x"), (b"create", number(0)), (b"remove", b"")]
+    asked.append((b"map_rm", b"k"))
     asked = [("exec", h(*each)) for each in asked]
     asked += [("unload", load_request(b"lock")), ("load", load_request(b"n", images[b"lock"])), ("list", b"")]
     asked += [
         ("verify", images[b"lock"][:40]),
         ("query", h(b"stat")),
-        ("run", request(images[b"lock"], b"lock", b"", True)),
+        ("run_sent", request(images[b"lock"], b"lock", b"me", True)),
     ]
-    for way, data in asked:
+    asked += [("classes", b""), ("stats", b"")]
+    asked = [(whole, *each, "bpf") for each in asked]
+    asked += [(Object(bytes(65537)), "unload", load_request(b"lock"), "bpf"), (whole, "count", b"", "count")]
+    for whole, way, data, cls in asked:
+        call = lambda **failing: backend.call("o", way, data, cls=cls, **failing)
+        for _ in range(2):  # the first one may take memory that stays
+            backend.put("o", whole, images, b"header")
+            tally.want(f"{way} {data[:30]}", call()[0] >= 0, True)
+        for new in range(1, backend.news + 1):
+            backend.put("o", whole, images, b"header")
+            what = f"{way} {data[:30]}, operator new {new} fails"
+            tally.want(what, (call(new=new)[0], backend.whole("o")), (-12, (whole, images, b"header")))
         backend.put("o", whole, images, b"header")
-        tally.want(f"{way} {data[:30]}", backend.call("o", way, data)[0] >= 0, True)
+        call()
         for growth in range(1, backend.growths + 1):
             backend.put("o", whole, images, b"header")
-            result, _ = backend.call("o", way, data, growth=growth)
+            result, _ = call(growth=growth)
             what = f"{way} {data[:30]}, growth {growth} of the library's memory fails"
             tally.want(what, (result, backend.whole("o")), (-12, (whole, images, b"header")))
         backend.put("o", whole, images, b"header")
-        backend.call("o", way, data)
+        call()
         for failing in range(1, backend.osd_calls + 1):
             backend.put("o", whole, images, b"header")
-            result, _ = backend.call("o", way, data, failing=failing)
+            result, _ = call(failing=failing)
             what = f"{way} {data[:30]}, the OSD's call {failing} fails"
             tally.want(what, (result < 0, backend.whole("o")), (True, (whole, images, b"header")))
 
@@ -347,11 +376,6 @@ def try_cluster(backend, tally, images):
     tally.want("rados getxattr", backend.c.rados_getxattr(backend.io, b"o", b"x", b"", 0), -61)
     second = osd.Cluster(os.environ["CONF"])
     tally.want("another session is another caller", second.number() != backend.number(), True)
-    backend.put("lock", None)
-    sent = request(images[b"lock"], b"lock", b"", True)
-    tally.want("the first session locks", backend.call("lock", "run", sent), (0, b""))
-    tally.want("the second doesn't", second.call("lock", "run", sent), (-16, b""))
-    tally.want("the first does again", backend.call("lock", "run", sent), (0, b""))
     second.close()
 
 
@@ -360,7 +384,6 @@ def main(words):
     tally, backend = osd.Tally(f"refusals and traps, {words[1]}"), osd.open_from(words[1:])
     try_rows(backend, tally, images)
     try_changes(backend, tally, images)
-    try_classes(backend, tally, images)
     try_loops(backend, tally)
     if words[1] == "cluster":
         os.environ["CONF"] = words[2]

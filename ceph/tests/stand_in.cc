@@ -1,23 +1,39 @@
-// Stands in for the OSD's calls, so that the plug-in's own functions run under a sanitizer, or with
-// a call of the OSD's failing in turn.
+// Stands in for an OSD, so that the plug-in runs under a sanitizer, or with a call of the OSD's failing
+// in turn: it opens the stubs of a folder as an OSD does, and has the calls that they make of it.
 //
-// CEPH_VERSION of the environment is the OSD's version (16.2.15). It reads calls from standard
-// input and answers each on standard output; `osd.py` writes and reads them. All numbers are
-// little-endian, and `bytes` are u32 length and the bytes.
-//     call:    bytes method, bytes request, u8 the caller's type, u64 its number, u32 step of the
-//              operation, u32 osd_max_write_op_reply_len, u32 which call of the OSD's fails (0: none),
-//              u32 which growth of the library's memory fails (0: none), object
+//     stand_in FOLDER
+//
+// CEPH_VERSION of the environment is the OSD's version (16.2.15). It reads from standard input and
+// answers each on standard output; `osd.py` writes and reads them. All numbers are little-endian,
+// and `bytes` are u32 length and the bytes.
+//     u8 0, call        one call
+//     u8 1, u32 threads, u32 times, u32 count, call ..
+//                       as many threads make the calls so often, each thread its own of them, all at
+//                       once; the answer is u32 how many were answered other than by one thread
+//     call:    bytes class, bytes method, bytes request, u8 the caller's type, u64 its number, u32
+//              step of the operation, u32 osd_max_write_op_reply_len, and, of which 0 is none: u32
+//              which call of the OSD's fails, u32 which growth of the library's memory, u32 which
+//              `operator new` of the plug-in; object
 //     object:  u8 0, or u8 1, bytes data, bytes omap header, and the xattrs and the omap: u32 count,
 //              and of each bytes name, bytes value
 //     answer:  i32 result, bytes output, object, u32 how many calls of the OSD's were made, u32 how
-//              often the library's memory grew, bytes what the plug-in did that no OSD allows
+//              often the library's memory grew, u32 how often `operator new` was called, bytes what
+//              the plug-in did that no OSD allows, bytes a line for each call of the OSD's that reads
+//              or changes the object, bytes a line for each line of the log: level, blank, text
+// Before the first call it writes such lines of the log, of the opening of the classes.
 #include "../plugin/bytes.h"
 #include "../plugin/osd.h"
 
+#include <algorithm>
 #include <cstdarg>
 #include <cstdio>
 #include <cstdlib>
 #include <cstring>
+#include <dirent.h>
+#include <dlfcn.h>
+#include <new>
+#include <set>
+#include <thread>
 #include <unistd.h>
 
 namespace {
@@ -40,29 +56,63 @@ struct registered {
     cls_method_cxx_call_t call;
 };
 
-std::map<std::string, registered> methods;
-std::string class_name;
+// The classes, as an OSD keeps them: by name, with their methods. One that is open takes no further
+// methods, and one of another name than that which is being opened takes none.
+struct known_class {
+    bool is_being_opened = false;
+    std::map<std::string, registered> methods;
+};
+std::map<std::string, known_class> classes;
 
-// Of the call that is being made: the object as it was, which reads read, and as it will be.
-object before, after;
-bool may_read_alone, has_changed;
-uint8_t caller_type;
-uint64_t caller_number;
-unsigned step, reply_limit, failing, calls, refused_growth, growths;
-std::string misuse;
+// Of the call that a thread makes: the object as it was, which reads read, and as it will be.
+struct state {
+    object before, after;
+    bool may_read_alone = false, has_changed = false, is_in_plugin = false;
+    uint8_t caller_type = 0;
+    uint64_t caller_number = 0;
+    unsigned step = 0, reply_limit = 0, failing = 0, calls = 0, refused_growth = 0, growths = 0;
+    unsigned refused_new = 0, news = 0;
+    std::string misuse, trace, log;
+};
+thread_local state now;
 
-void blame(const char *what) {
-    misuse += std::string(what) + "; ";
+// For as long as it is there, the memory that is taken is the stand-in's own.
+struct outside {
+    bool was = now.is_in_plugin;
+    outside() { now.is_in_plugin = false; }
+    ~outside() { now.is_in_plugin = was; }
+};
+
+std::string hex(const std::string &from) {
+    std::string made;
+    for (unsigned char each : from) {
+        made += "0123456789abcdef"[each >> 4];
+        made += "0123456789abcdef"[each & 15];
+    }
+    return made.empty() ? "-" : made;
 }
 
-// Counts a call of the OSD's. Whether it fails.
-bool fails(bool changes) {
-    if (changes && may_read_alone)
+void blame(const char *what) {
+    now.misuse += std::string(what) + "; ";
+}
+
+// Counts a call of the OSD's, and writes down what it does. Whether it fails.
+bool fails(bool changes, const std::string &does) {
+    if (changes && now.may_read_alone)
         blame("a read method changes the object");
-    if (!changes && has_changed)
+    if (!changes && now.has_changed)
         blame("a read after a change reads the object as it was");
-    has_changed |= changes;
-    return ++calls == failing;
+    now.has_changed |= changes;
+    now.trace += does + "\n";
+    return ++now.calls == now.failing;
+}
+
+bool reads(const std::string &does) {
+    return fails(false, does);
+}
+
+bool changes(const std::string &does) {
+    return fails(true, does);
 }
 
 std::string text(ceph::bufferlist &list) {
@@ -77,178 +127,240 @@ void give(ceph::bufferlist *to, const std::string &from) {
 
 int get(const entries &all, const std::string &name, ceph::bufferlist *to) {
     auto found = all.find(name);
-    if (!before.present || found == all.end())
-        return before.present ? -ENODATA : -ENOENT;
+    if (!now.before.present || found == all.end())
+        return now.before.present ? -ENODATA : -ENOENT;
     give(to, found->second);
     return int(found->second.size());
 }
 
+// Whether code is of Ceph's library: where memory fails in there, its buffers leak.
+bool is_cephs(void *code) {
+    Dl_info found;
+    return dladdr(code, &found) && found.dli_fname && strstr(found.dli_fname, "libceph-common");
+}
+
+void *take(size_t size, void *caller) {
+    if (now.is_in_plugin && !is_cephs(caller) && ++now.news == now.refused_new)
+        throw std::bad_alloc();
+    if (void *taken = malloc(size ? size : 1))
+        return taken;
+    throw std::bad_alloc();
+}
+
 } // namespace
 
-// The library takes memory by these two alone: it is linked with --wrap=malloc,--wrap=realloc.
-extern "C" {
-void *__real_malloc(size_t size);
-void *__real_realloc(void *old, size_t size);
-void *__wrap_malloc(size_t size) {
-    return ++growths == refused_growth ? nullptr : __real_malloc(size);
+// The plug-in takes memory by these, as all others do.
+void *operator new(size_t size) {
+    return take(size, __builtin_return_address(0));
 }
-void *__wrap_realloc(void *old, size_t size) {
-    return ++growths == refused_growth ? nullptr : __real_realloc(old, size);
+void *operator new[](size_t size) {
+    return take(size, __builtin_return_address(0));
+}
+void operator delete(void *taken) noexcept {
+    free(taken);
+}
+void operator delete(void *taken, size_t) noexcept {
+    free(taken);
+}
+void operator delete[](void *taken) noexcept {
+    free(taken);
+}
+void operator delete[](void *taken, size_t) noexcept {
+    free(taken);
 }
 
-int cls_log(int, const char *, ...) {
+extern "C" {
+
+// The library takes memory by these two alone: the engine is linked with --wrap=malloc,--wrap=realloc.
+void *__wrap_malloc(size_t size) {
+    return ++now.growths == now.refused_growth ? nullptr : malloc(size);
+}
+void *__wrap_realloc(void *old, size_t size) {
+    return ++now.growths == now.refused_growth ? nullptr : realloc(old, size);
+}
+
+int cls_log(int level, const char *format, ...) {
+    outside here;
+    char line[4096];
+    va_list words;
+    va_start(words, format);
+    vsnprintf(line, sizeof line, format, words);
+    va_end(words);
+    now.log += std::to_string(level) + " " + line + "\n";
     return 0;
 }
 
 int cls_register(const char *name, cls_handle_t *handle) {
-    class_name = name;
-    *handle = &class_name;
-    return 0;
+    outside here;
+    known_class &found = classes[name];
+    *handle = found.is_being_opened ? &found : nullptr;
+    return found.is_being_opened;
 }
 
 int cls_get_request_origin(cls_method_context_t, void *entity) {
-    if (fails(false))
+    outside here;
+    if (reads("origin"))
         return -EIO;
     auto *bytes = static_cast<uint8_t *>(entity);
-    bytes[0] = caller_type;
-    memcpy(bytes + 8, &caller_number, 8);
+    bytes[0] = now.caller_type;
+    memcpy(bytes + 8, &now.caller_number, 8);
     memset(bytes + 16, 0x5a, 136); // an address
     return 0;
 }
 }
 
-int cls_register_cxx_method(cls_handle_t, const char *method, int flags, cls_method_cxx_call_t call,
+int cls_register_cxx_method(cls_handle_t handle, const char *method, int flags, cls_method_cxx_call_t call,
                             cls_method_handle_t *) {
-    methods[method] = {flags, call};
+    outside here;
+    static_cast<known_class *>(handle)->methods[method] = {flags, call};
     return 0;
 }
 
 int cls_current_subop_num(cls_method_context_t) {
-    return int(step);
+    return int(now.step);
 }
 
 int cls_cxx_stat(cls_method_context_t, uint64_t *size, time_t *) {
-    if (fails(false))
+    outside here;
+    if (reads("stat"))
         return -EIO;
-    if (!before.present)
+    if (!now.before.present)
         return -ENOENT;
-    *size = before.data.size();
+    *size = now.before.data.size();
     return 0;
 }
 
 int cls_cxx_read(cls_method_context_t, int at, int length, ceph::bufferlist *to) {
-    if (fails(false))
+    outside here;
+    if (length <= 0)
+        blame("a read of no bytes, which an OSD takes for all");
+    if (reads("read " + std::to_string(at) + " " + std::to_string(length)))
         return -EIO;
-    if (!before.present)
+    if (!now.before.present)
         return -ENOENT;
-    give(to, size_t(at) < before.data.size() ? before.data.substr(at, length) : "");
+    give(to, size_t(at) < now.before.data.size() ? now.before.data.substr(at, length) : "");
     return int(to->length());
 }
 
 int cls_cxx_getxattr(cls_method_context_t, const char *name, ceph::bufferlist *to) {
-    return fails(false) ? -EIO : get(before.xattrs, name, to);
+    outside here;
+    return reads("xattr " + hex(name)) ? -EIO : get(now.before.xattrs, name, to);
 }
 
 int cls_cxx_getxattrs(cls_method_context_t, std::map<std::string, ceph::bufferlist> *all) {
-    if (fails(false))
+    outside here;
+    if (reads("xattrs"))
         return -EIO;
-    if (!before.present)
+    if (!now.before.present)
         return -ENOENT;
-    for (auto &[name, value] : before.xattrs)
+    for (auto &[name, value] : now.before.xattrs)
         give(&(*all)[name], value);
     return 0;
 }
 
 int cls_cxx_map_get_vals(cls_method_context_t, const std::string &from, const std::string &, uint64_t most,
                          std::map<std::string, ceph::bufferlist> *all, bool *more) {
-    if (fails(false))
+    outside here;
+    if (reads("keys " + hex(from) + " " + std::to_string(most)))
         return -EIO;
-    if (!before.present)
+    if (!now.before.present)
         return -ENOENT;
-    auto at = from.empty() ? before.omap.begin() : before.omap.upper_bound(from);
-    for (; at != before.omap.end() && all->size() < most; ++at)
+    auto at = from.empty() ? now.before.omap.begin() : now.before.omap.upper_bound(from);
+    for (; at != now.before.omap.end() && all->size() < most; ++at)
         give(&(*all)[at->first], at->second);
-    *more = at != before.omap.end();
+    *more = at != now.before.omap.end();
     return 0;
 }
 
 int cls_cxx_map_read_header(cls_method_context_t, ceph::bufferlist *header) {
-    if (fails(false))
+    outside here;
+    if (reads("header"))
         return -EIO;
-    give(header, before.header);
-    return before.present ? 0 : -ENOENT;
+    give(header, now.before.header);
+    return now.before.present ? 0 : -ENOENT;
 }
 
 int cls_cxx_create(cls_method_context_t, bool exclusive) {
-    if (fails(true))
+    outside here;
+    if (changes("create"))
         return -EIO;
-    if (after.present && exclusive)
+    if (now.after.present && exclusive)
         return -EEXIST;
-    after.present = true;
+    now.after.present = true;
     return 0;
 }
 
 int cls_cxx_remove(cls_method_context_t) {
-    if (fails(true))
+    outside here;
+    if (changes("remove"))
         return -EIO;
-    if (!after.present)
+    if (!now.after.present)
         return -ENOENT;
-    after = object();
+    now.after = object();
     return 0;
 }
 
 int cls_cxx_write(cls_method_context_t, int at, int length, ceph::bufferlist *from) {
-    if (fails(true))
+    outside here;
+    if (changes("write " + std::to_string(at) + " " + std::to_string(length)))
         return -EIO;
     if (from->length() != unsigned(length) || !length)
         blame("a write of another length, or of none");
-    after.present = true;
-    if (after.data.size() < size_t(at + length))
-        after.data.resize(at + length);
-    after.data.replace(at, length, text(*from));
+    now.after.present = true;
+    if (now.after.data.size() < size_t(at + length))
+        now.after.data.resize(at + length);
+    now.after.data.replace(at, length, text(*from));
     return 0;
 }
 
 int cls_cxx_truncate(cls_method_context_t, int size) {
-    if (fails(true))
+    outside here;
+    if (changes("truncate " + std::to_string(size)))
         return -EIO;
-    if (!after.present)
+    if (!now.after.present)
         return -ENOENT;
-    after.data.resize(size);
+    now.after.data.resize(size);
     return 0;
 }
 
 int cls_cxx_setxattr(cls_method_context_t, const char *name, ceph::bufferlist *value) {
-    if (fails(true))
+    outside here;
+    if (changes("set xattr " + hex(name)))
         return -EIO;
-    after.present = true;
-    after.xattrs[name] = text(*value);
+    now.after.present = true;
+    now.after.xattrs[name] = text(*value);
     return 0;
 }
 
 int cls_cxx_map_set_vals(cls_method_context_t, const std::map<std::string, ceph::bufferlist> *all) {
-    if (fails(true))
+    outside here;
+    std::string does = "set keys";
+    for (auto &[key, value] : *all)
+        does += " " + hex(key);
+    if (changes(does))
         return -EIO;
-    after.present = true;
+    now.after.present = true;
     for (auto &[key, value] : *all) {
         ceph::bufferlist copy = value;
-        after.omap[key] = text(copy);
+        now.after.omap[key] = text(copy);
     }
     return 0;
 }
 
 int cls_cxx_map_remove_key(cls_method_context_t, const std::string &key) {
-    if (fails(true))
+    outside here;
+    if (changes("remove key " + hex(key)))
         return -EIO;
-    if (!after.omap.erase(key))
+    if (!now.after.omap.erase(key))
         blame("a key is removed that isn't there");
     return 0;
 }
 
 int cls_cxx_map_write_header(cls_method_context_t, ceph::bufferlist *header) {
-    if (fails(true))
+    outside here;
+    if (changes("set header"))
         return -EIO;
-    after.header = text(*header);
+    now.after.header = text(*header);
     return 0;
 }
 
@@ -260,9 +372,10 @@ const char *ceph_version_to_str() {
 namespace ceph {
 namespace common {
 template <> const Option::size_t ConfigProxy::get_val<Option::size_t>(std::string_view key) const {
+    outside here;
     if (key != "osd_max_write_op_reply_len")
         blame("a setting that the OSD doesn't have");
-    return {reply_limit};
+    return {now.reply_limit};
 }
 } // namespace common
 namespace global {
@@ -272,8 +385,6 @@ common::ConfigProxy &g_conf() {
 }
 } // namespace global
 } // namespace ceph
-
-extern "C" void __cls_init();
 
 namespace {
 
@@ -333,53 +444,152 @@ void put(const object &from) {
     }
 }
 
+struct one_call {
+    std::string class_name, method, request;
+    state with;
+};
+
+one_call get_call() {
+    one_call made;
+    made.class_name = get_bytes();
+    made.method = get_bytes();
+    made.request = get_bytes();
+    made.with.caller_type = uint8_t(get_number(1));
+    made.with.caller_number = get_number(8);
+    made.with.step = unsigned(get_number(4));
+    made.with.reply_limit = unsigned(get_number(4));
+    made.with.failing = unsigned(get_number(4));
+    made.with.refused_growth = unsigned(get_number(4));
+    made.with.refused_new = unsigned(get_number(4));
+    made.with.before = made.with.after = get_object();
+    return made;
+}
+
 // What the OSD does with a method's call: a read of an absent object isn't asked, and a change is
 // kept if the result is no error.
-int operate(const std::string &name, const std::string &request, std::string &output) {
-    auto found = methods.find(name);
-    if (found == methods.end())
+int operate(const one_call &asked, std::string &output) {
+    now = asked.with;
+    auto found = classes.find(asked.class_name);
+    if (found == classes.end())
         return -EOPNOTSUPP;
-    may_read_alone = !(found->second.flags & CLS_METHOD_WR);
-    if (may_read_alone && !before.present)
+    auto method = found->second.methods.find(asked.method);
+    if (method == found->second.methods.end())
+        return -EOPNOTSUPP;
+    now.may_read_alone = !(method->second.flags & CLS_METHOD_WR);
+    if (now.may_read_alone && !now.before.present)
         return -ENOENT;
     // The request lies at the end of a block of its own length, so that a read past it is seen.
     ceph::bufferlist in, out;
-    in.push_back(ceph::buffer::copy(request.data(), unsigned(request.size())));
-    int result = found->second.call(&before, &in, &out);
+    in.push_back(ceph::buffer::copy(asked.request.data(), unsigned(asked.request.size())));
+    now.is_in_plugin = true;
+    int result = method->second.call(&now, &in, &out);
+    now.is_in_plugin = false;
     output = text(out);
     if (result < 0 && !output.empty())
         blame("output of a refused call");
     if (result < 0)
-        after = before;
-    else if (!(after == before) && output.size() > reply_limit)
+        now.after = now.before;
+    else if (!(now.after == now.before) && output.size() > now.reply_limit)
         blame("a reply of a change that the OSD answers -75, with the change standing");
     return result;
 }
 
+void answer_call() {
+    std::string output;
+    int result = operate(get_call(), output);
+    put(uint32_t(result), 4);
+    put(output);
+    put(now.after);
+    put(now.calls, 4);
+    put(now.growths, 4);
+    put(now.news, 4);
+    put(now.misuse);
+    put(now.trace);
+    put(now.log);
+}
+
+struct answered {
+    int result;
+    std::string output, misuse;
+    object after;
+
+    bool operator==(const answered &other) const {
+        return result == other.result && output == other.output && misuse == other.misuse && after == other.after;
+    }
+};
+
+answered answer_of(const one_call &asked) {
+    answered found{};
+    found.result = operate(asked, found.output);
+    found.misuse = now.misuse;
+    found.after = now.after;
+    return found;
+}
+
+void answer_threads() {
+    uint64_t count = get_number(4), times = get_number(4);
+    std::vector<one_call> calls(get_number(4));
+    std::vector<answered> wanted;
+    for (auto &one : calls) {
+        one = get_call();
+        wanted.push_back(answer_of(one));
+    }
+    std::vector<std::thread> threads;
+    std::vector<unsigned> other(count);
+    for (size_t i = 0; i < count; i++)
+        threads.emplace_back([&, i] {
+            for (uint64_t left = times; left; left--)
+                other[i] += !(answer_of(calls[i % calls.size()]) == wanted[i % calls.size()]);
+        });
+    unsigned sum = 0;
+    for (size_t i = 0; i < count; i++) {
+        threads[i].join();
+        sum += other[i];
+    }
+    put(sum, 4);
+}
+
+// Opens a class by its file, as an OSD does.
+void open_class(const std::string &folder, const std::string &name) {
+    known_class &one = classes[name];
+    std::string path = folder + "/libcls_" + name + ".so";
+    void *handle = dlopen(path.c_str(), RTLD_NOW);
+    if (!handle) {
+        now.log += "0 " + std::string(dlerror()) + "\n";
+        return;
+    }
+    one.is_being_opened = true;
+    auto init = reinterpret_cast<void (*)()>(dlsym(handle, "__cls_init"));
+    if (init)
+        init();
+    one.is_being_opened = false;
+}
+
+// In the order of their names.
+std::set<std::string> names_in(const std::string &folder) {
+    std::set<std::string> names;
+    DIR *open = opendir(folder.c_str());
+    while (dirent *entry = open ? readdir(open) : nullptr) {
+        std::string file = entry->d_name;
+        if (file.size() > 10 && file.compare(0, 7, "libcls_") == 0 && file.compare(file.size() - 3, 3, ".so") == 0)
+            names.insert(file.substr(7, file.size() - 10));
+    }
+    if (open)
+        closedir(open);
+    return names;
+}
+
 } // namespace
 
-int main() {
-    __cls_init();
+int main(int count, char **words) {
+    if (count != 2)
+        return 2;
+    for (auto &name : names_in(words[1]))
+        open_class(words[1], name);
+    put(now.log);
+    fflush(stdout);
     for (int letter = getchar(); letter != EOF; letter = getchar()) {
-        ungetc(letter, stdin);
-        std::string name = get_bytes(), request = get_bytes(), output;
-        caller_type = uint8_t(get_number(1));
-        caller_number = get_number(8);
-        step = unsigned(get_number(4));
-        reply_limit = unsigned(get_number(4));
-        failing = unsigned(get_number(4));
-        refused_growth = unsigned(get_number(4));
-        before = after = get_object();
-        calls = growths = 0;
-        has_changed = false;
-        misuse.clear();
-        int result = operate(name, request, output);
-        put(uint32_t(result), 4);
-        put(output);
-        put(after);
-        put(calls, 4);
-        put(growths, 4);
-        put(misuse);
+        letter == 0 ? answer_call() : answer_threads();
         fflush(stdout);
     }
 }

@@ -1,0 +1,66 @@
+// A call of a class, whether it is installed, loaded beside the object or sent: what the library
+// answers, whether that can be given back, and what is written down of it.
+#pragma once
+
+#include "bytes.h"
+#include "osd.h"
+#include "refusals.h"
+
+#include <memory>
+
+#include "sillarnica.h"
+
+// How a call is made: whether it may change the object, and whether code and steps come before the
+// output, or the code is the operation's result.
+struct kind {
+    bool may_change, framed;
+};
+
+// An answer of the library, with its bytes.
+struct answer : sillarnica_answer {
+    std::unique_ptr<uint8_t[]> bytes;
+
+    slice output() const { return {bytes.get(), size_t(output_len)}; }
+    slice edits() const { return {bytes.get() + output_len, size_t(edits_len)}; }
+};
+
+// What the log and the counters say of a call.
+struct account {
+    std::string called; // the class and the method, where the method's own name doesn't say it
+    bool was_run = false;
+    int64_t code = 0;
+    uint64_t steps = 0;
+    size_t input = 0, output = 0, edits = 0;
+};
+
+// What nearly every answer fits in. A longer one makes the call twice.
+constexpr size_t FIRST_BUFFER = 16384;
+
+// Makes a call of the library, which is a function of its bytes: into a buffer of that size, and
+// where that is too small into one of the size that the library asks for.
+template <class Call> int32_t ask_library(Call call, answer &found) {
+    size_t room = FIRST_BUFFER;
+    found.bytes.reset(new uint8_t[room]);
+    int32_t said = call(found.bytes.get(), room);
+    if (said != SILLARNICA_NO_ROOM)
+        return said;
+    room = size_t(found.output_len + found.edits_len);
+    found.bytes.reset(new uint8_t[room]);
+    return call(found.bytes.get(), room);
+}
+
+// The refusal of an answer of the library; 0 of a good one.
+int refusal_of(int32_t said);
+
+// Refuses a call behind another step of its operation: an OSD's calls read the object as it was
+// before the operation, so what the earlier steps changed would be lost, and reading data that an
+// earlier step wrote can damage the object.
+int test_step(cls_method_context_t context);
+
+// The caller's number, as the client says it of itself: the OSD doesn't compare it with the number
+// of the session that it authenticated. So it is a help against mistakes, not against attackers.
+int find_caller(cls_method_context_t context, uint32_t &caller);
+
+// Gives an answer back: tests that it can be given, makes its edits, and puts its output. The
+// operation's result.
+int give_answer(cls_method_context_t context, const answer &found, kind as, ceph::bufferlist &out, account &made);
