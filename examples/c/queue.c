@@ -1,4 +1,4 @@
-#include "class.h"
+#include <sillarnica/class.h>
 
 /* A queue in the object's omap. A key is a push's number, 8 bytes, the highest first, since keys are in the order of
    their bytes. The xattr "n" has the next push's number. */
@@ -11,6 +11,8 @@ METHOD(pop, rw, 0, ROOM)
     s64 got = cls_map_next(&key, 0, &key, sizeof key); /* above no bytes: the least */
     if (got < 0)
         return got;
+    if (got != sizeof key)
+        return -EIO; /* a shorter key is no number */
     s64 length = cls_map_get(&key, sizeof key, out, ROOM);
     if (length < 0 || length > ROOM)
         return length;
@@ -28,6 +30,8 @@ METHOD(push, rw, ROOM, 0)
     s64 got = cls_getxattr(name, 1, &number, sizeof number);
     if (got < 0 && got != -ENOENT && got != -ENODATA)
         return got;
+    if (got >= 0 && got != sizeof number)
+        return -EIO; /* a shorter value is no number */
     u64 key = __builtin_bswap64(number);
     s64 set = cls_map_set(&key, sizeof key, in, in_len);
     if (set < 0)

@@ -1,4 +1,4 @@
-#include "class.h"
+#include <sillarnica/class.h>
 
 /* The sum of the first 16 bytes of input, as 8 bytes of output. No jump goes back, so the loop is unrolled. */
 METHOD(sum, r, 16, 8)

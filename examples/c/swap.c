@@ -1,4 +1,4 @@
-#include "class.h"
+#include <sillarnica/class.h>
 
 /* Compare and swap of the data's first 8 bytes: the input is what they should be, and what they become. */
 METHOD(swap, rw, 16, 0)

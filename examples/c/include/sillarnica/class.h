@@ -1,0 +1,162 @@
+/* What a method of a class may use in C: its arguments, the helpers, and what the verifier needs to see of lengths. Compiled by
+   tools/radoscls-cc it becomes verified BPF; by any C compiler together with class_native.c, a plain program to test. */
+#ifndef SILLARNICA_CLASS_H
+#define SILLARNICA_CLASS_H
+
+typedef unsigned char u8;
+typedef unsigned short u16;
+typedef unsigned int u32;
+typedef unsigned long long u64;
+typedef signed char s8;
+typedef short s16;
+typedef int s32;
+typedef long long s64;
+
+/* Functions of one's own are inlined into each method: there are no calls between functions. */
+#define INLINE static inline __attribute__((always_inline))
+
+/* Stands before a `for` with a constant bound: each round is written out, since no jump goes back. */
+#ifdef __clang__
+#define UNROLL _Pragma("clang loop unroll(full)")
+#else
+#define UNROLL
+#endif
+
+/* METHOD(name, FLAGS, IN, OUT) { .. } is a method. FLAGS is r (reads), w or rw (may write), as words; IN and OUT, the most
+   bytes of input and output, are constant expressions of 0 to 4096, as sizeof (struct request). It gets
+     in      IN bytes: the input followed by zeros, which can't be written
+     in_len  how long the input is, at most IN
+     out     OUT bytes, all zero; the output is as many of them as cls_out_len was told, none if it wasn't called
+   and returns its code; a negative one is an error, and drops all that the method did. */
+#define METHOD(name, flags, in_cap, out_cap)                                                                              \
+    _Static_assert((in_cap) >= 0 && (in_cap) <= 4096 && (out_cap) >= 0 && (out_cap) <= 4096,                              \
+                   "METHOD(" #name "): IN and OUT are 0 to 4096 bytes");                                                  \
+    METHOD_IS(name, METHOD_FLAGS_##flags, in_cap, out_cap)                                                                \
+    static s64 method_##name(const u8 *in, u64 in_len, u8 *out)
+#define METHOD_FLAGS_r 1
+#define METHOD_FLAGS_w 2
+#define METHOD_FLAGS_rw 3
+
+#ifdef __bpf__
+
+#include "errno.h"
+
+/* Two sections have what radoscls-cc wants to know: caps.NAME and method.NAME. */
+#define METHOD_IS(name, flags, in_cap, out_cap)                                                                           \
+    static const u16 caps_##name[3] __attribute__((section("caps." #name), used)) = {flags, in_cap, out_cap};             \
+    __attribute__((section("method." #name), used)) static s64 method_##name(const u8 *in, u64 in_len, u8 *out);
+
+/* A helper is called by its number. */
+#define HELPER(id, name, ...) static s64 (*const name)(__VA_ARGS__) __attribute__((unused)) = (void *)id;
+
+#else
+
+#include <errno.h>
+
+struct native_method {
+    const char *name;
+    u64 flags, in_cap, out_cap;
+    s64 (*run)(const u8 *in, u64 in_len, u8 *out);
+    struct native_method *next;
+};
+void native_add(struct native_method *method);
+s64 native_call(const char *name, u64 by, const void *input, u64 in_len, void *output, u64 *output_len);
+
+#define METHOD_IS(name, flags, in_cap, out_cap)                                                                           \
+    static s64 method_##name(const u8 *in, u64 in_len, u8 *out);                                                          \
+    __attribute__((constructor)) static void native_add_##name(void)                                                      \
+    {                                                                                                                     \
+        static struct native_method its = {#name, flags, in_cap, out_cap, method_##name, 0};                              \
+        native_add(&its);                                                                                                 \
+    }
+
+#define HELPER(id, name, ...) s64 name(__VA_ARGS__);
+
+#endif
+
+/* The helpers. Each answers a number: what the line says, or the negative of an error number, and then it changed nothing.
+   Names and keys have 1 to 64 bytes, values at most 4096, an object's data at most 65536. `room` is how much may be written.
+   ENOENT: no object. ENODATA: no such xattr or key. ERANGE: longer than the room. */
+HELPER(1, cls_stat, void)                                                     /* the length of the data */
+HELPER(2, cls_read, u64 place, void *to, u64 room)                            /* how many bytes there were from place on */
+HELPER(3, cls_write, u64 place, const void *bytes, u64 length)                /* length; makes the object */
+HELPER(4, cls_truncate, u64 length)                                           /* 0; cuts the data, or extends it by zeros */
+HELPER(5, cls_remove, void)                                                   /* 0; the object is gone */
+HELPER(6, cls_getxattr, const void *name, u64 length, void *to, u64 room)     /* the value's length */
+HELPER(7, cls_setxattr, const void *name, u64 length, const void *value, u64 count) /* 0; makes the object */
+HELPER(8, cls_rmxattr, const void *name, u64 length)                          /* 0 */
+HELPER(9, cls_map_get, const void *key, u64 length, void *to, u64 room)       /* the value's length */
+HELPER(10, cls_map_set, const void *key, u64 length, const void *value, u64 count) /* 0; makes the object */
+HELPER(11, cls_map_rm, const void *key, u64 length)                           /* 0 */
+HELPER(12, cls_map_next, const void *key, u64 length, void *to, u64 room)     /* the length of the least key above it */
+HELPER(13, cls_out_len, u64 length)                                           /* 0; the output has so many bytes */
+HELPER(14, cls_create, u64 exclusive)                                         /* 0; EEXIST if it is there and exclusive */
+HELPER(15, cls_caller, void)                                                  /* the number of the client that calls */
+#undef HELPER
+
+/* clang forgets what it knows of x, and keeps it in one register, so that what is checked is what is used. */
+#define OPAQUE(x) __asm__ volatile("" : "+r"(x))
+
+/* The verifier forgets a check of one register when another copy of the number is used. After `if (x > 100) return ..` this
+   tells it again, by a mask that clang can't delete: `mask` is 2^n - 1 and at least 100. Numbers up to it stay. */
+#define BOUND(x, mask)                                                                                                    \
+    do {                                                                                                                  \
+        OPAQUE(x);                                                                                                        \
+        (x) &= (mask);                                                                                                    \
+    } while (0)
+
+/* A word at a place, whatever the place: methods' code has no alignment. clang doesn't know that, and would take bytes. */
+#ifdef __bpf__
+typedef u64 __attribute__((may_alias)) word64;
+typedef u32 __attribute__((may_alias)) word32;
+typedef u16 __attribute__((may_alias)) word16;
+#else
+typedef u64 __attribute__((may_alias, aligned(1))) word64;
+typedef u32 __attribute__((may_alias, aligned(1))) word32;
+typedef u16 __attribute__((may_alias, aligned(1))) word16;
+#endif
+
+/* The first `count` bytes of a word as it lies in memory (0 to 8; more is 8), the others 0. */
+INLINE u64 first_bytes(u64 word, s64 count)
+{
+    return count <= 0 ? 0 : count >= 8 ? word : word & ((1ull << 8 * count) - 1);
+}
+
+/* Copies 8 * words bytes, a constant. So both places must have them, whatever of them is wanted. */
+INLINE void copy_words(void *to, const void *from, int words)
+{
+    UNROLL for (int i = 0; i < words; i++) ((word64 *)to)[i] = ((const word64 *)from)[i];
+}
+
+/* Copies `length` bytes, of at most `most`, a constant: nothing after them is written or read. It takes 3 slots a byte;
+   copy_words takes a quarter of one, if both places have room after the bytes. */
+INLINE void copy_bytes(void *to, const void *from, u64 length, int most)
+{
+    UNROLL for (int i = 0; i < most; i++)
+        if ((u64)i < length)
+            ((u8 *)to)[i] = ((const u8 *)from)[i];
+}
+
+/* Whether two ranges of `length` bytes, of at most 8 * words, are the same. Both places must have 8 * words bytes. */
+INLINE u64 same_bytes(const void *a, const void *b, u64 length, int words)
+{
+    u64 differ = 0;
+    UNROLL for (int i = 0; i < words; i++)
+        differ |= first_bytes(((const word64 *)a)[i] ^ ((const word64 *)b)[i], (s64)length - 8 * i);
+    return differ == 0;
+}
+
+/* The order of two strings of bytes, of at most 8 * words each, as memcmp and then the shorter first: -1, 0 or 1. */
+INLINE s64 compare_bytes(const void *a, u64 a_length, const void *b, u64 b_length, int words)
+{
+    s64 order = a_length == b_length ? 0 : a_length < b_length ? -1 : 1;
+    UNROLL for (int i = words - 1; i >= 0; i--) {
+        u64 x = __builtin_bswap64(first_bytes(((const word64 *)a)[i], (s64)a_length - 8 * i));
+        u64 y = __builtin_bswap64(first_bytes(((const word64 *)b)[i], (s64)b_length - 8 * i));
+        if (x != y)
+            order = x < y ? -1 : 1;
+    }
+    return order;
+}
+
+#endif
