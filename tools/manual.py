@@ -72,8 +72,8 @@ class Page:
     """The first part of docs/PROGRAM.md: its paragraphs, its statuses, and all pages it links."""
 
     def __init__(self, text):
-        first = re.sub(r"^```.*?^```$", "", text.partition("\n## ")[0], flags=re.M | re.S)
-        blocks = [block for block in first.split("\n\n")[1:] if block.strip()]
+        first = text.partition("\n## ")[0].rpartition("\n```\n")[2]
+        blocks = [block for block in first.split("\n\n") if block.strip()]
         self.paragraphs = [block for block in blocks if "\n---|" not in block]
         table = next(block for block in blocks if block.startswith("status | when\n"))
         self.statuses = [line.split(" | ", 1) for line in table.strip().split("\n")[2:]]

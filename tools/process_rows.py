@@ -3,7 +3,7 @@
 What the program prints itself is here to the letter, as docs/ has it. `clap` words help and usage:
 of a usage a row has the first line, in the form that clap documents, of help the names that stand
 in it. Of what --explain adds it has the place: below the line, indented."""
-import re, struct
+import os, re, struct
 
 
 def bytes_of(digits):
@@ -37,6 +37,11 @@ LARGEST_TEXT = "".join(
 LARGEST = b"RCL1" + struct.pack("<HH", 32, 0) + b"".join(
     b"\x40" + name.encode() + struct.pack("<BHHH", 3, 4096, 4096, 4096)
     + CODE[:8] * 4095 + CODE[8:] for name in NAMES)
+# A class whose text is longer than any image: its 32 methods have 4,096 instructions each.
+LARGER_TEXT = "".join(f".method m{n:02} r 0 0\n" + "mov r0, 0\n" * 4095 + "exit\n" for n in range(32))
+# The longest text that there may be.
+LIMIT = 16_777_216
+LONGEST_TEXT = TWO_TEXT + ";" * (LIMIT - len(TWO_TEXT))
 # A lock that two clients want of one node, and what each line comes to.
 OPENING = "map 1\nsee 1 1\ndeliver 1\ndeliver 2\n"
 OPENED = "map 1 prev 0\nm1 1->mon AskActivate 1\nm2 mon->1 Activated 1\nnothing\n"
@@ -51,6 +56,7 @@ m5 1->c1 Reply 2 2 0 -
 m6 1->c2 Reply 2 3 0 -
 """
 NUMBERS = "cluster nodes 3 replicas 3 groups 64 shards 4 workers 4 tries 100000000\n"
+LETTERS = "a" * 1_000_000
 
 # What lies in the folder, beside an empty folder of the name `folder`.
 FILES = {
@@ -65,6 +71,7 @@ FILES = {
     "empty": b"",
     "code": CODE,
     "word.txt": ".method f r 0 0\nfoo r1\nexit\n",
+    "cut": b"before",
     "latin1": b".method f r 0 0\nexit ; \xe9\n",
     # names that could be read as something else
     "-": TWO,
@@ -88,9 +95,31 @@ FILES = {
     "held": "data 6162\nxattr a 01\nkey k -\n",
     "bad.held": "data 6162\nxattr a\n",
     "full": b"o" * 65536,
+    # bytes that a terminal obeys: in a wrong line, in a comment, in the words of events and calls
+    "escape.txt": b".method f r 0 0\nmov r0, \x1b[31m0\\ \xc3\xa9\x7f\t~\nexit\n",
+    "escape.unsafe": b".method f r 0 0\nexit ; \x1b]0;a\x07\n",
+    "escape.sim": OPENING.encode() + b"req 1 1 1 a\x1b[2J\xc3\xa9 lock lock -\n",
+    "escape.bad": b"map 1\n\x1b[2J 1\n",
+    "escape.calls": NUMBERS.encode() + b"client 1 a \x1b[2J f\xc3\xa9~ -\n",
+    # a fault at the end of a million lines, in a line of a million letters, at the end of an unsafe
+    # class; events
+    "lines.txt": "\n" * 999_999 + "foo\n",
+    "letters.txt": LETTERS,
+    "lines.unsafe": ".method f r 0 0\n" + "\n" * 999_998 + "exit\n",
+    "lines.sim": "\n" * 99_999 + "foo\n",
     "largest.txt": LARGEST_TEXT,
+    "larger.txt": LARGER_TEXT,
+    "longest.txt": LONGEST_TEXT,
+    "over.txt": LONGEST_TEXT + ";",
+    "kept": "data 6162\nxattr a 01\n",
     "largest.img": LARGEST,
 }
+
+# The modes of files that have another than 0644, which stay; the symbolic links beside them.
+MODES = {"kept": 0o640, "lock.img": 0o755}
+LINKS = {"link": "kept", "far": "./link", "dangling": "made", "lost": "missing/made"}
+# A new file that wasn't put in its place, since the process was killed.
+NEW = ".radoscls-"
 
 # What each command takes, as docs/PROGRAM.md has it: places, and options with their values.
 COMMANDS = {
@@ -151,10 +180,22 @@ def tells(first, least=1):
     return is_told
 
 
+def shows(first, line):
+    """Whether a text is the first line and then more that is indented, with this one among it, and
+    has printable ASCII alone."""
+    is_told = tells(first)
+
+    def is_shown(text):
+        return is_told(text) and "  " + line in text.split("\n") and all(
+            letter == "\n" or " " <= letter <= "~" for letter in text)
+
+    return is_shown
+
+
 def figures(calls):
     """Whether a text is what --stats writes of that many calls."""
-    names = ("calls a second", "mean microseconds", "worst microseconds", "messages", "repeats",
-             "nudges")
+    names = ("calls a second", "mean microseconds", "worst microseconds",
+             "map to last answer microseconds", "messages", "repeats", "nudges")
     lines = f"calls {calls}\n" + "".join(f"{name} [0-9]+\n" for name in names)
     return lambda text: re.fullmatch(f"(answered [0-9]+ of {calls}\n)*{lines}", text) is not None
 
@@ -170,15 +211,36 @@ class Row:
     print on standard output and on standard error, as a text or a test of it; the status; what
     standard input has; which files are written, and with what. `to` and `err_to` are where the two
     streams go, if it is nowhere: then the row has None of what they get. `room` is how many bytes
-    standard output takes, if it is a file; `space` is how many megabytes the process has, if each
-    of its threads wants 256."""
+    standard output takes, if it is a file, and each file that is written; `killed` is true if a
+    write of more ends the process. `space` is how many megabytes the process has, if each of its
+    threads wants 256; `stack` is how many kilobytes its first thread has. `slow` is true if checks of
+    memory make it take minutes."""
 
     def __init__(self, words, out="", err="", status=0, stdin=b"", wrote=(), to=None, err_to=None,
-                 room=None, space=None):
+                 room=None, space=None, killed=False, stack=None, slow=False):
         self.words = words.split() if isinstance(words, str) else words
         self.out, self.err, self.status = out, err, status
         self.stdin, self.wrote, self.room, self.space = stdin, dict(wrote), room, space
-        self.to, self.err_to = to, err_to
+        self.to, self.err_to, self.killed, self.stack = to, err_to, killed, stack
+        self.slow = slow
+
+
+def lines_of(text=""):
+    """The lines of a text that has ` / ` between them, or ` // ` before one that is indented."""
+    return text.replace(" // ", "\n  ").replace(" / ", "\n") + "\n" if text else ""
+
+
+def rows_of(table):
+    """The rows of a table, of two lines each: words and, after them, the lines of standard input;
+    then, after `=>`, the status and what is printed. A line goes on in the next one, four blanks from
+    its beginning."""
+    lines = table.strip("\n").replace("\n    ", " ").split("\n")
+    for asked, answer in zip(lines[::2], lines[1::2], strict=True):
+        words, _, text = asked.partition(" / ")
+        arrow, status, *printed = answer.split(" ", 2)
+        if arrow != "=>":
+            raise ValueError(f"no answer: {answer}")
+        yield Row(words, lines_of(*printed), "", int(status), stdin=lines_of(text).encode())
 
 
 # Streams that take nothing: a full device, a pipe that nobody reads, a closed one.
@@ -192,7 +254,24 @@ REPLY = OPENED + "m3 1->c1 Reply 1 0 0 -\n"
 NO_IMAGE = "image refused after 0 methods: 1 Truncated\n"
 UNSAFE = "refused method 0 slot 0: 5 UnsetRead\n"
 NO_CLASS = "client 1 call 0 refused 5 NoClass\n"
+ESCAPED = r"line 2: mov r0, \x1b[31m0\ \xc3\xa9\x7f\x09~"
+ESCAPED_COMMENT = r"line 2: exit ; \x1b]0;a\x07"
+ESCAPED_DRAWING = r"""c1          1           mon         event
+|           |           *           map 1: map 1 prev 0
+|           *           |           see 1 1 => m1
+|           |--m1------>|           AskActivate 1 => m2
+|           |<------m2--|           Activated 1
+|--req----->|           |           req 1 1 1 a\x1b[2J\xc3\xa9 lock lock - => m3
+|<------m3--|           |           Reply 1 0 0 -
+"""
+WORD_AT_END, WORD_AT_ONCE = "line 1000000: 1 Word", "line 1: 1 Word"
 NOT_GIVEN = "the following required arguments were not provided:\n"
+KEEPS, KEPT = ran(0, "-", 2, "2 1 0"), b"data 6162\nxattr a 01\n"
+SAVED = "radoscls: standard output failed; the object was saved to {}\n"
+TOO_LONG = "text too long: at most 16777216 bytes\n"
+# What reads the class of a file, and what is written of it if no text is read.
+READERS = ("verify {}", "verify --all {}", "dis {}", "run {} f", "run {} f --save kept", "asm {} two.img",
+           "sim two.sim --class two={}", "cluster two.calls --class two={}")
 
 ROWS = [
     # each command
@@ -236,6 +315,48 @@ ROWS = [
     Row("run two.img f --save folder", "cannot write\n", "", 1),
     Row("run two.img f --save missing/out --explain", tells("cannot write"), "", 1),
     Row("run two.img f --load bad.held --explain", tells("object line 2: bad"), "", 1),
+    # a file is written whole or not at all: of a link the target, and its mode stays
+    Row("run two.img f --load kept --save kept", KEEPS, wrote={"kept": KEPT}),
+    Row("run two.img f --load kept --save link", KEEPS, wrote={"kept": KEPT}),
+    Row("run two.img f --load kept --save folder/../far", KEEPS, wrote={"kept": KEPT}),
+    Row("asm two.txt dangling", wrote={"made": TWO}),
+    Row("pack dangling f:r:0:0:code", wrote={"made": TWO}),
+    Row("asm two.txt lost", "cannot write\n", "", 1),
+    Row("asm two.txt " + "n" * 255, wrote={"n" * 255: TWO}),
+    Row("asm two.txt " + "n" * 256, "cannot write\n", "", 1),
+    *(Row(words, "cannot write\n", "", 1, room=room) for room in (13, 20) for words in (
+        "run two.img f --load kept --save kept", "run two.img f --load kept --save link",
+        "run two.img f --load kept --save out", "asm two.txt two.txt", "asm two.txt lock.img",
+        "asm two.txt dangling", "pack out f:r:0:0:code", "pack code f:r:0:0:code")),
+    Row("run two.img f --load kept --save kept", "", "", -25, wrote={NEW: KEPT[:13]}, room=13,
+        killed=True),
+    Row("asm two.txt lock.img", "", "", -25, wrote={NEW: TWO[:13]}, room=13, killed=True),
+    # in place: what is no regular file
+    Row("asm two.txt /dev/stdout", lambda text: text.encode("latin1", "ignore")[:4] == b"RCL1"),
+    Row("run two.img f --load kept --save /dev/stdout", KEPT.decode() + KEEPS),
+    Row("asm two.txt /dev/null"),
+    Row("run two.img f --load kept --save /dev/full", "cannot write\n", "", 1),
+    # an object that is saved, though standard output takes nothing, or a part
+    *(Row(f"run two.img f --load kept --save {name}", None, SAVED.format(name), 1, to=to,
+          wrote={"out" if name == "out" else "kept": KEPT})
+      for to in (FULL, UNREAD, CLOSED) for name in ("kept", "link", "out")),
+    *(Row("run two.img f --load kept --save kept", KEEPS[:room], SAVED.format("kept"), 1,
+          wrote={"kept": KEPT}, room=room) for room in (21, 36)),
+    *(Row(words, None, "", 1, to=to) for to in (FULL, UNREAD, CLOSED) for words in (
+        "run two.img f --load kept", "run two.img g --save kept",
+        "run two.img f --load kept --save missing/kept")),
+    # texts that are longer than an image, as long as they may be, and longer
+    Row("verify larger.txt", "".join(f"m{n:02} ok 4096\n" for n in range(32))),
+    Row("dis larger.txt", LARGER_TEXT),
+    Row("run larger.txt m31", ran(0, "-", 4096, "absent")),
+    Row("verify longest.txt", "f ok 2\n"),
+    Row("asm - out", stdin=LONGEST_TEXT.encode(), wrote={"out": TWO}),
+    Row("sim two.sim --class two=longest.txt", REPLY),
+    *(Row(words.format("over.txt"), TOO_LONG, "", 1) for words in READERS),
+    Row("verify -", TOO_LONG, "", 1, stdin=b"\xff" * (LIMIT + 1)),
+    Row("verify -", "image refused after 0 methods: 2 Magic\n", "", 1, stdin=b"\xff" * LIMIT),
+    Row("verify -", "image refused after 0 methods: 2 Magic\n", "", 1, stdin=b"a" * LIMIT + b"\0"),
+    Row("verify -", "image refused after 1 methods: 11 Trailing\n", "", 1, stdin=TWO + b"a" * LIMIT),
     # refusals, which write no file
     Row("verify missing", "cannot read\n", "", 1),
     Row("verify folder", "cannot read\n", "", 1),
@@ -295,9 +416,9 @@ ROWS = [
     Row("run two.img g --explain", tells("call refused: 1 NoMethod"), "", 1),
     Row("asm word.txt out --explain", tells("line 2: 1 Word"), "", 1),
     Row("dis empty --explain", tells(NO_IMAGE[:-1]), "", 1),
-    Row("verify missing --explain", tells("cannot read"), "", 1),
+    Row("verify missing --explain", "cannot read\n  missing: No such file or directory (os error 2)\n", "", 1),
     Row("asm missing out --explain", tells("cannot read"), "", 1),
-    Row("asm two.txt folder --explain", tells("cannot write"), "", 1),
+    Row("asm two.txt folder --explain", "cannot write\n  folder: Is a directory (os error 21)\n", "", 1),
     Row("pack out f:r:0:0:missing --explain", tells("cannot read"), "", 1),
     # --class, --trace
     Row("sim two.sim --class two=two.img", REPLY),
@@ -376,6 +497,37 @@ ROWS = [
     Row("verify -", "".join(f"{name} ok 4096\n" for name in NAMES), stdin=LARGEST),
     Row("dis largest.img", LARGEST_TEXT),
     Row(f"run largest.img {NAMES[31]}", ran(0, "-", 4096, "absent")),
+    # bytes of a file are shown in printable ASCII alone
+    *(Row(f"{words} --explain", shows("line 2: 2 Operand", ESCAPED), "", 1) for words in (
+        "verify escape.txt", "run escape.txt f", "asm escape.txt out", "dis escape.txt")),
+    *(Row(f"{words} --explain", shows(UNSAFE[:-1], ESCAPED_COMMENT), "", 1) for words in (
+        "verify escape.unsafe", "run escape.unsafe f")),
+    Row("sim escape.sim", REPLY),
+    Row("sim --trace escape.sim", ESCAPED_DRAWING),
+    Row("sim escape.bad", "map 1 prev 0\nline 2: bad\n", "", 1),
+    Row("sim --trace escape.bad",
+        "mon         event\n*           map 1: map 1 prev 0\nline 2: bad\n", "", 1),
+    Row("cluster escape.calls", NO_CLASS),
+    Row("cluster --show escape.calls",
+        r"client 1 call 0 group 12 request a \x1b[2J f\xc3\xa9~ - refused 5 NoClass" + "\n"),
+    # a million lines, and a line of a million letters, with a stack of 256 kilobytes
+    *(Row(words, fault + "\n", "", 1, stack=256)
+      for text, fault in (("lines.txt", WORD_AT_END), ("letters.txt", WORD_AT_ONCE))
+      for words in (f"verify {text}", f"asm {text} out", f"dis {text}", f"run {text} f",
+                    f"sim locks.sim --class a={text}", f"cluster calls --class a={text}")),
+    *(Row(f"{words} --explain", shows(fault, line), "", 1, stack=256)
+      for text, fault, line in (("lines.txt", WORD_AT_END, "line 1000000: foo"),
+                                ("letters.txt", WORD_AT_ONCE, "line 1: " + LETTERS))
+      for words in (f"verify {text}", f"asm {text} out", f"dis {text}", f"run {text} f")),
+    *(Row(words, UNSAFE, "", 1, stack=256)
+      for words in ("verify lines.unsafe", "run lines.unsafe f",
+                    "sim locks.sim --class a=lines.unsafe",
+                    "cluster calls --class a=lines.unsafe")),
+    *(Row(f"{words} --explain", shows(UNSAFE[:-1], "line 1000000: exit"), "", 1, stack=256)
+      for words in ("verify lines.unsafe", "run lines.unsafe f")),
+    Row("dis lines.unsafe", ".method f r 0 0\nexit\n", stack=256),
+    Row("sim lines.sim", "line 100000: bad\n", "", 1, stack=256),
+    Row("sim --trace lines.sim", "event\nline 100000: bad\n", "", 1, stack=256),
     # standard output that takes nothing; standard error that takes nothing
     *(Row(words, None, "", 1, to=to) for to in (FULL, UNREAD, CLOSED) for words in (
         "verify two.img", "verify empty", "run two.img f", "dis two.img", "sim locks.sim",
@@ -448,6 +600,8 @@ ROWS = [
         ("cluster calls --class obj=two.img", "obj=two.img", "--class <NAME=IMAGE>"),
         ("cluster calls --class a=two.img --class a=empty", "a=empty", "--class <NAME=IMAGE>"),
         ("run two.img f --save -", "-", "--save <FILE>"),
+        ("run two.img f --save two.img", "two.img", "--save <FILE>"),
+        ("run two.txt f --load kept --save two.txt", "two.txt", "--save <FILE>"),
         ("asm two.txt -", "-", "<OUT>"), ("pack - f:r:0:0:code", "-", "<OUT>"))),
     # an object of a file and of words
     *(Row(f"run two.img f --load held {words}", "",
@@ -459,4 +613,49 @@ ROWS = [
                     "run - f --load -",
                     "run two.img f --object @- --key a=@-",
                     "cluster calls --class a=- --class b=-")),
+]
+
+# The examples' wrong states, and the right ones beside them: a value that isn't there counts as 0,
+# any other error of a helper is the code, a shorter value or key is -5, and what was there stays.
+# Steps are counted in the texts.
+EXAMPLES = os.path.join(os.path.dirname(os.path.abspath(__file__)), "..", "examples")
+for example in ("count.txt", "patterns.txt", "queue.txt"):
+    with open(os.path.join(EXAMPLES, example), "rb") as text:
+        FILES[example] = text.read()
+FIVE, SIX, LONGER, SHORTER = "0500000000000000", "0600000000000000", "05" + "00" * 8, "05" + "00" * 6
+QUEUED = "key 0x0000000000000000 6f6c64"
+ROWS += [
+    # a counter in a key, and one in an xattr: no object, no value, 5, and values of other lengths
+    *(Row(f"run {text} count {words} --show", ran(code, output, steps, *held))
+      for text, option, name, one in (
+          ("count.txt", "--key", "key n", "0 0 1"), ("patterns.txt", "--xattr", "xattr n", "0 1 0"))
+      for words, code, output, steps, held in (
+          ("", 1, "0100000000000000", 24, (one, "data -", f"{name} 0100000000000000")),
+          ("--object -", 1, "0100000000000000", 23, (one, "data -", f"{name} 0100000000000000")),
+          (f"{option} n={FIVE}", 6, SIX, 22, (one, "data -", f"{name} {SIX}")),
+          (f"{option} n={LONGER}", -34, "-", 12, (one, "data -", f"{name} {LONGER}")),
+          (f"{option} n={SHORTER}", -5, "-", 13, (one, "data -", f"{name} {SHORTER}")),
+          (f"{option} n=-", -5, "-", 13, (one, "data -", f"{name} -")))),
+    # a push: no object, no number, 5, and numbers of other lengths
+    Row("run queue.txt push --input 6f6c64 --show",
+        ran(0, "-", 34, "0 1 1", "data -", "xattr n 0100000000000000", QUEUED)),
+    Row("run queue.txt push --input 6f6c64 --object - --show",
+        ran(0, "-", 33, "0 1 1", "data -", "xattr n 0100000000000000", QUEUED)),
+    Row(f"run queue.txt push --input 6e6577 --xattr n={FIVE} --key 0x0000000000000000=6f6c64 --show",
+        ran(0, "-", 32, "0 1 2", "data -", f"xattr n {SIX}", QUEUED,
+            "key 0x0000000000000005 6e6577")),
+    *(Row(f"run queue.txt push --input 6e6577 --xattr n={number} --key 0x0000000000000000=6f6c64 "
+          "--show", ran(code, "-", steps, "0 1 1", "data -", f"xattr n {number}", QUEUED))
+      for number, code, steps in ((LONGER, -34, 15), (SHORTER, -5, 16), ("-", -5, 16))),
+    # a pop: no object, no value, one, a longer one than the output, and keys of other lengths
+    Row("run queue.txt pop --show", ran(-2, "-", 10, "absent")),
+    Row("run queue.txt pop --object - --show", ran(-61, "-", 10, "0 0 0", "data -")),
+    Row("run queue.txt pop --key 0x0000000000000000=6f6c64 --show",
+        ran(0, "6f6c64", 24, "0 0 0", "data -")),
+    *(Row(f"run queue.txt pop --key 0x{key}={value} --show",
+          ran(code, "-", steps, "0 0 1", "data -", f"key {shown} {value}"))
+      for key, shown, value, code, steps in (
+          ("00" * 8, "0x" + "00" * 8, "6f" * 1025, -34, 16),
+          ("00" * 9, "0x" + "00" * 9, "6f6c64", -34, 10),
+          ("00" * 7, "0x" + "00" * 7, "6f6c64", -5, 11), ("61", "a", "6f6c64", -5, 11))),
 ]

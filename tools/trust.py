@@ -1,7 +1,8 @@
 #!/usr/bin/env python3
 """Prints which lines of crates/*/specs/ define the given names, with all that they cite of this repository, and the types
 of the code that they name. `--` begins a second table, of what the first lacks. docs/TRUST.md shows how it is called; with
-`--page` alone it writes what that page's command prints into the page."""
+`--page` alone it writes what that page's command prints into the page, and `--check` tells by the status whether it would
+change it."""
 import os, re, sys
 
 TOP = os.path.join(os.path.dirname(os.path.abspath(__file__)), "..")
@@ -172,18 +173,20 @@ def replaced(text, pattern, news):
     return text
 
 
-def write_page():
+def write_page(only_checks):
     with open(PAGE, encoding="utf-8") as it:
-        text = it.read()
+        text = was = it.read()
     tables, counts, types = zip(*found(re.search(r"python3 tools/trust.py (.*)", text).group(1).split()))
     text = replaced(text, r"(file \| lines\n(?:.*\|.*\n)+)", tables)
     text = replaced(text, r"(\d+) lines(?= more:|:)", [str(it) for it in counts])
     text = replaced(text, r"of the code: (`.*`)", [", ".join(f"`{file}`" for file in it) for it in types])
+    if only_checks:
+        sys.exit(text != was)
     with open(PAGE, "w", encoding="utf-8") as it:
         it.write(text)
 
 
-if sys.argv[1:] == ["--page"]:
-    write_page()
+if sys.argv[1:] in (["--page"], ["--check"]):
+    write_page(sys.argv[1] == "--check")
 else:
     show(sys.argv[1:])

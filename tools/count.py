@@ -1,0 +1,62 @@
+#!/usr/bin/env python3
+"""Counts lines by block and kind, lines over 120 columns, crates, edits, pages and words.
+
+    tools/count.py
+
+The blocks are the comment lines of crates.txt. Lines are those of src/, specs/ and proofs/; an edit
+is a file of must-fail/ or wrong/. A word has a letter or a digit."""
+import re
+from pathlib import Path
+
+TOP = Path(__file__).resolve().parent.parent
+KINDS = {"src": "*.rt", "specs": "*.antt", "proofs": "*.antt"}
+OTHERS = ("README.md", "examples/README.md", "CHANGELOG.md")
+COLUMNS = 120
+
+
+def blocks():
+    """The blocks of crates.txt: a name, and its crates."""
+    found = []
+    for line in (TOP / "crates.txt").read_text(encoding="utf-8").split("\n"):
+        head = re.match(r"# (\w+): ", line)
+        if head and (not found or found[-1][0] != head[1]):
+            found.append((head[1], []))
+        elif line and not line.startswith("#"):
+            found[-1][1].append(re.match(r"\w+", line)[0])
+    return found
+
+
+def lines_of(crates, folder, pattern):
+    """The lines of such files in the crates."""
+    return [line for crate in crates for file in sorted((TOP / "crates" / crate / folder).rglob(pattern))
+            for line in file.read_text(encoding="utf-8").splitlines()]
+
+
+def row(name, crates):
+    counts = {kind: lines_of(crates, kind, pattern) for kind, pattern in KINDS.items()}
+    edits = sum(1 for crate in crates for folder in ("must-fail", "wrong")
+                for _ in (TOP / "crates" / crate).glob(f"{folder}/*.edit"))
+    wide = sum(len(line) > COLUMNS for kind in ("src", "specs") for line in counts[kind])
+    return [name, len(crates), *(len(counts[kind]) for kind in KINDS), edits, wide]
+
+
+def words(files):
+    return sum(bool(re.search(r"\w", word)) for file in files for word in file.read_text(encoding="utf-8").split())
+
+
+def main():
+    rows = [row(name, crates) for name, crates in blocks()]
+    rows.append(["all", *(sum(column) for column in list(zip(*rows))[1:])])
+    for name, *numbers in [["block", "crates", *KINDS, "edits", "wide"], *rows]:
+        print(f"{name:<10}", *(f"{it:>8}" for it in numbers))
+    pages = sorted((TOP / "docs").glob("*.md"))
+    scripts = [file for folder in ("tools", "ceph", "examples", "include") for file in sorted((TOP / folder).rglob("*"))
+               if file.suffix in (".sh", ".py", ".c", ".h", ".cc") or file.name == "radosbpf"]
+    scripts = sum(len(file.read_text(encoding="utf-8").splitlines()) for file in scripts)
+    others = "; ".join(f"{it} {words([TOP / it]):,}" for it in OTHERS)
+    print(f"\n{len(pages)} pages of {words(pages):,} words; {others}")
+    print(f"{scripts:,} lines of scripts, C and C++ in tools, ceph, examples and include")
+    print(f"wide: lines of src and specs over {COLUMNS} columns")
+
+
+main()

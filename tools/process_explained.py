@@ -1,0 +1,187 @@
+"""Rows of tools/process.py on what --explain adds below a line."""
+from process_rows import Row, lines_of, rows_of
+
+# Classes, and what is known of each where it is refused.
+EXPLAINED = r"""
+verify - --explain / .method f r 15 0 / and r2, 15 / add r1, r2 / ldxb r0, [r1+0] / exit
+=> 1 refused method 0 slot 2: 10 Bounds // method f, IN 15, OUT 0 // ldxb r0, [r1+0] // r1 = input + 0..15 //
+    wanted: a pointer, and all of the bytes within its region // see docs/VERIFIER.md, 10 Bounds //
+    it may be 1 bytes from input + 15 on, of 15: from input + 14 on at most //
+    bound what is added to r1, by `jgt` or `and` before the `add` // line 4: ldxb r0, [r1+0]
+verify - --explain / .method f r 16 0 / stxdw [r10-4], r2 / mov r0, 0 / exit
+=> 1 refused method 0 slot 0: 10 Bounds // method f, IN 16, OUT 0 // stxdw [r10-4], r2 // r2 = 0..16 //
+    r10 = stack + 512 // wanted: a pointer, and all of the bytes within its region //
+    see docs/VERIFIER.md, 10 Bounds // it may be 8 bytes from stack + 508 on, of 512: from stack + 504 on at most //
+    a lower place: the stack is [r10-512] to [r10-1] // line 2: stxdw [r10-4], r2
+verify - --explain / .method f r 0 0 / mov r1, 0 / call 13 / mov r0, r1 / exit
+=> 1 refused method 0 slot 2: 5 UnsetRead // method f, IN 0, OUT 0 // mov r0, r1 // r1 = unset //
+    wanted: each of these registers set on every way that leads here // see docs/VERIFIER.md, 5 UnsetRead //
+    a call unsets r1 to r5: keep r1 in r6 to r9 before it // line 4: mov r0, r1
+verify - --explain / .method f r 0 0 / mov r0, 0 / exit / mov r0, 1
+=> 1 refused method 0 slot 2: 3 FallsOff // method f, IN 0, OUT 0 // mov r0, 1 // nothing leads here //
+    wanted: exit or a jump as the last instruction // see docs/VERIFIER.md, 3 FallsOff // `exit` after it //
+    line 4: mov r0, 1
+verify - --explain / .method f r 0 0 / mov r1, r10 / call 13 / exit
+=> 1 refused method 0 slot 1: 13 HelperArgument // method f, IN 0, OUT 0 // call 13 // r1 = stack + 512 //
+    wanted: the arguments in the order of the helper, and an output length of at most OUT //
+    see docs/VERIFIER.md, 13 HelperArgument // r1 takes a number // line 3: call 13
+verify - --explain / .method f r 0 0 / mov r0, 0 / ja -2 / exit
+=> 1 refused method 0 slot 1: 1 Backward // method f, IN 0, OUT 0 // ja -2 //
+    wanted: a jump forward: the distance is at least 0 // see docs/VERIFIER.md, 1 Backward //
+    jumps go forward: write a loop out, with an exit where it may end early // line 3: ja -2
+verify - --explain / .method f r 0 0 / jeq r1, 0, +0 / exit
+=> 1 refused method 0 slot 0: 8 PointerCompare // method f, IN 0, OUT 0 // jeq r1, 0, +0 // r1 = input + 0 //
+    wanted: numbers on both sides // see docs/VERIFIER.md, 8 PointerCompare //
+    r1 is a pointer, which is never null: compare a length, a place or an answer // line 2: jeq r1, 0, +0
+verify - --explain / .method f r 0 0 / mov r0, r1 / exit
+=> 1 refused method 0 slot 1: 15 ReturnsPointer // method f, IN 0, OUT 0 // exit // r0 = input + 0 //
+    wanted: a number in register 0 // see docs/VERIFIER.md, 15 ReturnsPointer //
+    `mov r0, 0` before it, or another number; output goes by `call 13` // line 3: exit
+verify - --all --explain / .method f r 0 0 / mov r0, 0 / exit / .method g r 0 0 / exit / .method h r 0 0 /
+    mov r0, r1 / exit
+=> 1 f ok 2 / refused method 1 slot 0: 5 UnsetRead // method g, IN 0, OUT 0 // exit // r0 = unset //
+    wanted: each of these registers set on every way that leads here // see docs/VERIFIER.md, 5 UnsetRead //
+    no instruction before it sets r0: set it first // line 5: exit / refused method 2 slot 1: 15 ReturnsPointer //
+    method h, IN 0, OUT 0 // exit // r0 = input + 0 // wanted: a number in register 0 //
+    see docs/VERIFIER.md, 15 ReturnsPointer // `mov r0, 0` before it, or another number; output goes by `call 13` //
+    line 8: exit
+verify unset.img --explain
+=> 1 refused method 0 slot 0: 5 UnsetRead // method f, IN 0, OUT 0 // exit // r0 = unset //
+    wanted: each of these registers set on every way that leads here // see docs/VERIFIER.md, 5 UnsetRead //
+    no instruction before it sets r0: set it first
+run two.img g --explain
+=> 1 call refused: 1 NoMethod // wanted: a method of the class; `radoscls verify` lists them
+run two.img f --input 0 --explain
+=> 1 input is not hex // wanted: --input in hexadecimal, two digits a byte
+verify cut --explain
+=> 1 line 1: 1 Word // line 1: before // wanted: first an instruction's word, or a label `name:`, `.method` or
+    `.rules` // see docs/ASSEMBLY.md, 1 Word
+pack out f:r:0:0:cut --explain
+=> 1 image refused after 0 methods: 1 Truncated // method f, cut
+"""
+
+# Honest mistakes: texts, what is explained of each, and the change that it leads to, which is accepted.
+MISTAKES = r"""
+.method f r 0 64 / mov r6, r3 / mov r1, r10 / add r1, -64 / mov r2, 0 / mov r3, r1 / mov r4, 64 / call 12 /
+    mov r1, r10 / add r1, -64 / mov r2, r0 / mov r3, r6 / mov r4, 64 / call 9 / end: / mov r0, 0 / exit
+=> 1 refused method 0 slot 12: 10 Bounds // method f, IN 0, OUT 64 // call 9 // r1 = stack + 448 //
+    r2 = any number // r3 = output + 0 // r4 = 64 // wanted: a pointer, and all of the bytes within its region //
+    see docs/VERIFIER.md, 10 Bounds //
+    r2 may be 18446744073709551615: at most 64 bytes from stack + 448; `jgt r2, 64, ..` before it // line 14: call 9
+mended by call 9 / end => jgt r2, 64, end / call 9 / end
+.method f r 8 64 / mov r4, 64 / call 9 / mov r1, r0 / call 13 / end: / exit
+=> 1 refused method 0 slot 3: 13 HelperArgument // method f, IN 8, OUT 64 // call 13 // r1 = any number //
+    wanted: the arguments in the order of the helper, and an output length of at most OUT //
+    see docs/VERIFIER.md, 13 HelperArgument //
+    r1 may be 18446744073709551615: at most OUT, 64; `jgt r1, 64, ..` before it // line 5: call 13
+mended by call 13 => jgt r1, 64, end / call 13
+.method f r 0 0 / lddw r1, 0x0 / mov r2, 5 / mov r3, r10 / add r3, -8 / mov r4, 8 / call 6 / exit
+=> 1 refused method 0 slot 6: 13 HelperArgument // method f, IN 0, OUT 0 // call 6 // r1 = 0 // r2 = 5 //
+    r3 = stack + 504 // r4 = 8 //
+    wanted: the arguments in the order of the helper, and an output length of at most OUT //
+    see docs/VERIFIER.md, 13 HelperArgument //
+    r1 takes a pointer, made of r1 (input), r3 (output) or r10 (stack): a string is written to the stack, as `stdw
+    [r10-8], 7` and `mov r1, r10`, `add r1, -8` //
+    line 7: call 6
+mended by lddw r1, 0x0 => stdw [r10-16], 0x6e756f63 / stb [r10-12], 0x74 / mov r1, r10 / add r1, -16
+.method f rw 8 64 / ldxdw r6, [r1+0] / jslt r6, 0, end / mov r2, r3 / mov r1, 0 / mov r3, r6 / call 3 / end: /
+    mov r0, 0 / exit
+=> 1 refused method 0 slot 5: 10 Bounds // method f, IN 8, OUT 64 // call 3 // r1 = 0 // r2 = output + 0 //
+    r3 = 0..9223372036854775807 // wanted: a pointer, and all of the bytes within its region //
+    see docs/VERIFIER.md, 10 Bounds //
+    r3 may be 9223372036854775807: at most 64 bytes from output + 0; `jgt r3, 64, ..` before it // line 7: call 3
+mended by call 3 => jgt r3, 64, end / call 3
+.method f r 0 64 / mov r6, r3 / mov r1, 0 / mov r2, r3 / mov r3, 64 / call 2 / jslt r0, 0, end / add r6, r0 /
+    stb [r6+0], 1 / end: / mov r0, 0 / exit
+=> 1 refused method 0 slot 7: 10 Bounds // method f, IN 0, OUT 64 // stb [r6+0], 1 //
+    r6 = output + 0..9223372036854775807 // wanted: a pointer, and all of the bytes within its region //
+    see docs/VERIFIER.md, 10 Bounds //
+    it may be 1 bytes from output + 9223372036854775807 on, of 64: from output + 63 on at most //
+    bound what is added to r6, by `jgt` or `and` before the `add` // line 9: stb [r6+0], 1
+mended by jslt r0, 0, end => jgt r0, 63, end
+.method f r 0 0 / call local +1 / exit / mov r0, 0 / exit
+=> 1 refused method 0 slot 0: 4 LocalCall // method f, IN 0, OUT 0 // call local +1 //
+    wanted: no call within the program // see docs/VERIFIER.md, 4 LocalCall //
+    a method is one piece of code: write the function's code there; in C make it `static inline
+    __attribute__((always_inline))` //
+    line 2: call local +1
+mended by call local +1 / exit / mov => mov
+.rules 2 / .method f r 0 8 / stxdw [r10-12], r3 / ldxdw r3, [r10-12] / ldxb r0, [r3+0] / exit
+=> 1 refused method 0 slot 0: 9 PointerStored // method f, IN 0, OUT 8 // stxdw [r10-12], r3 //
+    r3 = output + 0 // r10 = stack + 512 // wanted: a number to store // see docs/VERIFIER.md, 9 PointerStored //
+    [r10-16] = 0 // [r10-8] = 0 //
+    a pointer is stored whole: by `stxdw`, in the stack, at one place that is a multiple of 8, as [r10-8] or [r10-16]
+    //
+    line 3: stxdw [r10-12], r3
+mended by -12 => -16
+.rules 2 / .method f r 0 8 / stxdw [r10-8], r3 / stw [r10-8], 0 / ldxdw r0, [r10-8] / exit
+=> 1 refused method 0 slot 2: 5 UnsetRead // method f, IN 0, OUT 8 // ldxdw r0, [r10-8] // r10 = stack + 512 //
+    wanted: each of these registers set on every way that leads here // see docs/VERIFIER.md, 5 UnsetRead //
+    [r10-8] = unset //
+    an unset slot had a part of a pointer overwritten, or ways set it unlike: store it whole before, 8 bytes at a
+    multiple of 8, as `stxdw [r10-8], r0` //
+    line 5: ldxdw r0, [r10-8]
+mended by stw [r10-8], 0 => stdw [r10-8], 0
+.rules 2 / .method f r 0 8 / stxdw [r10-8], r3 / ldxw r0, [r10-8] / exit
+=> 1 refused method 0 slot 1: 17 PointerBytes // method f, IN 0, OUT 8 // ldxw r0, [r10-8] //
+    r10 = stack + 512 // wanted: a stored pointer loaded whole, 8 bytes from its place, and given to no helper //
+    see docs/VERIFIER.md, 17 PointerBytes // [r10-8] = output + 0 // load the pointer whole: `ldxdw` of its slot //
+    line 4: ldxw r0, [r10-8]
+mended by ldxw r0, [r10-8] => ldxdw r3, [r10-8] / ldxb r0, [r3+0]
+.method f r 8 8 / jeq r2, 0, none / mov r4, r3 / ja end / none: / mov r4, 0 / end: / mov r0, r4 / exit
+=> 1 refused method 0 slot 4: 5 UnsetRead // method f, IN 8, OUT 8 // mov r0, r4 // r4 = unset //
+    wanted: each of these registers set on every way that leads here // see docs/VERIFIER.md, 5 UnsetRead //
+    each way that leads here sets r4, but not alike: one to a number and one to a pointer, or to pointers to two
+    regions //
+    line 8: mov r0, r4
+mended by mov r4, r3 => mov r4, 1
+.method f r 8 8 / jeq r2, 0, end / mov r4, 1 / end: / mov r0, r4 / exit
+=> 1 refused method 0 slot 2: 5 UnsetRead // method f, IN 8, OUT 8 // mov r0, r4 // r4 = unset //
+    wanted: each of these registers set on every way that leads here // see docs/VERIFIER.md, 5 UnsetRead //
+    r4 is set before, but not on each way that leads here: one doesn't set it, or calls a helper after that, which
+    unsets r1 to r5 //
+    line 5: mov r0, r4
+mended by jeq r2 => mov r4, 0 / jeq r2
+.method f r 8 8 / mov r6, r2 / mov r4, 1 / jeq r6, 0, end / mov r1, 0 / call 13 / mov r6, 0 / end: /
+    mov r0, r4 / exit
+=> 1 refused method 0 slot 6: 5 UnsetRead // method f, IN 8, OUT 8 // mov r0, r4 // r4 = unset //
+    wanted: each of these registers set on every way that leads here // see docs/VERIFIER.md, 5 UnsetRead //
+    a call unsets r1 to r5: keep r4 in r6 to r9 before it // line 9: mov r0, r4
+mended by r4 => r7
+.method f r 0 4 / stw [r3+0], 7 / mov r1, 8 / call 13 / exit
+=> 1 refused method 0 slot 2: 13 HelperArgument // method f, IN 0, OUT 4 // call 13 // r1 = 8 //
+    wanted: the arguments in the order of the helper, and an output length of at most OUT //
+    see docs/VERIFIER.md, 13 HelperArgument // r1 may be 8: at most OUT, 4; `jgt r1, 4, ..` before it //
+    line 4: call 13
+mended by mov r1, 8 => mov r1, 4
+"""
+
+
+def mistakes():
+    """The rows of the mistakes: of each the text that is refused, and the one that is accepted."""
+    lines = MISTAKES.strip("\n").replace("\n    ", " ").split("\n")
+    for text, answer, change in zip(lines[::3], lines[1::3], lines[2::3], strict=True):
+        yield from rows_of(f"verify - --explain / {text}\n{answer}")
+        old, _, new = change.removeprefix("mended by ").partition(" => ")
+        yield Row("verify - --explain", lambda printed: printed.startswith("f ok "),
+                  stdin=lines_of(text.replace(old, new)).encode())
+
+
+# By rule set 2, what register 0 points to goes 2,047 times through a slot of the stack; the last of
+# 4,096 slots is explained.
+LAST_TEXT = (".rules 2\n.method f r 4096 4096\nmov r0, r1\n"
+             + "stxdw [r10-8], r0\nldxdw r0, [r10-8]\n" * 2047 + "exit\n")
+LAST = lines_of(
+    "refused method 0 slot 4095: 15 ReturnsPointer // method f, IN 4096, OUT 4096 // exit // r0 = input + 0 // "
+    "wanted: a number in register 0 // see docs/VERIFIER.md, 15 ReturnsPointer // "
+    "`mov r0, 0` before it, or another number; output goes by `call 13` // line 4098: exit")
+
+NO_IMAGE = lines_of(
+    "image refused after 0 methods: 1 Truncated // "
+    "wanted: an image, which begins with RCL1 or RCL2, or a class's text in UTF-8 // see docs/IMAGE.md")
+
+EXPLAINED_ROWS = [
+    *rows_of(EXPLAINED), *mistakes(),
+    Row("verify - --all --explain", NO_IMAGE, "", 1, stdin=b"RCL1"),
+    Row("verify - --explain", LAST, "", 1, stdin=LAST_TEXT.encode(), slow=True),
+]
