@@ -9,8 +9,6 @@ use Rattle.std.proofs.Math.Nat.{div-le_self, mod-le}
 use Rattle.std.proofs.lemmas.Nat.{or_lt, xor_lt, and_le_l}
 use Rattle.std.proofs.lemmas.Bool.{cond_both}
 use mir.Val.{bits, hbits}
-use Rattle.bpf_decode.specs.declared.operation.OpWidth.{OpWidth}
-use Rattle.bpf_decode.specs.declared.operation.OpWidth.TheVariants.{Bits32, Bits64}
 use Rattle.bpf_decode.specs.declared.operation.Arithmetic.{Arithmetic}
 use Rattle.bpf_decode.specs.declared.operation.Arithmetic.TheVariants.{Add, Sub, Mul, Div, SignedDiv, Or, And, Lsh, Rsh, Mod, SignedMod, Xor, Arsh}
 use Rattle.bpf_decode.specs.declared.operation.SignedMove.{SignedMove}
@@ -19,7 +17,7 @@ use Rattle.bpf_decode.specs.declared.operation.ByteOrder.{ByteOrder}
 use Rattle.bpf_decode.specs.declared.operation.ByteOrder.TheVariants.{ToLittle, ToBig, Swap}
 use Rattle.bpf_decode.specs.declared.operation.EndWidth.{EndWidth}
 use Rattle.bpf_decode.specs.declared.operation.EndWidth.TheVariants.{End16, End32, End64}
-use Rattle.bpf_decode.specs.Arithmetic.{computed, alu_value, signed_move_value, end_width, end_value}
+use Rattle.bpf_decode.specs.Arithmetic.{computed, signed_move_value, end_width, end_value}
 
 -- a number of a width as two's complement
 of_z_small : (w : Width) (z : ℤ) → 0 < 2 ^ bits w → mag z < 2 ^ bits w → cast_unsigned w z < 2 ^ bits w
@@ -86,11 +84,6 @@ module _ (w : Width) (machine : Machine w) (m n : ℕ) (p : m < 2 ^ bits w) (q :
   computed_small SignedMod = cond_both (n == 0) m _ (λ k. k < 2 ^ bits w) (λ _. p) (λ _. remainder_small)
   computed_small Xor = xor_lt (bits w) m n p q
   computed_small Arsh = shifted_small
-
-pub alu_small : (bits : OpWidth) (operation : Arithmetic) (m n : ℕ) → m < 2 ^ 64 → n < 2 ^ 64 → alu_value bits operation m n < 2 ^ 64
-alu_small Bits64 operation m n p q = computed_small w64 Is64 m n p q operation
-alu_small Bits32 operation m n p q =
-    let h = computed_small w32 Is32 (m % 2 ^ 32) (n % 2 ^ 32) (omega arith) (omega arith) operation in omega arith
 
 -- a narrow number with its sign
 widened : (m : ℕ) → (z : ℤ) → mag z < 2 ^ 31 → cast_unsigned w64 z < 2 ^ 64

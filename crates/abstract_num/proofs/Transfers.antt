@@ -204,9 +204,6 @@ module _ (x y : Plain) (f : Fits x) (g : Fits y) (m n : ℕ) (h : Holds x m) (k 
       (λ e. let b = h.below in let l : m < 2 ^ 31 = grind arith in rsh_keeps32 (computed op.Arsh w32 m n) (sym (arsh32 m (n % 32) l)))
       (λ _. by_all32 op.Arsh)
 
-  lows : m % 2 ^ 32 ≡ m
-  lows = low_of_small m p
-
   exact32 : (operation : Arithmetic) → m ≡ x.low → n ≡ y.low → Kept32 operation (Exact (alu_value Bits32 operation x.low y.low))
   exact32 operation a b =
       let v = computed operation w32 m n in

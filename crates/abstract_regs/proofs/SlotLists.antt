@@ -7,14 +7,11 @@ use Rattle.bpf_decode.specs.declared.insn.Operand.{Operand}
 use Rattle.bpf_decode.specs.declared.insn.Operand.TheVariants.{Immediate, Register}
 use Rattle.abstract_regs.specs.declared.content.Content.{Content}
 use Rattle.abstract_regs.specs.Kind.{PlainKind}
-use Rattle.abstract_regs.specs.Slots.{Span, touches, slot_kind, overwritten, spoiled, has, meets}
+use Rattle.abstract_regs.specs.Slots.{Span, touches, overwritten, spoiled, has, meets}
 use Rattle.abstract_regs.specs.Frame.{PlainFrame}
 use Rattle.abstract_regs.specs.Flow.{with_both}
 
 -- ---- which slots
-
-pub untouched_before : (s : Span) (j : ℕ) → j < s.low / 8 → touches (Some s) j ≡ false
-untouched_before s j h = grind (arith, nat_tests)
 
 pub untouched_behind : (s : Span) (j : ℕ) → (s.high + 7) / 8 ≤ j → touches (Some s) j ≡ false
 untouched_behind s j h = grind (arith, nat_tests)
@@ -110,15 +107,6 @@ meets_nothing content span j (x ∷ xs) d h =
     (meets_nothing content span (j + 1) xs d (λ i lt t. let next : j + suc i ≡ j + 1 + i = omega arith in h (suc i) (omega (arith, lt)) (ap (touches span) next ∙ t)))
 
 -- ---- the list without slots
-
-pub no_slot : (o : Option ℕ) → slot_kind [] o ≡ None
-no_slot None = refl
-no_slot (Some j) = refl
-
-pub set_past : (xs : List PlainKind) (i : ℕ) (x : PlainKind) → length xs ≤ i → slice_set xs i x ≡ xs
-set_past [] i x le = refl
-set_past (y ∷ xs) zero x le = absurd (omega (arith, le))
-set_past (y ∷ xs) (suc i) x le = ap (λ t. y ∷ t) (set_past xs i x (omega (arith, le)))
 
 -- ---- other kinds of what was compared, put in twice
 

@@ -1,8 +1,5 @@
 -- Lemmas on the reading of classes.
 use Rattle.std.proofs.Common.{◌≡◌, ◌⊎◌, inl, inr, ℕ, ◌+◌, ◌≤◌, ◌<◌, Bool, true, false, ◌&&◌, IsTrue, List, [], ◌∷◌, ◌++◌, length, take, drop, get_or, ◌-◌, Result, Ok, Err, refl, sym, ap, ◌∙◌, arith}
-use Rattle.std.specs.Str.{IsAscii, IsUtf8}
-use Rattle.std.proofs.lemmas.Str.{IsUtf8-from_ascii}
-use Rattle.std.proofs.lemmas.Str.Ascii.{IsAscii-nil, IsAscii-cons}
 use Rattle.std.proofs.lemmas.List.{drop_more, drop_all, take_all, length-drop}
 use Rattle.std.specs.List.{before_first}
 use Rattle.asm_lines.specs.declared.statement.Statement.{Statement}
@@ -14,7 +11,7 @@ use Rattle.bpf_decode.specs.declared.rule_set.RuleSet.TheVariants.{One}
 use Rattle.bpf_decode.specs.Class.{ClassMethod, Class}
 use Rattle.bpf_decode.specs.declared.image_error.ImageError.{ImageError}
 use Rattle.bpf_decode.specs.Reading.{◌>>=◌}
-use Rattle.bpf_decode.specs.Limits.{between, is_name_byte, are_name_bytes}
+use Rattle.bpf_decode.specs.Limits.{between, are_name_bytes}
 use Rattle.bpf_decode.specs.ImageReading.{after, is_above, method_after, methods_after, methods_of}
 use Rattle.asm_lines.specs.declared.fault.AsmFault.{AsmFault}
 use Rattle.asm_lines.specs.declared.fault.AsmError.{AsmError}
@@ -32,17 +29,6 @@ and_left false b h = absurd cc
 and_right : (a b : Bool) → IsTrue (a && b) → b ≡ true
 and_right true b h = h
 and_right false b h = absurd cc
-
-name_byte_small : (b : ℕ) → is_name_byte b ≡ true → b < 128
-name_byte_small b h = grind (arith, nat_tests)
-
-names_ascii : (name : List ℕ) → are_name_bytes name ≡ true → IsAscii name
-names_ascii [] h = IsAscii-nil
-names_ascii (b ∷ bs) h = IsAscii-cons b bs (name_byte_small b (and_left (is_name_byte b) (are_name_bytes bs) h)) (names_ascii bs (and_right (is_name_byte b) (are_name_bytes bs) h))
-
--- a name is text
-pub names_text : (name : List ℕ) → IsTrue (are_name_bytes name) → IsUtf8 name
-names_text name h = IsUtf8-from_ascii name (names_ascii name h)
 
 -- a method whose fields pass each test is right after that name
 pub passes : (before : List ℕ) (m : ClassMethod) → between 1 NAME_LIMIT (length m.name) ≡ true → are_name_bytes m.name ≡ true → is_above before m.name ≡ true → between 1 3 m.flags ≡ true → between 0 CAPACITY_LIMIT m.in_cap ≡ true → between 0 CAPACITY_LIMIT m.out_cap ≡ true → between 1 SLOT_LIMIT (slot_total m.instructions) ≡ true → method_after before m ≡ Ok m
@@ -148,15 +134,6 @@ at_directive line header rest lines is = ap (ruled_from line) is ∙ ap (by_meth
 at_instruction : (line : ℕ) (d : Result Draft AsmFault) (rest lines : List Statement) → lines ≡ Instruction d ∷ rest → ruled_from line lines ≡ with_rules One (class_from [] line lines)
 unfolding ruled_from
 at_instruction line d rest lines is = ap (ruled_from line) is ∙ ap (by_methods line) (sym is)
-
-pub no_rules_by_label : (line i : ℕ) (name : List ℕ) (lines : List Statement) (x : Statement) → i < length lines → x ≡ get_or lines i x → x ≡ Label name → ruled_from line (drop i lines) ≡ with_rules One (class_from [] line (drop i lines))
-no_rules_by_label line i name lines x inside at is = at_label line name (drop (i + 1) lines) (drop i lines) (line_parts lines i x (Label name) inside at is)
-
-pub no_rules_by_directive : (line i : ℕ) (header : Result MethodHeader AsmFault) (lines : List Statement) (x : Statement) → i < length lines → x ≡ get_or lines i x → x ≡ Directive header → ruled_from line (drop i lines) ≡ with_rules One (class_from [] line (drop i lines))
-no_rules_by_directive line i header lines x inside at is = at_directive line header (drop (i + 1) lines) (drop i lines) (line_parts lines i x (Directive header) inside at is)
-
-pub no_rules_by_instruction : (line i : ℕ) (d : Result Draft AsmFault) (lines : List Statement) (x : Statement) → i < length lines → x ≡ get_or lines i x → x ≡ Instruction d → ruled_from line (drop i lines) ≡ with_rules One (class_from [] line (drop i lines))
-no_rules_by_instruction line i d lines x inside at is = at_instruction line d (drop (i + 1) lines) (drop i lines) (line_parts lines i x (Instruction d) inside at is)
 
 pub no_rules_at_end : (line i : ℕ) (lines : List Statement) → length lines ≤ i → ruled_from line (drop i lines) ≡ with_rules One (class_from [] line (drop i lines))
 unfolding ruled_from

@@ -4,7 +4,6 @@ use Rattle.std.specs.Option.{option_map}
 use Rattle.std.proofs.lemmas.Bool.Decides.{nat_tests}
 use Rattle.asm_lines.specs.declared.statement.Statement.{Statement}
 use Rattle.bpf_asm.specs.Bodies.{is_label, line_slots, slot_of_label}
-use Rattle.asm_lines.specs.declared.statement.Statement.TheVariants.{Label}
 use Rattle.bpf_asm.specs.Places.{first_place, place_in, or_else, IsNoted}
 use Rattle.std.specs.Borrow.{Bor}
 use Rattle.std.specs.Str.{bytes_eq}
@@ -63,24 +62,6 @@ place_above name slot line (s ∷ ss) (suc k) n e =
 
 -- ---- the map
 
--- a name that is there
-pub noted_before : (m : BTreeMap (Bor (List ℕ)) (ℕ × ℕ)) (name : List ℕ) (place : ℕ × ℕ) → is_some (place_in m name) ≡ true → IsNoted m m name place
-noted_before m name place h q = noted_by (bytes_eq name q) refl
-  where
-    stays : (o : Option (ℕ × ℕ)) → o ≡ or_else o None
-    stays None = refl
-    stays (Some p) = refl
-
-    has : (o w : Option (ℕ × ℕ)) → is_some o ≡ true → o ≡ or_else o w
-    has None w e = absurd cc
-    has (Some p) w e = refl
-
-    noted_by : (b : Bool) → bytes_eq name q ≡ b → place_in m q ≡ or_else (place_in m q) (cond b (Some place) None)
-    noted_by false e = stays (place_in m q)
-    noted_by true e =
-        let same : name ≡ q = (bytes_eq-Decides name q).0 e in
-        has (place_in m q) (Some place) (subst (λ (t : List ℕ). is_some (place_in m t) ≡ true) same h)
-
 -- one that isn't, with its place
 pub noted_now : (m n : BTreeMap (Bor (List ℕ)) (ℕ × ℕ)) (name : List ℕ) (place : ℕ × ℕ) → is_some (place_in m name) ≡ false →
     tree.UpdatesBy (λ x y. slice_cmp nat_cmp x.now y.now) (λ k. slice_cmp nat_cmp name k.now) m n (Some place) → IsNoted m n name place
@@ -99,16 +80,3 @@ noted_now m n name place h u q = btree_map_updates_str name m n (Some place) u q
     noted_by true e =
         let same : name ≡ q = (bytes_eq-Decides name q).0 e in
         lacks (place_in m q) (Some place) (subst (λ (t : List ℕ). is_some (place_in m t) ≡ false) same h)
-
--- a line more: a label's, and another
-or_cond : (o : Option (ℕ × ℕ)) (b : Bool) (p : ℕ × ℕ) (rest : Option (ℕ × ℕ)) → or_else (or_else o (cond b (Some p) None)) rest ≡ or_else o (cond b (Some p) rest)
-or_cond None true p rest = refl
-or_cond None false p rest = refl
-or_cond (Some w) b p rest = refl
-
-pub one_more : (m n : BTreeMap (Bor (List ℕ)) (ℕ × ℕ)) (name : List ℕ) (slot line : ℕ) (ss rest : List Statement) → ss ≡ Label name ∷ rest → IsNoted m n name (slot, line) →
-    (q : List ℕ) → or_else (place_in n q) (first_place q (slot + 0) (suc line) rest) ≡ or_else (place_in m q) (first_place q slot line ss)
-one_more m n name slot line ss rest e noted q =
-    ap (λ o. or_else o (first_place q (slot + 0) (suc line) rest)) (noted q)
-    ∙ or_cond (place_in m q) (bytes_eq name q) (slot, line) (first_place q (slot + 0) (suc line) rest)
-    ∙ sym (ap (λ (t : List Statement). or_else (place_in m q) (first_place q slot line t)) e)

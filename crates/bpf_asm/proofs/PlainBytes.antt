@@ -29,11 +29,6 @@ pub free_where : (p q : ℕ → Bool) → ((c : ℕ) → q c ≡ true → p c �
 free_where p q f [] h = tt
 free_where p q f (x ∷ xs) h = (f x (and_left (q x) (list_all q xs) h), free_where p q f xs (and_right (q x) (list_all q xs) h))
 
-or_false : (a b : Bool) → not (a || b) ≡ true → (a ≡ false) × (b ≡ false)
-or_false true b h = absurd cc
-or_false false true h = absurd cc
-or_false false false h = (refl, refl)
-
 pub plain_blank : (c : ℕ) → is_plain c ≡ true → is_blank c ≡ false
 plain_blank c h = grind (arith, nat_tests)
 

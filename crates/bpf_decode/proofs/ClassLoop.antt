@@ -37,13 +37,6 @@ regroup : (front : List ClassMethod) (m : ClassMethod) (read : Tested) → with_
 regroup front m (Ok others) = ap (λ (ms : List ClassMethod). Ok ms) (sym (append_assoc front (m ∷ []) others))
 regroup front m (Err e) = refl
 
-nothing_before : (read : Tested) → with_front [] read ≡ read
-nothing_before (Ok x) = refl
-nothing_before (Err e) = refl
-
-pub begins : (ms : List ClassMethod) → Progress ms 0 []
-begins ms = record { so_far = nothing_before (methods_after 0 [] ms); fit = tt }
-
 code_fits-push : (ms : List ClassMethod) (m : ClassMethod) → AllCodeFits ms → AllFit m.instructions → AllCodeFits (ms ++ m ∷ [])
 code_fits-push [] m all one = (one, tt)
 code_fits-push (n ∷ ms) m all one = (all.0, code_fits-push ms m all.1 one)

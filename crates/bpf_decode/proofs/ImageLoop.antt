@@ -1,7 +1,6 @@
 -- Reading one method after the other, as a loop does.
 use Rattle.std.proofs.Common.{◌≡◌, Bool, true, false, length, ℕ, suc, ◌+◌, ◌-◌, ◌<◌, ◌≤◌, List, [], ◌∷◌, ◌++◌, Result, Ok, Err, refl, sym, ap, ◌∙◌, append_assoc, arith}
 use Rattle.std.proofs.lemmas.List.{append-nil}
-use Rattle.std.proofs.Math.Nat.{sub-zero}
 use Rattle.bpf_decode.specs.declared.decode_error.DecodeError.{DecodeError}
 use Rattle.bpf_decode.specs.declared.decode_error.DecodeError.TheVariants.{Trailing}
 use Rattle.bpf_decode.specs.declared.image_error.ImageError.{ImageError}
@@ -27,13 +26,6 @@ regroup : (front : List ClassMethod) (m : ClassMethod) (read : Methods) → with
 regroup front m (Ok x) = let same : front ++ (m ∷ x.0) ≡ (front ++ m ∷ []) ++ x.0 = sym (append_assoc front (m ∷ []) x.0) in ap (λ (ms : List ClassMethod). Ok (ms, x.1)) same
 regroup front m (Err e) = refl
 
-nothing_before : (read : Methods) → with_front [] read ≡ read
-nothing_before (Ok x) = refl
-nothing_before (Err e) = refl
-
-pub begins : (count : ℕ) (bytes : List ℕ) → Progress count bytes [] 0 [] bytes
-begins count bytes = record { so_far = rw (sub-zero count) (nothing_before (methods_at count 0 [] bytes)) }
-
 -- what the first of the methods left gives
 abbrev first_read : ℕ → ℕ → Result (ClassMethod × List ℕ) DecodeError → Methods
 first_read n done read = after done read >>= λ first. methods_at n (done + 1) first.0.name first.1 >>= λ others. Ok (first.0 ∷ others.0, others.1)
@@ -45,9 +37,6 @@ one_more n done before rest read h = ap (first_read n done) h
 -- the same for each count of methods that is reached
 pub record Along (bytes : List ℕ) (front : List ClassMethod) (done : ℕ) (before rest : List ℕ) : Type 0 where
   pub at : (count : ℕ) → done ≤ count → Progress count bytes front done before rest
-
-pub begins_along : (bytes : List ℕ) → Along bytes [] 0 [] bytes
-begins_along bytes = record { at = λ count le. begins count bytes }
 
 pub goes_on : (count : ℕ) (bytes : List ℕ) (front : List ClassMethod) (done : ℕ) (before rest : List ℕ) (m : ClassMethod) (behind : List ℕ) → done < count → method_at before rest ≡ Ok (m, behind)
     → Progress count bytes front done before rest → Progress count bytes (front ++ m ∷ []) (done + 1) m.name behind

@@ -2,7 +2,6 @@
 use Rattle.std.proofs.Common.{◌≡◌, ℕ, zero, suc, ◌+◌, ◌-◌, ◌*◌, ◌/◌, ◌%◌, ◌<◌, ◌≤◌, Bool, cond, eqb, List, [], ◌∷◌, ◌++◌, length, drop, Result, Ok, Err, refl, sym, ap, subst, ◌∙◌, append_assoc, arith, length-drop}
 use Rattle.std.proofs.lemmas.List.{append-nil, nil_from_length, drop-drop, length_push}
 use Rattle.std.proofs.lemmas.Bool.{ne_eqb}
-use Rattle.std.proofs.Math.Nat.{sub-zero}
 use Rattle.bpf_decode.specs.declared.decode_error.DecodeError.{DecodeError}
 use Rattle.bpf_decode.specs.declared.decode_error.DecodeError.TheVariants as errors
 use Rattle.bpf_decode.specs.declared.insn.Insn.{Insn}
@@ -24,13 +23,6 @@ pub record Progress (bytes : List ℕ) (front : List Insn) (slot : ℕ) : Type 0
 regroup : (front : List Insn) (i : Insn) (read : Result (List Insn) DecodeError) → with_front front (read >>= λ is. Ok (i ∷ is)) ≡ with_front (front ++ i ∷ []) read
 regroup front i (Ok is) = ap (λ (xs : List Insn). Ok xs) (sym (append_assoc front (i ∷ []) is))
 regroup front i (Err e) = refl
-
-nothing_before : (read : Result (List Insn) DecodeError) → with_front [] read ≡ read
-nothing_before (Ok is) = refl
-nothing_before (Err e) = refl
-
-pub begins : (bytes : List ℕ) → Progress bytes [] 0
-begins bytes = record { within = omega arith; few = omega arith; rest = rw (sub-zero (length bytes / 8)) (nothing_before (insns_at (length bytes / 8) 0 bytes)) }
 
 -- one more instruction from n
 some_more : (n slot : ℕ) (bytes : List ℕ) → 0 < length bytes → insns_at (suc n) slot bytes ≡ (insn_at slot bytes >>= λ i. insns_at n (slot + slot_count i) (drop (8 * slot_count i) bytes) >>= λ is. Ok (i ∷ is))

@@ -29,9 +29,9 @@ use Rattle.bpf_decode.specs.declared.operation.EndWidth.{EndWidth}
 use Rattle.bpf_decode.specs.declared.operation.EndWidth.TheVariants.{End16, End32, End64}
 use Rattle.bpf_decode.specs.declared.operation.Comparison.{Comparison}
 use Rattle.bpf_decode.specs.declared.operation.Comparison.TheVariants.{Equal, Greater, GreaterEqual, SharesBits, NotEqual, SignedGreater, SignedGreaterEqual, Less, LessEqual, SignedLess, SignedLessEqual}
-use Rattle.bpf_decode.specs.Opcodes.{offset_selects, selected, move_selects}
+use Rattle.bpf_decode.specs.Opcodes.{offset_selects, selected}
 use Rattle.bpf_decode.specs.Fields.{Fields}
-use Rattle.bpf_decode.specs.Instruction.{Fits, OperandFits, slot, bytes_of, imm_field, offset_field, size_code, signed_size_code, alu_class, jump_class, operation_code, operation_offset, signed_move_bits, signed_move_offset, order_opcode, comparison_code}
+use Rattle.bpf_decode.specs.Instruction.{Fits, OperandFits, slot, bytes_of, imm_field, offset_field, size_code, signed_size_code, alu_class, jump_class, operation_code, operation_offset, order_opcode, comparison_code}
 use Rattle.bpf_decode.specs.Table.{opcode, other_row, row_of, fields_allowed, second_half, high_half, instruction}
 use Rattle.bpf_decode.specs.Reading.{◌>>=◌, checked, are_registers, insn_at}
 use Rattle.bpf_decode.proofs.Bytes.{fields_are, fields_of-slot}
@@ -263,13 +263,6 @@ own_offset Mod = (refl, refl)
 own_offset SignedMod = (refl, refl)
 own_offset Xor = (refl, refl)
 own_offset Arsh = (refl, refl)
-
-own_move : (extension : SignedMove) → move_selects (signed_move_bits extension) (signed_move_offset extension) ≡ true
-own_move Byte64 = refl
-own_move Half64 = refl
-own_move Word64 = refl
-own_move Byte32 = refl
-own_move Half32 = refl
 
 alu_again : (n : ℕ) (bits : OpWidth) (operation : Arithmetic) (dst : ℕ) (source : Operand) (rest : List ℕ) → dst ≤ 10 → OperandFits source → insn_at n (bytes_of (insns.Alu bits operation dst source) ++ rest) ≡ Ok (insns.Alu bits operation dst source)
 alu_again n bits operation dst (Immediate imm) rest d h =

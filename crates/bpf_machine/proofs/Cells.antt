@@ -1,10 +1,10 @@
 -- Members of a list by their places, in a part of it and after a write.
-use Rattle.std.proofs.Common.{◌≡◌, ℕ, zero, suc, ◌+◌, ◌-◌, ◌/◌, ◌<◌, ◌≤◌, List, [], ◌∷◌, ◌++◌, refl, ap, ◌∙◌, sym, subst, arith, length, take, drop, length-append, length-drop}
+use Rattle.std.proofs.Common.{◌≡◌, ℕ, zero, suc, ◌+◌, ◌-◌, ◌/◌, ◌<◌, ◌≤◌, List, [], ◌∷◌, ◌++◌, refl, ap, ◌∙◌, arith, length, take, drop, length-append, length-drop}
 use Rattle.std.specs.Prelude.{slice_get}
 use Rattle.std.proofs.lemmas.List.{length-take-le}
 use Rattle.std.proofs.lemmas.Option.{same_Some}
 use Rattle.object_store.specs.Object.{part}
-use Rattle.bpf_machine.specs.State.{le_bytes, written}
+use Rattle.bpf_machine.specs.State.{le_bytes}
 
 pub get_left : {A : Type 0} (xs ys : List A) (k : ℕ) → k < length xs → slice_get (xs ++ ys) k ≡ slice_get xs k
 get_left [] ys k h = absurd (omega arith)
@@ -81,8 +81,3 @@ module _ {A : Type 0} (xs : List A) (place : ℕ) (new : List A) (inside : place
   pub length-written : length (replaced xs place new) ≡ length xs
   length-written =
       omega (arith, front, length-append (take place xs) (new ++ drop (place + length new) xs), length-append new (drop (place + length new) xs), length-drop (place + length new) xs)
-
--- a region keeps its length
-pub kept : (xs ys : List ℕ) (place : ℕ) (bytes : List ℕ) (n : ℕ) → ys ≡ written xs place bytes → place + length bytes ≤ n → length xs ≡ n → length ys ≡ n
-kept xs ys place bytes n e inside long =
-    ap length e ∙ (length-written xs place bytes (subst (λ k. place + length bytes ≤ k) (sym long) inside) ∙ long)

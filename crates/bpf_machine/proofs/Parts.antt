@@ -55,10 +55,6 @@ module _ (lay : Layout) where
   address_small : (r : Region) (at : ℕ) → address lay (Ptr r at) < 256 ^ 8
   address_small r at = omega arith
 
-  -- the bytes of a place's parts are those of its address
-  pub parts_image : (r : Region) (at : ℕ) → map (byte_of lay) (parts_of r at) ≡ le_bytes 8 (address lay (Ptr r at))
-  parts_image r at = refl
-
   pub cells_image : (bytes : List ℕ) → map (byte_of lay) (as_cells bytes) ≡ bytes
   cells_image [] = refl
   cells_image (b ∷ bytes) = ap (λ (bs : List ℕ). b ∷ bs) (cells_image bytes)

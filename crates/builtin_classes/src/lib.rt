@@ -9,6 +9,6 @@ mod lock;
 mod obj;
 
 pub use failure::BuiltInFailure;
-pub use load::{load_all, load_lock, load_obj};
+pub use load::{load_lock, load_obj};
 pub use lock::LOCK;
 pub use obj::OBJ;

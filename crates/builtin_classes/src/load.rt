@@ -1,5 +1,5 @@
-ghost use Rattle.std.specs.Prelude.{◌⊎◌, IfOk, IfErr};
-ghost use Rattle.builtin_classes.specs.BuiltIn.{IsLoaded, AreLoaded, LoadFails};
+ghost use Rattle.std.specs.Prelude.{IfOk, IfErr};
+ghost use Rattle.builtin_classes.specs.BuiltIn.{IsLoaded, LoadFails};
 
 use crate::failure::BuiltInFailure;
 use crate::lock::LOCK;
@@ -44,15 +44,4 @@ pub fn load_obj(alloc: Global) -> Result<VerifiedClass, BuiltInFailure>
     ensures fails { IfErr result (LoadFails OBJ.now) }
 {
     load(alloc, OBJ)
-}
-
-/// Both, by their ids in a table of classes that begins with them: `lock` is 0, `obj` is 1.
-pub fn load_all(alloc: Global) -> Result<Vec<VerifiedClass>, BuiltInFailure>
-    ensures classes { IfOk result (λ classes. AreLoaded LOCK.now OBJ.now classes.items) }
-    ensures fails { IfErr result (λ failure. LoadFails LOCK.now failure ⊎ LoadFails OBJ.now failure) }
-{
-    let mut classes = Vec::new(alloc);
-    classes.push(load_lock(alloc)?)?;
-    classes.push(load_obj(alloc)?)?;
-    Ok(classes)
 }

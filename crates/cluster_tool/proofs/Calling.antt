@@ -1,7 +1,7 @@
 -- The calls of one session and of all sessions, first of some steps and then of more.
 use Rattle.std.proofs.Common.{◌≡◌, ◌++◌, ◌∷◌, [], ℕ, suc, ◌+◌, ◌-◌, ◌<◌, ◌≤◌, Bool, true, false, List, Result, take, drop, length, get_or, slice_index_or, slice_range, if◌then◌else◌, nat_le, ◌&&◌, refl, sym, ap, subst, ◌∙◌, append_assoc, arith}
 use Rattle.std.proofs.Math.Seq.{take-suc}
-use Rattle.std.proofs.lemmas.List.{append-nil, drop-take, take-append-drop, take-take}
+use Rattle.std.proofs.lemmas.List.{drop-take, take-append-drop, take-take}
 use Rattle.pg_log.specs.Log.{Classes}
 use Rattle.cluster_file.specs.Planned.{PlannedCall}
 use Rattle.cluster_file.specs.Plan.{calls_of}
@@ -10,7 +10,7 @@ use Rattle.cluster_file.specs.declared.planned_step.PlannedStep.TheVariants.{Cal
 use Rattle.rados_client.specs.Session.{PlacedReply, SessionState}
 use Rattle.rados_client.specs.declared.exec_error.ExecError.{ExecError}
 use Rattle.cluster_tool.specs.Answers.{AreCalls}
-use Rattle.cluster_tool.specs.Callers.{AllCalled, CallerState, HasCalled, HasEnded, MadeCall}
+use Rattle.cluster_tool.specs.Callers.{AllCalled, CallerState, HasCalled, HasEnded}
 
 kept : (b : Bool) (c : PlannedCall) (xs ys zs : List PlannedCall) → zs ≡ xs ++ ys → (if b then c ∷ zs else zs) ≡ (if b then c ∷ xs else xs) ++ ys
 kept true c xs ys zs e = ap (λ (l : List PlannedCall). c ∷ l) e
@@ -49,30 +49,6 @@ called_more classes xs ys a b c m n = record {
   client = n.client ∙ m.client;
   lost = λ k. m.lost (n.lost k);
   ends = λ k. ended_more classes xs ys a b c m.client (m.ends (n.lost k)) (n.ends k);
-}
-
--- no step, and a step that is no call of the client
-pub called_none : (classes : Classes) (steps : List PlannedStep) (a : CallerState) → calls_of a.session.client steps ≡ [] → HasCalled classes steps a a
-called_none classes steps a none = record {
-  client = refl;
-  lost = λ k. k;
-  ends = λ k. record {
-    more = [];
-    grew = sym (append-nil a.ends);
-    calls = subst (λ (l : List PlannedCall). AreCalls classes l [] a.session a.session) (sym none) refl;
-  };
-}
-
--- a call of the client
-pub called_one : (classes : Classes) (call : PlannedCall) (a b : CallerState) → calls_of a.session.client (Call call ∷ []) ≡ call ∷ [] → MadeCall classes call a b → HasCalled classes (Call call ∷ []) a b
-called_one classes call a b one m = record {
-  client = m.made.client;
-  lost = m.lost;
-  ends = λ k. record {
-    more = m.end ∷ [];
-    grew = m.ends k;
-    calls = subst (λ (l : List PlannedCall). AreCalls classes l (m.end ∷ []) a.session b.session) (sym one) (b.session, m.made, refl);
-  };
 }
 
 -- all clients' calls of these steps, and then of those

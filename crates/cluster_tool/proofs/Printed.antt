@@ -3,12 +3,10 @@ use Rattle.std.proofs.Common.{◌≡◌, ◌⊎◌, inl, inr, ℕ, List, Option,
 use Rattle.std.specs.Io.KnownBytes.{Appends}
 use Rattle.pg_log.specs.Log.{Classes}
 use Rattle.cluster_file.specs.Plan.{FilePlan, plan_of}
-use Rattle.cluster_file.specs.Reading.{IsReading}
-use Rattle.cluster_file.specs.Text.{bad_line, refused_line}
+use Rattle.cluster_file.specs.Text.{refused_line}
 use Rattle.map_book.specs.Refusal.{map_error_text}
 use Rattle.map_book.specs.declared.map_error.MapError.{MapError}
 use Rattle.osd.specs.declared.config.Config.{Config}
-use Rattle.cluster_file.specs.declared.plan.Reading.TheVariants.{Plan as APlan, Bad as ABad}
 use Rattle.cluster_tool.specs.Clustering.{IsPrintoutOf, EndsSo, Prints}
 use Rattle.cluster_tool.specs.Config.{config_of}
 use Rattle.cluster_tool.specs.Played.{IsMapRefused}
@@ -39,15 +37,6 @@ ends_so is_shown classes names text printed ending result old new failed fails c
 ends_so is_shown classes names text printed ending result old new failed fails comes (inr p) =
     subst (λ (e : ClusteringEnd). EndsSo is_shown classes names text old new failed fails e) (sym p.0)
     (record { printed = printed; ending = ending; comes = comes; begun = p.1; failed = p.2 })
-
--- the result of reading is the plan, or the line
-pub read_as : (is_shown : Bool) (classes : Classes) (r : Result FilePlan ℕ) (plan : FilePlan) (printed : List ℕ) (ending : ClusteringEnd) → IsReading r (APlan plan) → IsPrintoutOf is_shown classes (Ok plan) printed ending → IsPrintoutOf is_shown classes r printed ending
-read_as is_shown classes (Ok q) plan printed ending is comes = subst (λ (x : FilePlan). IsPrintoutOf is_shown classes (Ok x) printed ending) is comes
-read_as is_shown classes (Err line) plan printed ending is comes = absurd is
-
-pub bad_as : (is_shown : Bool) (classes : Classes) (r : Result FilePlan ℕ) (line : ℕ) (printed : List ℕ) → IsReading r (ABad line) → printed ≡ bad_line line → IsPrintoutOf is_shown classes r printed Bad
-bad_as is_shown classes (Ok q) line printed is text = absurd is
-bad_as is_shown classes (Err n) line printed is text = subst (λ (x : ℕ). printed ≡ bad_line x) is text
 
 -- a map that was refused
 pub map_refused : {E : Type 0} (is_shown : Bool) (classes : Classes) (plan : FilePlan) (config : Config) (line : ℕ) (why : MapError) (r : Result Printout E) → config_of plan.numbers ≡ Some config →

@@ -27,12 +27,6 @@ swapped_else : {A : Type 0} (f : ℕ → A) (k i : ℕ) (x : A) → i ≢ k → 
 unfolding swapped
 swapped_else {A} f k i x n = ap (λ (b : Bool). cond b x (f i)) (ne_eqb i k n)
 
-at_end : (l : List View) (a b : View) (j : ℕ) → get_elem? l j ≢ some b → get_elem? (l ++ a ∷ []) j ≡ some b → j ≡ length l
-at_end [] a b zero n e = refl
-at_end [] a b (suc j) n e = absurd (some-ne-none b (sym e))
-at_end (x ∷ xs) a b zero n e = absurd (n e)
-at_end (x ∷ xs) a b (suc j) n e = ap suc (at_end xs a b j n e)
-
 no_view : (j : ℕ) (u : View) → get_elem? [] j ≢ some u
 no_view j u e = some-ne-none u (sym e)
 

@@ -11,11 +11,6 @@ steps_more n (Ended o k) = Ended o (n + k)
 steps_more n Stuck = Stuck
 steps_more n Unfinished = Unfinished
 
-pub none_more : (e : Ending) → e ≡ steps_more 0 e
-none_more (Ended o k) = ap (Ended o) (omega arith)
-none_more Stuck = refl
-none_more Unfinished = refl
-
 one_further : (n : ℕ) (e : Ending) → steps_more n (one_more e) ≡ steps_more (n + 1) e
 one_further n (Ended o k) = ap (Ended o) (omega arith)
 one_further n Stuck = refl

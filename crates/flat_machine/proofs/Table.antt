@@ -1,5 +1,5 @@
 -- The helper of an id is its row.
-use Rattle.std.proofs.Common.{◌≡◌, ℕ, Option, Some, None, true, false, refl, ap, ◌∙◌, sym, cond}
+use Rattle.std.proofs.Common.{◌≡◌, ℕ, Option, Some, None, true, false, ap, ◌∙◌, sym, cond}
 use Rattle.std.specs.Prelude.{◌||◌, not, unwrap_or}
 use Rattle.std.specs.Option.{option_map}
 use Rattle.helpers.specs.declared.helper.Helper.{Helper}
@@ -17,14 +17,6 @@ module _ (caps : Caps) (lay : Layout) (s : State ℕ) where
       option_map (λ k. (row k).takes) o >>= λ takes. only (not takes.writes || caps.writes) (arguments caps lay s takes.arguments 1 >>= λ g.
       let f = effect_of o s.object (asked g) in
       Some (record { slot = s.slot; regs = answered s.regs f.answer; memory = write_room s.memory g.target f.bytes; object = f.object; out_len = unwrap_or f.out_len s.out_len; caller = s.caller }))
-
-  no_leave_of : (o : Option Helper) → unwrap_or (option_map (λ takes. not takes.writes || caps.writes) (option_map (λ k. (row k).takes) o)) false ≡ false → help_of o ≡ None
-  no_leave_of None e = refl
-  no_leave_of (Some h) e = ap (λ b. cond b (helped caps lay h s) None) e
-
-  -- where the method may not call it there is no step
-  pub no_leave : (id : ℕ) → may_call caps id ≡ false → help caps lay id s ≡ None
-  no_leave id e = no_leave_of (helper_of id) e
 
   -- where it may, its row says what it does
   pub help_is : (id : ℕ) (h : Helper) → may_call caps id ≡ true → helper_of id ≡ Some h → help caps lay id s ≡ helped caps lay h s

@@ -1,6 +1,5 @@
 //! The flat machine as a program, slow and plain: it runs a method's bytes on plain addresses, in a
-//! given layout. It computes the definition, for all instructions and all helpers, and so the
-//! crates above are tested against it.
+//! given layout. It computes the definition, for all instructions and all helpers.
 #![tactic(auto)]
 
 mod calls;

@@ -46,16 +46,6 @@ grown_prefix s t g =
 pub grown_refl : (s : NodeState) → s.committed ≤ length s.log → Grown s s
 grown_refl s w = record { point = omega arith; same = refl; within = w }
 
-pub grown_trans : (s t u : NodeState) → Grown s t → Grown t u → Grown s u
-grown_trans s t u a b =
-    let p : s.committed ≤ t.committed = a.point in
-    let q : t.committed ≤ u.committed = b.point in
-    record {
-      point = omega arith;
-      same = sym (take-take s.committed t.committed u.log p) ∙ ap (take s.committed) b.same ∙ take-take s.committed t.committed t.log p ∙ a.same;
-      within = b.within;
-    }
-
 pub grown_move : (n : ℕ) (s : NodeState) (m : GroupMap) → s.committed ≤ length s.log → s.interval < m.interval → would_forget n s m ≡ false → Grown s (move_to n s m).node
 grown_move n s m w lt free =
     let P : Outcome → Type 0 = λ o. Grown s o.node in

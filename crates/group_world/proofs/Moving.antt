@@ -46,9 +46,6 @@ pub record Moved (v : View) (n : ℕ) (s : NodeState) (m : GroupMap) : Type 0 wh
   pub lt : s.interval < m.interval
   pub ok : MapOk v m
 
-abbrev pub moved_view : View → ℕ → GroupMap → View
-moved_view v n m = move_view v n m.interval
-
 pub moved_at : (v : View) (n e : ℕ) → (move_view v n e).at n ≡ e
 moved_at v n e = cond-true (eqb n n) e (v.at n) (eq-eqb n n refl)
 

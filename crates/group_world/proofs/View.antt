@@ -134,9 +134,6 @@ held_from_later v w e n front l h =
     let k : HeldFrom w e n h.list = l.held e n h.list h.held in
     record { list = k.list; held = k.held; begins = prefix_trans _ _ _ h.begins k.begins }
 
-pub held_from_shorter : (v : View) (e n : ℕ) (xs ys : List ClientRequest) → IsPrefix xs ys → HeldFrom v e n ys → HeldFrom v e n xs
-held_from_shorter v e n xs ys p h = record { list = h.list; held = h.held; begins = prefix_trans _ _ _ p h.begins }
-
 pub chosen_later : (v w : View) (a : ℕ) (front : List ClientRequest) → Sound v → Later v w → Chosen v a front → Chosen w a front
 chosen_later v w a front s l c =
     let made : (1 ≤ a) × (a ≤ v.newest) = s.active_made a c.active in
@@ -145,9 +142,6 @@ chosen_later v w a front s l c =
       active = l.active a c.active;
       by_all = λ m h. held_from_later v w a m front l (c.by_all m (sym (ap (λ (g : GroupMap). has m g.acting) e) ∙ h));
     }
-
-pub chosen_shorter : (v : View) (a : ℕ) (xs ys : List ClientRequest) → IsPrefix xs ys → Chosen v a ys → Chosen v a xs
-chosen_shorter v a xs ys p c = record { active = c.active; by_all = λ m h. held_from_shorter v a m xs ys p (c.by_all m h) }
 
 -- a covered list begins with what is chosen
 pub chosen_covered : (v : View) (a : ℕ) (front xs : List ClientRequest) → Chosen v a front → Covered v a xs → IsPrefix front xs

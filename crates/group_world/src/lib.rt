@@ -6,7 +6,6 @@
 #![tactic(auto)]
 
 mod answer;
-mod copies;
 mod crossing;
 mod event;
 mod group_map;

@@ -1,12 +1,8 @@
-ghost use Rattle.std.specs.Prelude.{◌≡◌, IfOk};
-
 use crate::answer::CallReply;
-use crate::copies::copy_kind;
 use crate::group_map::GroupMap;
 use crate::party::Party;
 use pg_log::{ClientId, Request, RequestNumber, Requests};
 use placement::Epoch;
-use std::alloc::{AllocError, Global};
 
 /// A place in a log, from 0 on, as `pg_log` counts them.
 pub type Place = usize;
@@ -41,18 +37,6 @@ pub struct Message {
     pub sender: Party,
     /// The content.
     pub kind: MessageKind,
-}
-
-impl Message {
-    /// An equal message.
-    pub fn copy(&self, alloc: Global) -> Result<Message, AllocError>
-        ensures { IfOk result (λ m. m ≡ self.now) }
-    {
-        Ok(Message {
-            sender: self.sender,
-            kind: copy_kind(alloc, &self.kind)?,
-        })
-    }
 }
 
 /// A message on its way.

@@ -1,6 +1,5 @@
 -- Values that may be missing, one after another.
 use Rattle.std.proofs.Common.{◌≡◌, Option, Some, None, Bool, true, false, refl, subst}
-use Rattle.std.specs.Prelude.{Result, Ok, Err, IfOk}
 use Rattle.bpf_machine.specs.State.{◌>>=◌, only}
 use Rattle.interp.specs.inner.Run.{Gives}
 
@@ -32,17 +31,3 @@ gives_at None P x g h = cc
 gives_at (Some y) P x g h =
     let e : y ≡ x = cc in
     subst P e g
-
--- what three facts of an `Ok` give
-pub ok_then : {T E : Type 0} (r : Result T E) (P Q R S : T → Type 0) → IfOk r P → IfOk r Q → IfOk r R → ((x : T) → P x → Q x → R x → S x) → IfOk r S
-ok_then (Ok x) P Q R S p q r h = h x p q r
-ok_then (Err e) P Q R S p q r h = tt
-
--- the same value under another name
-pub same_gives : {A : Type 0} (o p : Option A) (P : A → Type 0) → o ≡ p → Gives o P → Gives p P
-same_gives None None P e g = tt
-same_gives (Some x) (Some y) P e g =
-    let f : x ≡ y = cc in
-    subst P f g
-same_gives None (Some y) P e g = cc
-same_gives (Some x) None P e g = cc

@@ -56,10 +56,6 @@ fewer_among m n h =
     let le : length (fin.keys m) ≤ length (fin.keys n) = length-le_from_is_member (eq_by_cmp_equiv nat_list_cmp_total) (fin.keys m) (fin.keys n) (distinct (fin.entries m) (fin.entries_sorted m)) (λ q e. sym (fin.contains_key-keys n q) ∙ h.each q (fin.contains_key-keys m q ∙ e)) in
     omega (arith, le, length-map (fin.entries m), length-map (fin.entries n), fin.len-entries m, fin.len-entries n)
 
-some_cond : (b : Bool) (v : List ℕ) (o : Option (List ℕ)) → is_some (cond b (Some v) o) ≡ true → (b ≡ false → is_some o ≡ true)
-some_cond true v o e f = absurd cc
-some_cond false v o e f = e
-
 pub among_set : (m n : Attributes) (k v : List ℕ) → AreAmong m n → is_some (fin.get n k) ≡ true → AreAmong (fin.insert m k v) n
 among_set m n k v h there = record { each = λ q e. by q (ap is_some (sym (fin.get-insert nat_list_cmp_total m k v q)) ∙ e) }
   where

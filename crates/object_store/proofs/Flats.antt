@@ -1,5 +1,5 @@
 -- Lemmas on the bytes of extents.
-use Rattle.std.proofs.Common.{◌≡◌, ℕ, max, zero, suc, ◌⊎◌, inl, inr, length-drop, ◌+◌, ◌-◌, ◌<◌, ◌≤◌, min, List, [], ◌∷◌, ◌++◌, length, take, drop, replicate, get_or, refl, ap, sym, ◌∙◌, append_assoc, arith, length-append}
+use Rattle.std.proofs.Common.{◌≡◌, ℕ, zero, suc, ◌⊎◌, inl, inr, length-drop, ◌+◌, ◌-◌, ◌<◌, ◌≤◌, min, List, [], ◌∷◌, ◌++◌, length, take, drop, replicate, get_or, refl, ap, sym, ◌∙◌, append_assoc, arith, length-append}
 use Rattle.std.proofs.lemmas.Bool.Decides.{leb_tells}
 use Rattle.std.proofs.lemmas.List.{drop-drop, take_at, drop_at, length-take, length-replicate, append-nil, take-append-drop, take_more, take-append-le, drop-append-le}
 use Rattle.std.proofs.Math.Seq.{take-add, take-append-add, drop-append-add, take-nil}
@@ -210,18 +210,8 @@ touched_is xs at text kept from count to m all ef low et high em ea =
     (em ∙ ap (λ l. ((l ++ z) ++ text) ++ cut (min end to) to p) first ∙ ap (λ l. ((cut from at (flat xs) ++ z) ++ text) ++ l) last)
     ea
 
-pub length-laid : (s : List ℕ) (at : ℕ) (text : List ℕ) → length (laid s at text) ≡ max (length s) (at + length text)
-length-laid s at text =
-    let z : length {A = ℕ} (replicate (at - length s) 0) ≡ at - length s = length-replicate (at - length s) 0 in
-    length-append ((take at s ++ replicate (at - length s) 0) ++ text) (drop (at + length text) s)
-    ∙ ap (λ n. n + length (drop (at + length text) s)) (length-append (take at s ++ replicate (at - length s) 0) text ∙ ap (λ n. n + length text) (length-append (take at s) (replicate (at - length s) 0)))
-    ∙ omega (arith, z, length-take at s, length-drop (at + length text) s)
-
 pub spliced_laid : (s : List ℕ) (at : ℕ) (text : List ℕ) → 0 < length text → spliced s at text ≡ laid s at text
 spliced_laid s at text h = spliced_some s at text h
-
-pub length_spliced : (s : List ℕ) (at : ℕ) (text : List ℕ) → 0 < length text → length (spliced s at text) ≡ max (length s) (at + length text)
-length_spliced s at text h = ap length (spliced_laid s at text h) ∙ length-laid s at text
 
 pub length_resized : (s : List ℕ) (len : ℕ) → length (resized s len) ≡ len
 length_resized s len =

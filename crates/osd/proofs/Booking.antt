@@ -1,5 +1,5 @@
 -- Books and maps as the cluster keeps them.
-use Rattle.std.proofs.Common.{◌≡◌, ℕ, suc, ◌+◌, ◌<◌, List, [], ◌∷◌, length, true, Result, Ok, Err, Some, refl, sym, ap, ◌∙◌, subst, arith, get_or, zero}
+use Rattle.std.proofs.Common.{◌≡◌, ℕ, suc, ◌+◌, ◌<◌, List, [], ◌∷◌, length, true, Result, Ok, Err, Some, refl, sym, ap, ◌∙◌, subst, arith, get_or}
 use Rattle.std.specs.Prelude.{All, OnOk, OnErr, slice_get, slice_set}
 use Rattle.std.proofs.lemmas.Bool.Decides.{nat_tests}
 use Rattle.std.proofs.lemmas.List.Elements.{All-weaker}
@@ -7,7 +7,7 @@ use Rattle.std.proofs.lemmas.List.{length-set}
 use Rattle.std.proofs.lemmas.Option.{slice_get-get_or}
 use Rattle.placement.specs.Placement.{is_acting}
 use Rattle.group_world.specs.Monitor.{MonitorState, with_activated, no_maps}
-use Rattle.map_book.specs.Book.{Book, moved, moved_from, maps_from, new_maps, new_monitors}
+use Rattle.map_book.specs.Book.{Book, moved, moved_from, maps_from, new_maps}
 use Rattle.map_book.specs.declared.new_map.NewMap.{NewMap}
 use Rattle.osd.specs.declared.config.Config.{Config}
 use Rattle.osd.specs.Maps.{HasPrimary, IsBookOf}
@@ -19,10 +19,6 @@ length_moved k r up (m ∷ ms) = ap suc (length_moved (k + 1) r up ms)
 length_maps : (k r : ℕ) (up : List ℕ) (ms : List MonitorState) → length (maps_from k r up ms) ≡ length ms
 length_maps k r up [] = refl
 length_maps k r up (m ∷ ms) = ap suc (length_maps (k + 1) r up ms)
-
-pub length_new_monitors : (n : ℕ) → length (new_monitors n) ≡ n
-length_new_monitors zero = refl
-length_new_monitors (suc n) = ap suc (length_new_monitors n)
 
 -- a map more of each group leaves the book one of the cluster
 pub moved_is_book : (c : Config) (b : Book) (up : List ℕ) → IsBookOf c b → IsBookOf c (moved b up)

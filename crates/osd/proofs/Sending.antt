@@ -4,7 +4,7 @@ use Rattle.std.specs.Prelude.{All, MatchResult}
 use Rattle.std.proofs.lemmas.List.{append-nil}
 use Rattle.std.proofs.lemmas.List.Elements.{All-nil, All-cons, All-append, All-weaker}
 use Rattle.op_shards.specs.declared.rule.Ranked.{Ranked}
-use Rattle.op_shards.specs.Passes.{Sender, ranked, at_shard, pushed_at, after_submit, next_rank, Grew, WasSent}
+use Rattle.op_shards.specs.Passes.{Sender, ranked, at_shard, pushed_at, after_submit, next_rank, Grew}
 use Rattle.carried.specs.declared.operation.Operation.{Operation}
 use Rattle.osd.specs.Sent.{OnlySent, IsAny, IsThat}
 
@@ -52,10 +52,6 @@ only_one P s t shard op p e = subst (λ (u : Sender Operation). OnlySent s u P) 
 
 pub only_same : (P : Operation → Type 0) (s t : Sender Operation) → t ≡ s → OnlySent s t P
 only_same P s t e = subst (λ (u : Sender Operation). OnlySent s u P) (sym e) (only_none P s)
-
--- what was sent has each property of the operation
-pub sent_so : (P : Operation → Type 0) (s t : Sender Operation) (op : Operation) → P op → WasSent s t (λ x. x ≡ op) → WasSent s t P
-sent_so P s t op p w = record { shard = w.shard; rank = w.rank; x = w.x; new = w.new; there = w.there; so = subst P (sym w.so) p }
 
 -- what was sent from a state of the pass that is the same
 pub only_from : (P : Operation → Type 0) (s r t : Sender Operation) → r ≡ s → OnlySent r t P → OnlySent s t P

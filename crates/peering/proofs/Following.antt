@@ -1,5 +1,5 @@
 -- What may follow a log that is legal by the table.
-use Rattle.std.proofs.Common.{◌≡◌, ℕ, List, [], ◌∷◌, ◌++◌, length, Some, None, true, false, cond, nat_lt, ap, sym, ◌∙◌, subst, refl}
+use Rattle.std.proofs.Common.{◌≡◌, ℕ, List, [], ◌∷◌, ◌++◌, length, Some, None, ap, sym, ◌∙◌, subst}
 use Rattle.std.specs.Int.{w64, cast_unsigned}
 use mathlib.Core.List.{IsPrefix}
 use Rattle.pg_log.specs.declared.entry.Entry.{Entry}
@@ -7,8 +7,8 @@ use Rattle.pg_log.specs.Requests.{ClientRequest}
 use Rattle.pg_log.specs.Log.{Classes, Reply, Legal, reply_at}
 use Rattle.pg_log.specs.Refusals.{refusal, first_refusal}
 use Rattle.pg_log.specs.Laws.{BeginningsAreLegal, ListsAreExact, AppendIsAStep, RefusalsAreExact, ClassesAdded}
-use Rattle.group_world.specs.Node.{NodeState, nothing, and_sends}
-use Rattle.group_world.specs.Rules.{append_new, append_unless, request_at, reply_packet}
+use Rattle.group_world.specs.Node.{NodeState}
+use Rattle.group_world.specs.Rules.{append_new, append_unless, request_at}
 use Rattle.peering_messages.specs.Sending.{IsNextReply}
 
 pub next_legal : AppendIsAStep → RefusalsAreExact → (classes : Classes) (log : List ClientRequest) (r : ClientRequest) → Legal classes log → refusal classes log r ≡ None → Legal classes (log ++ r ∷ [])
@@ -41,11 +41,3 @@ new_is classes n s r h = ap (append_unless classes n s r) (sym h)
 
 pub new_unrefused : (classes : Classes) (n : ℕ) (s : NodeState) (r : ClientRequest) → refusal classes s.log r ≡ None → (request_at classes n s r None).refusal ≡ None
 new_unrefused classes n s r h = ap (λ w. (append_unless classes n s r w).refusal) h
-
--- and a repeated answer is no refusal
-pub again_unrefused : (classes : Classes) (n : ℕ) (s : NodeState) (r : ClientRequest) (place : ℕ) → (request_at classes n s r (Some place)).refusal ≡ None
-again_unrefused classes n s r place =
-    elim (nat_lt place s.committed) as (λ b. (cond b (and_sends (nothing s) (reply_packet classes n s.log place r)) (nothing s)).refusal ≡ None) [
-      | true ↦ refl
-      | false ↦ refl
-    ]

@@ -166,12 +166,3 @@ step_legal laws classes n s (AMessage m) l = (receive_kept laws classes n s m.se
 pub short : {T : Type 0} (r : Result T HandleError) (o : Outcome) → o.refusal ≡ None → IfErr r (λ e. e ≡ NoMemory) → IfErr r (λ e. IsRefusal o e)
 short (Ok x) o h w = w
 short (Err e) o h w = inr (w, h)
-
-pub arrive_unrefused : (n : ℕ) (s : NodeState) (m : GroupMap) → (arrive n s m).refusal ≡ None
-arrive_unrefused n s m =
-    let P : Outcome → Type 0 = λ o. o.refusal ≡ None in
-    either P (nat_lt s.interval m.interval) (move_to n s m) (nothing s)
-    (λ _. either P (is_primary n m) (lead n s m) (cond (has n m.acting) (nothing (at_map s m Waiting)) (nothing (at_map s m Out)))
-    (λ _. either P (eqb m.prev 0) (adopt n (at_map s m Asking) []) (record { node = at_map s m Asking; sent = to_all n m.prev_acting (Query m); refusal = None }) (λ _. refl) (λ _. refl))
-    (λ _. either P (has n m.acting) (nothing (at_map s m Waiting)) (nothing (at_map s m Out)) (λ _. refl) (λ _. refl)))
-    (λ _. refl)

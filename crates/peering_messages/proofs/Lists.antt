@@ -18,10 +18,6 @@ not_same_length (x ∷ xs) (y ∷ ys) h =
     let r : false ≡ is_same_list xs ys = not_same_length xs ys (λ e. h (ap suc e)) in
     grind (arith, r)
 
-pub requests_end : (es : List Entry) (e : Entry) → requests_of (es ++ e ∷ []) ≡ requests_of es ++ e.request ∷ []
-requests_end [] e = refl
-requests_end (x ∷ es) e = ap (λ rs. x.request ∷ rs) (requests_end es e)
-
 pub length_requests : (es : List Entry) → length (requests_of es) ≡ length es
 length_requests [] = refl
 length_requests (e ∷ es) = ap suc (length_requests es)

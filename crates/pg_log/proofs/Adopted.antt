@@ -2,7 +2,6 @@
 use Rattle.std.proofs.Common.{◌≡◌, ℕ, zero, suc, ◌+◌, ◌-◌, ◌<◌, ◌≤◌, ◌⊎◌, List, [], ◌∷◌, ◌++◌, length, take, drop, Some, None, refl, ap, sym, ◌∙◌, arith, length-append, subst, inl, inr, ⊎_elim, append_assoc, append-nil, Result, Ok, Err, OnOk, IfErr}
 use Rattle.std.specs.List.{slice_get}
 use Rattle.std.specs.FinMap as fin
-use Rattle.std.proofs.lemmas.Option.{same_Some, slice_get_within}
 use Rattle.std.proofs.lemmas.List.{take-append-drop, take-append-le, take_all, length-drop}
 use mathlib.Core.List.{IsPrefix}
 use Rattle.object_store.specs.Names.{PlainObjects}
@@ -82,49 +81,11 @@ keeps_beginning classes es fs objects before places cut k h f o at =
       indexed = subst P (sym e) at;
     }
 
-module _ {X : Type 0} where
-  get_in_take : (xs : List X) (n k : ℕ) → k < n → slice_get (take n xs) k ≡ slice_get xs k
-  get_in_take [] zero k h = absurd (omega (arith, h))
-  get_in_take [] (suc n) k h = refl
-  get_in_take (x ∷ xs) zero k h = absurd (omega (arith, h))
-  get_in_take (x ∷ xs) (suc n) zero h = refl
-  get_in_take (x ∷ xs) (suc n) (suc k) h = get_in_take xs n k (omega (arith, h))
-
 -- one more common request
 pub common_more : (xs ys : List ClientRequest) (k : ℕ) (a b : ClientRequest) → slice_get xs k ≡ Some a → slice_get ys k ≡ Some b → a ≡ b → take k xs ≡ take k ys →
     take (k + 1) xs ≡ take (k + 1) ys
 common_more xs ys k a b p q same e =
     take_get xs k a p ∙ ap (λ l. l ++ a ∷ []) e ∙ ap (λ w. take k ys ++ w ∷ []) same ∙ sym (take_get ys k b q)
-
-above : (n k : ℕ) → (k < n → ⊥) → n ≤ k
-above n k h = ⊎_elim (λ w. w) (λ w. absurd (h w)) (split_le n k)
-  where
-    split_le : (n k : ℕ) → n ≤ k ⊎ k < n
-    split_le zero k = inl (omega arith)
-    split_le (suc n) zero = inr (omega arith)
-    split_le (suc n) (suc k) = ⊎_elim (λ w. inl (omega (arith, w))) (λ w. inr (omega (arith, w))) (split_le n k)
-
--- the common beginning ends at two different requests
-pub common_ends : (xs ys : List ClientRequest) (k : ℕ) (a b : ClientRequest) → slice_get xs k ≡ Some a → slice_get ys k ≡ Some b → (a ≡ b → ⊥) → take k xs ≡ take k ys →
-    IsCommonBeginning xs ys k
-common_ends xs ys k a b p q differ e =
-    let in_xs = slice_get_within xs k a p in
-    let in_ys = slice_get_within ys k b q in
-    record {
-      in_own = omega (arith, in_xs);
-      in_list = omega (arith, in_ys);
-      same = e;
-      longest = λ n h i t. above n k (λ l. differ (same_Some a b (sym p ∙ sym (get_in_take xs n k l) ∙ ap (λ w. slice_get w k) t ∙ get_in_take ys n k l ∙ q)));
-    }
-
--- the common beginning is all of one list
-pub common_whole : (xs ys : List ClientRequest) (k : ℕ) → k ≤ length xs → k ≤ length ys → length xs ≤ k ⊎ length ys ≤ k → take k xs ≡ take k ys → IsCommonBeginning xs ys k
-common_whole xs ys k p q all e = record {
-  in_own = p;
-  in_list = q;
-  same = e;
-  longest = λ n h i t. ⊎_elim (λ w. omega (arith, w, h)) (λ w. omega (arith, w, i)) all;
-}
 
 module _ {X : Type 0} where
   pub length-beginning : (xs : List X) (k : ℕ) → k ≤ length xs → length (take k xs) ≡ k

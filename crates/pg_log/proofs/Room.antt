@@ -52,9 +52,6 @@ room_twice one two three p q client =
     let b = q client in
     omega (arith, a, b)
 
-pub same_room : (places : Places) → RoomStays places places
-same_room places client = omega arith
-
 room_of-cond : (b : Bool) (o : Option (Vec (ℕ × ℕ) Global)) (v : Vec (ℕ × ℕ) Global) → (b ≡ true → room_of o ≡ 0) → room_of o ≤ room_of (cond b (Some v) o)
 room_of-cond true o v h =
     let none = h refl in

@@ -1,6 +1,6 @@
 -- The result of a call, from the results of its tries.
-use Rattle.std.proofs.Common.{◌≡◌, ◌⊎◌, ℕ, zero, suc, ◌≤◌, ◌<◌, List, [], ◌∷◌, ◌++◌, length, Bool, true, false, Some, Result, Ok, Err, refl, sym, ap, ◌∙◌, subst, inl, inr, append_assoc, arith, length-append}
-use Rattle.std.specs.Prelude.{slice_get, All, IfErr, IsTrue, IsFalse, MatchBool}
+use Rattle.std.proofs.Common.{◌≡◌, ◌⊎◌, ℕ, zero, suc, ◌≤◌, ◌<◌, List, [], ◌∷◌, ◌++◌, length, Bool, true, Some, Result, Ok, Err, sym, ap, ◌∙◌, subst, inl, inr, append_assoc, arith, length-append}
+use Rattle.std.specs.Prelude.{slice_get, All, IfErr, IsTrue, IsFalse}
 use Rattle.std.proofs.lemmas.Bool.{cases_lt}
 use Rattle.std.proofs.lemmas.Option.{get_or_from_slice_get, slice_get_past, slice_get_within}
 use Rattle.std.proofs.lemmas.List.{append-nil}
@@ -148,22 +148,6 @@ taken_in old mid new r before now f g h t is = taken_or old mid new r before f g
 pub untaken_in : (old mid new : Sender Operation) (r : ClientRequest) (before now : Bool) → (IsFalse before → NotAsked old mid r) → Grew mid new
     → (IsFalse now → IsFalse before × NotAsked mid new r) → IsFalse now → NotAsked old new r
 untaken_in old mid new r before now f h t is = not_asked_in old mid new r (f (t is).0) (t is).1 h
-
--- after the last try the refusal says that a queue took the request, or that none did
-end_says : (classes : Classes) (r : ClientRequest) (Taken Untaken : Type 0) (taken : Bool) (e : ExecError) → MatchBool taken (e ≡ exec.Unanswered) (e ≡ exec.NotTaken)
-    → (IsTrue taken → Taken) → (IsFalse taken → Untaken) → Says classes r Taken Untaken e
-end_says classes r Taken Untaken true e m f g = subst (λ x. Says classes r Taken Untaken x) (sym m) (f refl)
-end_says classes r Taken Untaken false e m f g = subst (λ x. Says classes r Taken Untaken x) (sym m) (g refl)
-
-pub ends : (classes : Classes) (old new : Contact) (r : ClientRequest) (taken : Bool) (e : ExecError) → KnowsMore old.seen new.seen → Grew old.sends new.sends
-    → (IsTrue taken → WasAsked old.sends new.sends r) → (IsFalse taken → NotAsked old.sends new.sends r) → MatchBool taken (e ≡ exec.Unanswered) (e ≡ exec.NotTaken)
-    → IsAsked classes old new r (Err e)
-ends classes old new r taken e known grew f g m = record {
-  seen = known;
-  grew = grew;
-  ok = tt;
-  err = end_says classes r (WasAsked old.sends new.sends r) (NotAsked old.sends new.sends r) taken e m f g;
-}
 
 -- a reply whose note a session has heard is true by the lists that the session knows
 pub is_answered : (classes : Classes) (heard seen lists : List (List ClientRequest)) (row : ℕ) (r : ClientRequest) (place at : ℕ) (answer given : Answer) (reply : PlacedReply)

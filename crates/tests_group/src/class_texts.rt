@@ -1,7 +1,7 @@
 //! The built-in classes as their texts declare them.
 use super::words::{is_number, next, see};
 use bpf_asm::{assemble_class, disassemble_class};
-use builtin_classes::{LOCK, OBJ, load_all};
+use builtin_classes::{LOCK, OBJ, load_lock, load_obj};
 use std::alloc::Global;
 use std::process::Abort;
 use std::str::SplitWhitespace;
@@ -45,18 +45,19 @@ fn declares(class: &VerifiedClass, text: &str) -> bool {
     lines.next().is_none()
 }
 
-/// True if these are both built-in classes, in their order.
-fn are_both(classes: &[VerifiedClass]) -> bool {
-    match classes {
-        [lock, obj] => declares(lock, LOCK_METHODS) && declares(obj, OBJ_METHODS),
-        _ => false,
-    }
-}
-
 #[test]
 fn loads_each_class(rt: HostRuntime) {
-    let classes = load_all(rt.alloc()).expect(&rt, "classes");
-    see(&rt, are_both(&classes), "both classes");
+    let (lock, obj) = (load_lock(rt.alloc()), load_obj(rt.alloc()));
+    see(
+        &rt,
+        declares(&lock.expect(&rt, "a class"), LOCK_METHODS),
+        "lock",
+    );
+    see(
+        &rt,
+        declares(&obj.expect(&rt, "a class"), OBJ_METHODS),
+        "obj",
+    );
     assert!(rt; OBJ.starts_with(".method getxattr r 64 4096\n"));
 }
 

@@ -4,7 +4,7 @@ ghost use mathlib.Core.List.{IsPrefix};
 use super::requests::{add_list, bytes_of, call_of, client, number, request_of};
 use super::words::{halves, is_code, is_number, number_of, see};
 use bpf_asm::assemble_class;
-use builtin_classes::load_all;
+use builtin_classes::{load_lock, load_obj};
 use interp::ClassTable;
 use pg_log::{
     Classes, Group, GroupWork, LogError, Request, are_same_requests, copy_log, list_refusal,
@@ -56,8 +56,8 @@ exit
 /// Both built-in classes, and one that fails.
 pub(super) fn table<R: Abort>(rt: &R, alloc: Global) -> ClassTable {
     let mut table = ClassTable::new(alloc);
-    for class in load_all(alloc).expect(rt, "classes") {
-        table.add(class).expect(rt, "room");
+    for class in [load_lock(alloc), load_obj(alloc)] {
+        table.add(class.expect(rt, "a class")).expect(rt, "room");
     }
     let image = assemble_class(alloc, FAILS).expect(rt, "a class");
     let class = verify(alloc, &image).expect(rt, "a safe class");

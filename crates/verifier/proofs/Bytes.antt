@@ -38,13 +38,6 @@ le_value_below (x ∷ xs) a =
     let p = pow-succ' 256 (length xs) in
     omega arith
 
-pub value_fits : (w : ℕ) (xs : List ℕ) → w ≤ 8 → AreBytes xs → le_value (take w xs) < 2 ^ 64
-value_fits w xs h a =
-    let small = le_value_below (take w xs) (bytes_take w xs a) in
-    let short : length (take w xs) ≤ 8 = simp length-take (omega arith) in
-    let le : 256 ^ length (take w xs) ≤ 256 ^ 8 = pow-le-pow_right {n = 256} (omega arith) short in
-    omega (arith, small, le)
-
 pub value_in : (w : ℕ) (xs : List ℕ) → AreBytes xs → le_value (take w xs) < 256 ^ w
 value_in w xs a =
     let small = le_value_below (take w xs) (bytes_take w xs a) in

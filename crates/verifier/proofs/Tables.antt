@@ -205,12 +205,6 @@ module _ (rules : RuleSet) (caps : Caps) (code : List (Option Insn)) where
         gap = λ q le lt. spaced p q i at (omega arith) (omega (arith, left.landing));
       })
 
-  pub merged_at : (table : Table) (a q : ℕ) (g : PlainFrame) → q < length table → frame_at (merged table a g) q ≡ met a g q (frame_at table q)
-  merged_at table a q g lt = ⊎_elim
-      (λ e. subst (λ n. frame_at (merged table n g) q ≡ met n g q (frame_at table q)) (sym e)
-      (ap (λ o. o >>= λ f. f) (get_same table q (Some (joined (frame_at table q) g)) lt) ∙ sym (cond-true _ _ _ (eq-eqb q q refl))))
-      (λ n. ap (λ o. o >>= λ f. f) (get_other table a q _ n) ∙ sym (cond-false _ _ _ (ne_eqb a q n))) (cases_eq a q)
-
   -- the slots from p on, where nothing begins at p
   pub refused_over : (p : ℕ) → slice_get code p ≡ Some None → first_refused caps code (whole_table rules caps code) p (drop p code) ≡ first_refused caps code (whole_table rules caps code) (p + 1) (drop (p + 1) code)
   refused_over p at = ap (first_refused caps code (whole_table rules caps code) p) (drop_head code p None at)
