@@ -21,11 +21,9 @@ usage() {
 case $#,${2-} in 1,* | 3,--class) ;; *) usage ;; esac
 mkdir -p "$1"
 out=$(cd "$1" && pwd) image=${3-}
-include=${SILLARNICA_INCLUDE:-$here/../include}
 architecture=$(dpkg --print-architecture)
 oldest=$(sed -n 's/^constexpr int RELEASES\[\] = {\([0-9]*\).*;$/\1/p' "$here/plugin/osd.h")
-version=$(sed -n 's/^#define SILLARNICA_VERSION "\(.*\)"$/\1/p' "$include/sillarnica.h")
-[ -n "$version" ] || { echo "ceph/package.sh: sillarnica.h names no release" >&2; exit 1; }
+version=$(sed 's/-dev$/~dev/' "$here/../VERSION")
 
 folder=usr/lib/$(uname -m)-linux-gnu/rados-classes
 tree=$out/tree

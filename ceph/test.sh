@@ -41,7 +41,7 @@ other_release() {
     to=$root/srv/sillarnica
     rm -rf "$to"
     mkdir -p "$to"
-    cp -r "$here" "$top/docs" "$top/include" "$top/examples" "$top/LICENSE" "$to"
+    cp -r "$here" "$top/docs" "$top/include" "$top/examples" "$top/LICENSE" "$top/VERSION" "$to"
     cp "$SILLARNICA_ARCHIVE" "$SILLARNICA_LIBC" "$radoscls" "$to"
     "$here/package.sh" "$to/packages" && "$here/package.sh" "$to/packages" --class "$here/classes/counter.img" || exit 1
     trap 'umount "$root/dev" "$root/proc"; rm -rf "$to" "$work"' EXIT

@@ -1,5 +1,5 @@
 /*
- * Sillarnica's verified classes for a host that keeps the objects itself. Calls 1, library 0.4.0.
+ * Sillarnica's verified classes for a host that keeps the objects itself. Calls 1.
  *
  * Memory: the caller owns all of it, before and after. Nothing is kept, and `malloc` and `free` are used within a call alone:
  * but for a handle, which holds memory of its own from open to close. What is written (refusal, answer, numbers, text, out,
@@ -32,7 +32,7 @@
 #include <stddef.h>
 #include <stdint.h>
 
-#define SILLARNICA_VERSION "0.4.0"
+#define SILLARNICA_VERSION "0.4.0-dev"
 
 #ifdef __cplusplus
 extern "C" {

@@ -13,6 +13,4 @@ mkdir -p "$1"
 rm -f "$1/libsillarnica.a"
 (cd "$1" && printf 'create libsillarnica.a\naddlib %s\naddlib %s\nsave\nend\n' "$archive" "$heap" | ar -M)
 cp "$top/include/sillarnica.h" "$1"
-version=$(cat "$top/VERSION")
-grep -qF "#define SILLARNICA_VERSION \"$version\"" "$1/sillarnica.h" && grep -qF "## $version" "$top/CHANGELOG.md" || { echo "the header or CHANGELOG.md has another version than $version"; exit 1; }
-echo "sillarnica $version"
+echo "sillarnica $(cat "$top/VERSION")"

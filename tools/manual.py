@@ -5,9 +5,10 @@
 
 RADOSCLS is the program as `rt run` or `rt ci` leaves it. It writes tools/radoscls.1 and
 tools/radoscls.bash; the page's description and exit statuses are the first part of
-docs/PROGRAM.md. With --check it writes neither, and names each that isn't what it would write. The
-status is 0 if nothing differs, 1 if something does, and 2 if there is no program, or its help or
-that page can't be read.
+docs/PROGRAM.md, its version that of the file VERSION. With --check it writes neither, and names
+each that isn't what it would write, and each place that says another version than that file: the
+program, the header, the Python package and CHANGELOG.md. The status is 0 if nothing differs, 1 if
+something does, and 2 if there is no program, or its help, that page or VERSION can't be read.
 
 `man -l tools/radoscls.1` shows the page; `. tools/radoscls.bash` in bash has words completed."""
 import os, re, subprocess, sys, textwrap
@@ -197,10 +198,35 @@ def completions(whole, commands):
     return re.sub(r"COMMANDS|OPTIONS|CASES|NUMBERS", lambda part: parts[part[0]], BASH)
 
 
+def its_version():
+    """What VERSION has, and the number in it: between releases `-dev` follows that."""
+    version = re.fullmatch(r"(\d+\.\d+\.\d+(?:-dev)?)\n", text_of(os.path.join(TOP, "VERSION")))[1]
+    return version, version.removesuffix("-dev")
+
+
+def versions(program):
+    """Each place that says the version in words of its own, what it says, and what it should."""
+    version, number = its_version()
+
+    def said(path, line):
+        """What a file's first line of that form says, or nothing."""
+        return "".join(re.findall(rf"^{line}$", text_of(os.path.join(TOP, path)) or "", re.M)[:1])
+
+    first_line = printed(program, "--version").partition("\n")[0]
+    yield "radoscls --version", first_line, f"radoscls {number}"
+    header = "include/sillarnica.h"
+    yield header, said(header, '#define SILLARNICA_VERSION "(.*)"'), version
+    python = "python/sillarnica/__init__.py"
+    yield python, said(python, '__version__ = "(.*)"'), version.replace("-dev", ".dev0")
+    # (changes since a release stand under `Since` and its number)
+    heading = "Since" if version != number else number
+    yield "the first heading of CHANGELOG.md", said("CHANGELOG.md", r"## (\S+).*"), heading
+
+
 def made_of(program):
     """The files' names and texts."""
     whole = Help(printed(program, "--help"))
-    version = printed(program, "--version").partition("\n")[0]
+    version = f"radoscls {its_version()[0]}"
     known = [name for name, _ in whole.rows["Commands"] if name != "help"]
     commands = {name: Help(printed(program, name, "--help")) for name in known}
     with open(PAGE, encoding="utf-8") as file:
@@ -228,12 +254,18 @@ def main():
     if not os.path.isfile(program):
         print(f"no program: {program}", file=sys.stderr)
         sys.exit(2)
+    program = os.path.abspath(program)
     try:
-        made = made_of(os.path.abspath(program))
+        made = made_of(program)
+        said = list(versions(program)) if is_checked else []
     except (LookupError, StopIteration, TypeError, OSError) as error:
-        print(f"the help, or docs/PROGRAM.md, has another form: {error!r}", file=sys.stderr)
+        print(f"the help, docs/PROGRAM.md or VERSION has another form: {error!r}", file=sys.stderr)
         sys.exit(2)
     differ = 0
+    for place, what, wanted in said:
+        if what != wanted:
+            print(f"{place} says {what!r}, and by VERSION it should say {wanted!r}")
+            differ = 1
     for name, text in made.items():
         path = os.path.join(TOP, "tools", name)
         if not is_checked:

@@ -4,6 +4,7 @@ What the program prints itself is here to the letter, as docs/ has it. `clap` wo
 of a usage a row has the first line, in the form that clap documents, of help the names that stand
 in it. Of what --explain adds it has the place: below the line, indented."""
 import os, re, struct
+from pathlib import Path
 
 
 def bytes_of(digits):
@@ -143,7 +144,9 @@ DONE = {
 RIGHT = {"--input": "00", "--caller": "1", "--object": "00", "--rules": "1", "--load": "held",
          "--save": "out"}
 OF_ALL = "--help", "--version"
-VERSION = "radoscls 0.4.0\nlogic dac8208d650f15bf\n"
+# The program says the number alone, without the `-dev` that VERSION has between releases.
+NUMBER = (Path(__file__).resolve().parent.parent / "VERSION").read_text().strip().removesuffix("-dev")
+VERSION = f"radoscls {NUMBER}\nlogic dac8208d650f15bf\n"
 OPTIONS = sorted({option for _, options in COMMANDS.values() for option in options})
 
 

@@ -21,11 +21,13 @@ out=$(cd "$1" && pwd)
 archive=${2:-$top/crates/sillarnica/out/libsillarnica.a}
 radoscls=${3:-$top/crates/radoscls/out/radoscls}
 version=$(cat "$top/VERSION")
+# (by sed: ${version/-dev/~dev} would be the home of a user `dev`)
+debian=$(sed 's/-dev$/~dev/' "$top/VERSION")
 face=$(sed -n 's/^CALLS = \([0-9]*\)$/\1/p' "$top/python/sillarnica/__init__.py")
 architecture=$(dpkg --print-architecture)
 triplet=$(uname -m)-linux-gnu
 [ -f "$archive" ] && [ -f "$radoscls" ] || { echo "tools/release.sh: $archive or $radoscls isn't built" >&2; exit 1; }
-grep -qxF "__version__ = \"$version\"" "$top/python/sillarnica/__init__.py" || { echo "tools/release.sh: the Python package has another version than $version" >&2; exit 1; }
+"$top/tools/manual.py" --check "$radoscls" >&2 || { echo "tools/release.sh: first mend what tools/manual.py --check says" >&2; exit 1; }
 
 rm -rf "$out"/{bin,lib,include,share,python,packages,BUILT,SHA256SUMS}
 mkdir -p "$out"/{bin,lib/pkgconfig,include,share/man/man1,share/bash-completion/completions,packages}
@@ -75,7 +77,7 @@ package() {
     install -D -m 644 "$out/BUILT" "$tree/usr/share/doc/$name/BUILT"
     cat > "$tree/DEBIAN/control" << END
 Package: $name
-Version: ${version/-dev/~dev}
+Version: $debian
 Architecture: $([ "$name" = python3-sillarnica ] && echo all || echo "$architecture")
 Maintainer: Sillarnica <sillarnica@localhost>
 Installed-Size: $(du -sk "$tree" | cut -f 1)
@@ -85,7 +87,7 @@ Priority: optional
 Description: $summary
  $text
 END
-    dpkg-deb --root-owner-group --build "$tree" "$out/packages/${name}_${version/-dev/~dev}_$([ "$name" = python3-sillarnica ] && echo all || echo "$architecture").deb" > /dev/null
+    dpkg-deb --root-owner-group --build "$tree" "$out/packages/${name}_${debian}_$([ "$name" = python3-sillarnica ] && echo all || echo "$architecture").deb" > /dev/null
     rm -rf "$tree"
 }
 
@@ -105,11 +107,11 @@ ln -s "$shared" "$tree/usr/lib/$triplet/libsillarnica.so"
 install -m 644 "$out/lib/libsillarnica.a" "$tree/usr/lib/$triplet/"
 install -D -m 644 "$out/include/sillarnica.h" "$tree/usr/include/sillarnica.h"
 sed -e 's,^prefix=.*,prefix=/usr,' -e "s,^libdir=.*,libdir=/usr/lib/$triplet," "$out/lib/pkgconfig/sillarnica.pc" > "$tree/usr/lib/$triplet/pkgconfig/sillarnica.pc"
-package libsillarnica-dev "libsillarnica$face (= ${version/-dev/~dev})" "verified classes in BPF: header, archive and pkg-config" \
+package libsillarnica-dev "libsillarnica$face (= $debian)" "verified classes in BPF: header, archive and pkg-config" \
     "What a host in C or C++ is built with."
 mkdir -p "$tree/usr/lib/python3/dist-packages"
 cp -r "$out/python/sillarnica" "$tree/usr/lib/python3/dist-packages/"
-package python3-sillarnica "python3 (>= 3.9), libsillarnica$face (>= ${version/-dev/~dev})" "verified classes in BPF, in Python" \
+package python3-sillarnica "python3 (>= 3.9), libsillarnica$face (>= $debian)" "verified classes in BPF, in Python" \
     "Verifies a class and calls its methods on objects that the caller keeps."
 rm -rf "$tree"
 

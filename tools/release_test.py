@@ -1,7 +1,8 @@
-"""What the installed Python package answers: the counter's values of docs/WRITING.md, and each refusal.
+"""What the installed Python package answers: its version, the counter's values of docs/WRITING.md, and each refusal.
 
     release_test.py TOP        run by tools/release_test.sh
 """
+import importlib.metadata
 import pathlib
 import sys
 import threading
@@ -10,6 +11,10 @@ import sillarnica
 from sillarnica import Class, Edit, Object
 
 top = pathlib.Path(sys.argv[1])
+# the version by the file VERSION, in the package and in what pip knows of it (Debian's package has nothing for pip)
+version = (top / "VERSION").read_text().strip().replace("-dev", ".dev0")
+known = [it.version for it in importlib.metadata.distributions() if it.metadata["Name"] == "sillarnica"]
+assert {sillarnica.__version__, *known} == {version}, (sillarnica.__version__, known)
 # the methods of examples/embed/parts.txt
 PARTS = sorted(line.split()[1] for line in (top / "examples" / "embed" / "parts.txt").read_text().split("\n") if line.startswith(".method"))
 

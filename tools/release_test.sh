@@ -3,9 +3,10 @@
 #
 #     tools/release_test.sh [ARCHIVE [RADOSCLS]]
 #
-# Sums are right; a host in C is built by pkg-config, shared and static; the shared object has the library's calls alone; the
-# Python package goes into a fresh environment by pip, without a network; as root, the Debian packages go into an empty root by
-# dpkg, and the program, the library and Python run from there. It prints a line for each step; the status is 0 if all are well.
+# Sums are right; each package, pkg-config and Python say the version of the file VERSION; a host in C is built by pkg-config,
+# shared and static; the shared object has the library's calls alone; the Python package goes into a fresh environment by pip,
+# without a network; as root, the Debian packages go into an empty root by dpkg, and the program, the library and Python run
+# from there. It prints a line for each step; the status is 0 if all are well.
 set -uo pipefail
 top=$(cd "$(dirname "$0")/.." && pwd)
 work=$(mktemp -d)
@@ -22,6 +23,17 @@ step() {
 }
 
 sums() { (cd "$made" && sha256sum --quiet -c SHA256SUMS); }
+
+# pkg-config and each package say the version of the file VERSION; packages end in ~dev where that ends in -dev
+versions() {
+    local version debian file
+    version=$(cat "$top/VERSION") debian=$(sed 's/-dev$/~dev/' "$top/VERSION")
+    PKG_CONFIG_PATH=$made/lib/pkgconfig pkg-config --modversion sillarnica | diff - <(echo "$version") || return 1
+    for file in "$made"/packages/*; do
+        case ${file##*/} in *_"$debian"_*.deb) ;; *) echo "$file"; return 1 ;; esac
+        dpkg-deb -f "$file" Version | diff - <(echo "$debian") || return 1
+    done
+}
 
 # what examples/embed/host.c prints of two calls, as docs/EMBED.md has it
 plays() {
@@ -68,6 +80,7 @@ LINES
 }
 
 step "sums" sums
+step "versions" versions
 step "a host in C, by pkg-config and by the archive" host
 step "the shared object has its calls alone" calls_alone
 step "Python, by pip" in_a_venv
