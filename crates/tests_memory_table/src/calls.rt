@@ -1,10 +1,10 @@
-//! Rows of `call`, 3 NoMemory, and of `ClassTable::add`, 2 NoMemory.
+//! Rows of `call` and `Room::call`, 3 NoMemory, and of `ClassTable::add`, 2 NoMemory.
 
 use crate::ending::Ending;
 use crate::made::class_of;
 use crate::same::same;
 use crate::store::object_of;
-use interp::{CallError, ClassTable, Outcome, TableError, call};
+use interp::{CallError, ClassTable, Outcome, Room, TableError, call};
 use object_store::Object;
 use std::alloc::Global;
 use verifier::VerifiedClass;
@@ -103,6 +103,25 @@ pub fn called(alloc: Global) -> Option<Ending> {
     let object = object_of(alloc)?;
     let before = object_of(alloc)?;
     Some(every(alloc, &class, &object, &before))
+}
+
+/// `mov r0, 0`, `exit`, with the greatest regions.
+const GREATEST: &str = ".method f r 4096 4096\nmov r0, 0\nexit\n";
+
+fn in_room(room: &mut Room, class: &VerifiedClass) -> Ending {
+    match room.call(class, "f", None, 7, &[]) {
+        Ok(outcome) => Ending::of(outcome.code == 0 && outcome.steps == 2),
+        Err(error) => Ending::refused(error == CallError::NoMemory),
+    }
+}
+
+/// `Room::call`, twice: one that has no output and changes nothing takes no memory where the room
+/// has held as much before, so the second isn't refused.
+pub fn called_in_room(alloc: Global) -> Option<Ending> {
+    let class = class_of(alloc, GREATEST)?;
+    let mut room = Room::new(alloc);
+    let first = in_room(&mut room, &class);
+    Some(first.then(Some(in_room(&mut room, &class))))
 }
 
 /// `mov r0, 0`, `exit`.

@@ -9,7 +9,8 @@ use crate::made::{Asked, names_of, nodes_of, request_of, table_of};
 use crate::nodes::steps::{Cause, MONITOR, STEPS, Step, are_sent, number_of};
 use builtin_classes::LOCK;
 use group_world::{
-    Event, GroupMap, HandleError, Message, MessageKind, Messages, MonitorError, Packet, Party,
+    CallReply, Event, GroupMap, HandleError, Message, MessageKind, Messages, MonitorError, Packet,
+    Party,
 };
 use object_store::ObjectName;
 use peering::{GroupNode, Monitor};
@@ -177,7 +178,7 @@ impl<C: Classes> Run<C> {
             return None;
         }
         self.arrived = self.arrived.checked_add(1)?;
-        packet.message.copy(self.alloc).ok()
+        copy_message(self.alloc, &packet.message)
     }
 
     /// The monitor activates an interval, and says so.
@@ -279,12 +280,34 @@ fn resent<C: Classes>(node: &GroupNode<C>, before: &GroupNode<C>, names: &[Objec
     }
 }
 
+/// An equal message.
+#[rattlefmt::skip]
+fn copy_message(alloc: Global, message: &Message) -> Option<Message> {
+    use MessageKind::*;
+    let kind = match &message.kind {
+        Query(map)                           => Query(map.copy(alloc).ok()?),
+        Log(interval, list)                  => Log(*interval, list.copy().ok()?),
+        Install(map, list)                   => Install(map.copy(alloc).ok()?, list.copy().ok()?),
+        Installed(interval)                  => Installed(*interval),
+        AskActivate(interval)                => AskActivate(*interval),
+        Activated(interval)                  => Activated(*interval),
+        Rep(interval, place, request)        => Rep(*interval, *place, request.copy().ok()?),
+        Ack(interval, length)                => Ack(*interval, *length),
+        Reply(client, number, place, answer) => {
+            let output = Vec::from_slice(alloc, answer.output()).ok()?;
+            Reply(*client, *number, *place, CallReply::new(answer.code(), output))
+        }
+    };
+    let sender = message.sender;
+    Some(Message { sender, kind })
+}
+
 /// An equal event.
 fn copy_event(alloc: Global, event: &Event) -> Option<Event> {
     Some(match event {
         Event::Request(request) => Event::Request(request.copy().ok()?),
         Event::Map(map) => Event::Map(map.copy(alloc).ok()?),
-        Event::Message(message) => Event::Message(message.copy(alloc).ok()?),
+        Event::Message(message) => Event::Message(copy_message(alloc, message)?),
     })
 }
 

@@ -30,6 +30,7 @@ pub enum Row {
     Staged(Step),
     Turn(Turn),
     Call,
+    CallInRoom,
     AddClass,
     Log(Verb),
     PackLog,
@@ -43,7 +44,7 @@ pub enum Row {
 
 /// Each row with its name.
 #[rattlefmt::skip]
-pub const ROWS: [(&str, Row); 45] = [
+pub const ROWS: [(&str, Row); 46] = [
     ("decode", Row::Decode),
     ("encode", Row::Encode),
     ("read_image", Row::ReadImage),
@@ -76,6 +77,7 @@ pub const ROWS: [(&str, Row); 45] = [
     ("apply", Row::Turn(Turn::Apply)),
     ("undo", Row::Turn(Turn::Undo)),
     ("call", Row::Call),
+    ("call_in_room", Row::CallInRoom),
     ("add_class", Row::AddClass),
     ("append", Row::Log(Verb::Append)),
     ("append_at", Row::Log(Verb::AppendAt)),
@@ -133,6 +135,7 @@ impl Row {
             Row::Staged(step) => stepped(alloc, step),
             Row::Turn(turn) => turned(alloc, turn),
             Row::Call => calls::called(alloc),
+            Row::CallInRoom => calls::called_in_room(alloc),
             Row::AddClass => calls::added(alloc),
             Row::Log(verb) => logged(alloc, verb),
             Row::PackLog => packed(alloc),
