@@ -32,7 +32,7 @@
 #include <stddef.h>
 #include <stdint.h>
 
-#define SILLARNICA_VERSION "0.4.0-dev"
+#define SILLARNICA_VERSION "0.5.0-dev"
 
 #ifdef __cplusplus
 extern "C" {

@@ -21,7 +21,7 @@ import struct
 import threading
 from typing import Iterator, List, Mapping, NamedTuple, Optional, Tuple, Union
 
-__version__ = "0.4.0.dev0"
+__version__ = "0.5.0.dev0"
 __all__ = ["Class", "Edit", "InputTooLong", "Malformed", "Method", "NoMethod", "Object", "Refused", "Reply", "edited"]
 
 # The number of what the library declares: it rises when a call or a format changes.

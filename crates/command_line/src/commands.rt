@@ -194,7 +194,7 @@ fn plain_command<'a>(alloc: Global) -> Command<'a>
 {
     Command::new(alloc, "radoscls")
         .about("RADOS object classes in verified BPF")
-        .version("0.4.0\nlogic dac8208d650f15bf")
+        .version("0.5.0\nlogic dac8208d650f15bf")
         .subcommand_required(true)
         .arg_required_else_help(true)
 }
