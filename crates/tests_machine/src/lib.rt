@@ -1,9 +1,18 @@
-//! Only tests: calls of `interp` with answers from outside (RFC 9669, or computed by hand), calls
-//! at all limits, in one room, and the table of classes; and runs of raw bytes.
+//! Only tests of what a call of a method does: by `interp`, with answers from outside (RFC 9669, or
+//! computed by hand), at all limits, in one room, and the table of classes; by runs of raw bytes;
+//! and by the library's calls on bytes, flat forms, edits and limits, and a host in Rattle.
 #![tactic(auto)]
 
 #[cfg(test)]
+mod answers;
+#[cfg(test)]
+mod flat_limits;
+#[cfg(test)]
+mod flat_objects;
+#[cfg(test)]
 mod helper_calls;
+#[cfg(test)]
+mod host;
 #[cfg(test)]
 mod limits;
 #[cfg(test)]

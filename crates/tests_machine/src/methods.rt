@@ -21,13 +21,17 @@ fn put_lines(rt: &impl Abort, text: &mut String, lines: &str) {
 }
 
 /// The class of a text in pieces, whose lines semicolons separate.
-pub fn class(rt: &impl Abort, alloc: Global, pieces: &[&str]) -> VerifiedClass {
+pub fn image(rt: &impl Abort, alloc: Global, pieces: &[&str]) -> ClassImage {
     let mut text = String::new(alloc);
     for piece in pieces {
         put_lines(rt, &mut text, piece);
     }
-    let image = assemble_class(alloc, &text).expect(rt, "a class");
-    verify(alloc, &image).expect(rt, "a safe class")
+    assemble_class(alloc, &text).expect(rt, "a class")
+}
+
+/// The same, verified.
+pub fn class(rt: &impl Abort, alloc: Global, pieces: &[&str]) -> VerifiedClass {
+    verify(alloc, &image(rt, alloc, pieces)).expect(rt, "a safe class")
 }
 
 /// The method `f` of that code's bytes, which only reads, without input and output.

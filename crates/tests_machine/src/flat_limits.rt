@@ -1,11 +1,14 @@
 //! Objects at their limits of data, xattrs and keys: forms, edits, and calls that would pass a
 //! limit.
 
-use crate::bytes::is_form;
+use crate::flat_objects::is_form;
+use crate::methods::image;
+use bpf_decode::write_image;
 use class_calls::{Answer, answer_on};
 use object_bytes::{edits_of, read_object};
 use object_store::Object;
 use std::alloc::Global;
+use std::process::Abort;
 
 /// Names of two bytes, as many as are wanted, with no values.
 fn names(form: &mut Vec<u8>, count: u16) -> Option<()> {
@@ -109,67 +112,48 @@ fn edits_at_the_limits(rt: HostRuntime) {
     }
 }
 
-/// `f`, flags 3, at most 8 bytes of input: it writes the input's first byte at a place.
-#[rattlefmt::skip]
-fn writing(place: u32) -> [u8; 57] {
-    let [a, b, c, d] = place.to_le_bytes();
-    [
-        0x52, 0x43, 0x4c, 0x31, 1, 0, 0, 0, 1, 0x66, 3, 8, 0, 0, 0, 5, 0,
-        0xbf, 0x12, 0, 0, 0, 0, 0, 0, // mov r2, r1
-        0xb7, 0x01, 0, 0, a, b, c, d, // mov r1, place
-        0xb7, 0x03, 0, 0, 1, 0, 0, 0, // mov r3, 1
-        0x85, 0x00, 0, 0, 3, 0, 0, 0, // call 3
-        0x95, 0x00, 0, 0, 0, 0, 0, 0, // exit
-    ]
-}
+/// Write the input's first byte at the last place of an object, and past it; and set the name of
+/// two bytes that the input begins with to its third byte, of an xattr and of a key.
+const LAST: &str = "mov r2, r1; mov r1, 65535; mov r3, 1; call 3";
 
-/// The same of a method that sets the name of two bytes that the input begins with to its third
-/// byte: the xattr by helper 7, the key by helper 10.
-#[rattlefmt::skip]
-fn setting(helper: u8) -> [u8; 65] {
-    [
-        0x52, 0x43, 0x4c, 0x31, 1, 0, 0, 0, 1, 0x66, 3, 8, 0, 0, 0, 6, 0,
-        0xb7, 0x02, 0, 0, 2, 0, 0, 0, // mov r2, 2
-        0xbf, 0x13, 0, 0, 0, 0, 0, 0, // mov r3, r1
-        0x07, 0x03, 0, 0, 2, 0, 0, 0, // add r3, 2
-        0xb7, 0x04, 0, 0, 1, 0, 0, 0, // mov r4, 1
-        0x85, 0x00, 0, 0, helper, 0, 0, 0, // call helper
-        0x95, 0x00, 0, 0, 0, 0, 0, 0, // exit
-    ]
-}
+const PAST: &str = "mov r2, r1; mov r1, 65536; mov r3, 1; call 3";
 
-/// Helper, place, name and value, an object's size; the answer, and how many bytes of edits.
-type Row = (u8, u32, &'static [u8], Size, i64, usize);
+const XATTR: &str = "mov r2, 2; mov r3, r1; add r3, 2; mov r4, 1; call 7";
+
+const KEY: &str = "mov r2, 2; mov r3, r1; add r3, 2; mov r4, 1; call 10";
+
+/// A program, name and value, an object's size; the answer, and how many bytes of edits.
+type Row = (&'static str, &'static [u8], Size, i64, usize);
 
 #[rattlefmt::skip]
 const ROWS: [Row; 11] = [
-    (3, 65535, b"x", FULL, 1, 10),
-    (3, 65536, b"x", FULL, -27, 0),
-    (3, 65535, b"x", (65535, 0, 0), 1, 15),
-    (7, 0, b"\x00\x1fv", FULL, 0, 7),
-    (7, 0, b"\x00\x20v", FULL, -28, 0),
-    (7, 0, b"\x00\x20v", (0, 31, 0), 0, 7),
-    (10, 0, b"\x03\xffv", FULL, 0, 7),
-    (10, 0, b"\x04\x00v", FULL, -28, 0),
-    (10, 0, b"\x04\x00v", (0, 0, 1023), 0, 7),
-    (7, 0, b"\x04\x00v", (0, 0, 1024), 0, 7),
-    (10, 0, b"\x00\x20v", (0, 32, 0), 0, 7),
+    (LAST, b"x", FULL, 1, 10),
+    (PAST, b"x", FULL, -27, 0),
+    (LAST, b"x", (65535, 0, 0), 1, 15),
+    (XATTR, b"\x00\x1fv", FULL, 0, 7),
+    (XATTR, b"\x00\x20v", FULL, -28, 0),
+    (XATTR, b"\x00\x20v", (0, 31, 0), 0, 7),
+    (KEY, b"\x03\xffv", FULL, 0, 7),
+    (KEY, b"\x04\x00v", FULL, -28, 0),
+    (KEY, b"\x04\x00v", (0, 0, 1023), 0, 7),
+    (XATTR, b"\x04\x00v", (0, 0, 1024), 0, 7),
+    (KEY, b"\x00\x20v", (0, 32, 0), 0, 7),
 ];
 
-fn answered(alloc: Global, row: &Row) -> Option<Answer> {
-    let form = form(alloc, row.3)?;
-    if row.0 == 3 {
-        answer_on(alloc, &writing(row.1), b"f", &form, 1, row.2).ok()
-    } else {
-        answer_on(alloc, &setting(row.0), b"f", &form, 1, row.2).ok()
-    }
+/// The answer of a call, with at most 8 bytes of input, of a row's program, to whose end an `exit`
+/// is added.
+fn answered(rt: &impl Abort, alloc: Global, row: &Row) -> Option<Answer> {
+    let image = image(rt, alloc, &[".method f rw 8 0;", row.0, ";exit"]);
+    let image = write_image(alloc, &image).ok()?;
+    let form = form(alloc, row.2)?;
+    answer_on(alloc, &image, b"f", &form, 1, row.1).ok()
 }
 
 #[test]
 fn calls_at_the_limits(rt: HostRuntime) {
     for row in &ROWS {
-        let answer = answered(rt.alloc(), row).expect(&rt, "an answer");
-        assert!(rt; answer.code == row.4);
-        assert!(rt; answer.edits.len() == row.5);
+        let answer = answered(&rt, rt.alloc(), row).expect(&rt, "an answer");
+        assert!(rt; answer.code == row.3);
+        assert!(rt; answer.edits.len() == row.4);
     }
 }

@@ -1,6 +1,6 @@
 //! A host in Rattle keeps objects as they are, and needs no bytes: the lines of docs/EMBED.md.
 
-use crate::images::WRITE;
+use crate::answers::WRITE;
 use bpf_decode::read_image;
 use interp::call;
 use object_store::Object;
