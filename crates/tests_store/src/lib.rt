@@ -1,12 +1,11 @@
-//! Tests alone, of the crates that keep objects: maps, objects by name, their data, the effect of a
-//! call on its object, and the helpers. What a call gives for every argument is proved; here its
-//! definition meets values from outside, memory suffices, and sizes are at their limits.
+//! Tests alone, of the crates that keep objects: maps, objects by name, their data, and the effect
+//! of a call on its object; each helper has its rows in `tests_machine`. What a call gives for every
+//! argument is proved; here its definition meets values from outside, memory suffices, and sizes
+//! are at their limits.
 #![tactic(auto)]
 
 #[cfg(test)]
 mod data;
-#[cfg(test)]
-mod helper_calls;
 #[cfg(test)]
 mod limits;
 #[cfg(test)]
