@@ -7,18 +7,13 @@ use abstract_num::{
 };
 use bpf_decode::{Arithmetic, OpWidth, SignedWidth, Width};
 
+#[rattlefmt::skip]
 const ONCE: [(Six, Option<Six>); 8] = [
     ((10, ALL, 5, 20, 0, ALL), Some((10, 20, 5, 20, 0, ALL))),
     ((10, 20, 5, 20, 0, ALL), Some((10, 20, 10, 20, 0, ALL))),
     ((0, ALL, MIN, MAX, 8, 3), Some((8, 11, 8, 11, 8, 3))),
-    (
-        (0, ALL, -8, -5, 0, ALL),
-        Some((ALL - 7, ALL - 4, -8, -5, 0, ALL)),
-    ),
-    (
-        (TOP, TOP + 1, MIN, MAX, 0, ALL),
-        Some((TOP, TOP + 1, MIN, MIN + 1, 0, ALL)),
-    ),
+    ((0, ALL, -8, -5, 0, ALL), Some((ALL - 7, ALL - 4, -8, -5, 0, ALL))),
+    ((TOP, TOP + 1, MIN, MAX, 0, ALL), Some((TOP, TOP + 1, MIN, MIN + 1, 0, ALL))),
     ((4, 4, MIN, MAX, 0, 7), Some((4, 4, 4, 4, 4, 0))),
     ((4, 4, 0, MAX, 1, 6), None),
     ((0, 5, 6, 9, 0, ALL), None),

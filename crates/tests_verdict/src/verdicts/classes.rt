@@ -5,6 +5,7 @@ use bpf_decode::{ClassImage, Method, RuleSet};
 use bpf_machine::Caps;
 use bpf_ops::Op;
 use std::alloc::Global;
+use std::fmt::Display;
 use verifier::{Refusal, Rule, VerifiedClass, VerifiedMethod, first_rule_set, one_table, verify};
 
 /// A safe method, and two that aren't.
@@ -38,9 +39,9 @@ static RULES: [(Rule, &str); 17] = [
     (Rule::PointerBytes, "17 PointerBytes"),
 ];
 
-/// True if a rule prints as that text.
-fn is_named(alloc: Global, rule: Rule, text: &str) -> bool {
-    match rule.to_string(alloc) {
+/// True if a rule or a refusal prints as that text.
+fn is_printed<T: Display>(alloc: Global, value: &T, text: &str) -> bool {
+    match value.to_string(alloc) {
         Ok(printed) => printed.as_str() == text,
         Err(_) => false,
     }
@@ -49,15 +50,7 @@ fn is_named(alloc: Global, rule: Rule, text: &str) -> bool {
 #[test]
 fn names_rules(rt: HostRuntime) {
     for (rule, text) in &RULES {
-        assert!(rt; is_named(rt.alloc(), *rule, text), "{text}");
-    }
-}
-
-/// True if a refusal prints as that text.
-fn is_printed(alloc: Global, refusal: &Refusal, text: &str) -> bool {
-    match refusal.to_string(alloc) {
-        Ok(printed) => printed.as_str() == text,
-        Err(_) => false,
+        assert!(rt; is_printed(rt.alloc(), rule, text), "{text}");
     }
 }
 
