@@ -109,19 +109,10 @@ fn prints_a_beginning(rt: HostRuntime) {
 
 /// Why the words could not be read; the ending, and what is printed on standard output and on
 /// standard error. The last line is clap's.
+#[rattlefmt::skip]
 static UNREAD: [(ErrorKind, ExitStatus, &str, &str); 2] = [
-    (
-        ErrorKind::OutOfMemory,
-        ExitStatus::Refused,
-        "no memory\n",
-        "",
-    ),
-    (
-        ErrorKind::InvalidData,
-        ExitStatus::Usage,
-        "",
-        "error: invalid UTF-8 was detected in one or more arguments\n",
-    ),
+    (ErrorKind::OutOfMemory, ExitStatus::Refused, "no memory\n", ""),
+    (ErrorKind::InvalidData, ExitStatus::Usage, "", "error: invalid UTF-8 was detected in one or more arguments\n"),
 ];
 
 /// True if words that can't be read end so, and no file is written.

@@ -31,18 +31,12 @@ impl Clock for Readings {
 /// The clock's readings in a run of two seconds with three calls, of 3,500, 9,999 and 0
 /// nanoseconds, and maps after the first two calls: the beginnings and ends of calls and the moments
 /// of maps are between the beginning and the end of the run.
-static RUN: [u64; 10] = [
-    1_000,
-    2_000,
-    5_500,
-    6_000,
-    10_000,
-    19_999,
-    22_900,
-    30_000,
-    30_000,
-    2_000_001_000,
-];
+#[rattlefmt::skip]
+static RUN: [u64; 10] = [1_000, 2_000, 5_500, 6_000, 10_000, 19_999, 22_900, 30_000, 30_000, 2_000_001_000];
+
+/// Seven operations: a client's request is the client's number times 2^32, and its own.
+#[rattlefmt::skip]
+static OPERATIONS: [u64; 7] = [0, 0x1_0000_0001, 0x1_0000_0001, 0, 0x2_0000_0001, 0x1_0000_0002, 0x1_0000_0002];
 
 /// The nanoseconds that the clock reads.
 fn now(clock: &Readings) -> Option<u64> {
@@ -72,15 +66,7 @@ fn figures_are_shown(rt: HostRuntime) {
         figures.note_call(&clock, start);
     }
     figures.note_whole(&clock);
-    for number in [
-        0,
-        0x1_0000_0001,
-        0x1_0000_0001,
-        0,
-        0x2_0000_0001,
-        0x1_0000_0002,
-        0x1_0000_0002,
-    ] {
+    for number in OPERATIONS {
         figures.before(number);
     }
     for n in 0..4 {
@@ -113,15 +99,9 @@ fn figures_without_a_clock(rt: HostRuntime) {
 
 /// The clock's readings as a run begins, as a call ends and at the first look, as two calls end and at
 /// the second look, at the third, and as a call ends and at the fourth.
+#[rattlefmt::skip]
 static LOOKS: [u64; 9] = [
-    1_000_000,
-    100_000_000,
-    101_000_000,
-    900_000_000,
-    1_000_000_000,
-    1_001_000_000,
-    1_500_000_000,
-    2_000_000_000,
+    1_000_000, 100_000_000, 101_000_000, 900_000_000, 1_000_000_000, 1_001_000_000, 1_500_000_000, 2_000_000_000,
     2_001_000_000,
 ];
 

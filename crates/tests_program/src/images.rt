@@ -1,4 +1,4 @@
-//! Images that are given in hexadecimal, and images with one byte changed.
+//! Images that are given in hexadecimal. Images with one byte changed are rows of `tests_decode`.
 
 use crate::ended::{lines_of, prints_on, with_repeated};
 use crate::folder::{Folder, TWO};
@@ -26,32 +26,6 @@ static IMAGES: [(&str, &str, &str, u8); 6] = [
         "image refused after 0 methods, slot 3: 3 Opcode", 1),
 ];
 
-/// A place in the image of two instructions, the byte that stands there instead, and what `verify`
-/// prints after `image refused after `.
-static CHANGED: [(usize, u8, &str); 21] = [
-    (0, 0x53, "0 methods: 2 Magic"),
-    (6, 0x01, "0 methods: 2 Magic"),
-    (4, 0x00, "0 methods: 10 Limit"),
-    (4, 0x21, "0 methods: 10 Limit"),
-    (4, 0x02, "1 methods: 1 Truncated"),
-    (8, 0x00, "0 methods: 7 Name"),
-    (8, 0x41, "0 methods: 7 Name"),
-    (9, 0x46, "0 methods: 7 Name"),
-    (10, 0x00, "0 methods: 9 Flags"),
-    (10, 0x04, "0 methods: 9 Flags"),
-    (12, 0x11, "0 methods: 10 Limit"),
-    (15, 0x00, "0 methods: 10 Limit"),
-    (15, 0x03, "0 methods: 1 Truncated"),
-    (15, 0x01, "1 methods: 11 Trailing"),
-    (17, 0x00, "0 methods, slot 0: 3 Opcode"),
-    (18, 0x0b, "0 methods, slot 0: 4 Register"),
-    (18, 0x10, "0 methods, slot 0: 5 NonzeroField"),
-    (19, 0x08, "0 methods, slot 0: 5 NonzeroField"),
-    (29, 0x01, "0 methods, slot 1: 5 NonzeroField"),
-    (25, 0x18, "0 methods, slot 1: 6 WideHalf"),
-    (17, 0x18, "0 methods, slot 0: 6 WideHalf"),
-];
-
 /// True if a command prints that of an image, ends so, and writes no file.
 fn is_read<R: Abort + AllocGlobal + Threads + Wait + Clock + Sync>(
     rt: &R,
@@ -65,35 +39,10 @@ fn is_read<R: Abort + AllocGlobal + Threads + Wait + Clock + Sync>(
     prints_on(rt, &[word, "image"], &mut folder, &printed, status) && folder.writes == 0
 }
 
-/// True if the image with that byte at that place is refused so.
-fn is_refused<R: Abort + AllocGlobal + Threads + Wait + Clock + Sync>(
-    rt: &R,
-    place: usize,
-    byte: u8,
-    why: &str,
-) -> bool {
-    let mut folder = Folder::of(rt.alloc(), TWO, b"").expect(rt, "memory");
-    match folder.image.get_mut(place) {
-        Some(it) => *it = byte,
-        None => return false,
-    }
-    let printed = with_repeated(rt.alloc(), "image refused after ", why, 1, "\n").expect(
-        rt, "memory",
-    );
-    prints_on(rt, &["verify", "image"], &mut folder, &printed, 1)
-}
-
 #[test]
 fn images_are_read(rt: HostRuntime) {
     for (word, image, printed, status) in &IMAGES {
         assert!(rt; is_read(&rt, word, image, printed, *status), "{printed}");
-    }
-}
-
-#[test]
-fn a_changed_byte_is_found(rt: HostRuntime) {
-    for (place, byte, why) in &CHANGED {
-        assert!(rt; is_refused(&rt, *place, *byte, why), "{place} {byte}");
     }
 }
 

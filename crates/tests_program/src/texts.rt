@@ -6,142 +6,27 @@ use std::sync::Wait;
 use std::thread::Threads;
 use std::time::Clock;
 
-/// Words, and after them the lines of the file `text`; below, the status and what is printed.
+/// Words, and after them the lines of the file `text`; below, the status and what is printed. Other
+/// verdicts are rows of `tests_verdict`, other lines that are no instructions of `tests_decode`.
 const VERDICTS: &str = "\
 verify text / .method f r 0 0 / mov r0, 0 / exit
 => 0 f ok 2
-verify text / .method f r 0 0 / exit
-=> 1 refused method 0 slot 0: 5 UnsetRead
-verify text / .method f r 0 0 / ja -1 / exit
-=> 1 refused method 0 slot 0: 1 Backward
-verify text / .method f r 0 0 / ja +1 / lddw r0, 0x0000000000000000 / exit
-=> 1 refused method 0 slot 0: 2 Target
-verify text / .method f r 0 0 / stxdw [r10-512], r2 / mov r0, 0 / exit
-=> 0 f ok 3
-verify text / .method f r 0 0 / stxdw [r10-520], r2 / mov r0, 0 / exit
-=> 1 refused method 0 slot 0: 10 Bounds
-verify text / .method f r 0 0 / stxdw [r10-4], r2 / mov r0, 0 / exit
-=> 1 refused method 0 slot 0: 10 Bounds
-verify text / .method f r 16 0 / and r2, 15 / add r1, r2 / ldxb r0, [r1+0] / exit
-=> 0 f ok 4
-verify text / .method f r 15 0 / and r2, 15 / add r1, r2 / ldxb r0, [r1+0] / exit
-=> 1 refused method 0 slot 2: 10 Bounds
-verify text / .method f r 4096 16 / mov r0, 0 / jgt r2, 15, +2 / add r3, r2 / stb [r3+0], 1 / exit
-=> 0 f ok 5
-verify text / .method f r 4096 16 / mov r0, 0 / jgt r2, 15, +1 / exit / add r3, r2 / stb [r3+0], 1 / exit
-=> 1 refused method 0 slot 4: 10 Bounds
-verify text / .method f r 0 0 / mov r0, r1 / exit
-=> 1 refused method 0 slot 1: 15 ReturnsPointer
-verify text / .method f r 0 0 / call 1 / mov r0, r1 / exit
-=> 1 refused method 0 slot 1: 5 UnsetRead
-verify text / .method f r 0 0 / mov r4, 0 / call 10 / exit
-=> 1 refused method 0 slot 1: 14 WriteHelperInReader
-verify text / .method f w 0 0 / mov r4, 0 / call 10 / exit
-=> 0 f ok 3
-";
-
-/// Of each rule that the rows above don't have, the class that it refuses.
-const RULES: &str = "\
-verify text / .method f r 0 0 / mov r0, 0
-=> 1 refused method 0 slot 0: 3 FallsOff
-verify text / .method f r 0 0 / call local +0 / exit
-=> 1 refused method 0 slot 0: 4 LocalCall
-verify text / .method f r 0 0 / mov r10, 0 / exit
-=> 1 refused method 0 slot 0: 6 WritesR10
-verify text / .method f r 0 0 / mul r1, 2 / exit
-=> 1 refused method 0 slot 0: 7 PointerArithmetic
 verify text / .method f r 0 0 / jeq r1, 0, +0 / exit
 => 1 refused method 0 slot 0: 8 PointerCompare
-verify text / .method f r 0 0 / stxdw [r10-8], r1 / exit
-=> 1 refused method 0 slot 0: 9 PointerStored
-verify text / .method f r 1 0 / stb [r1+0], 1 / exit
-=> 1 refused method 0 slot 0: 11 ReadOnlyRegion
-verify text / .method f r 0 0 / stb [r1+0], 1 / exit
-=> 1 refused method 0 slot 0: 10 Bounds
-verify text / .method f r 0 0 / call 16 / exit
-=> 1 refused method 0 slot 0: 12 UnknownHelper
-verify text / .method f r 0 0 / mov r1, r10 / call 13 / exit
-=> 1 refused method 0 slot 1: 13 HelperArgument
-verify text / .method f r 0 4 / mov r1, 5 / call 13 / exit
-=> 1 refused method 0 slot 1: 13 HelperArgument
-verify text / .method f r 0 5 / mov r1, 5 / call 13 / exit
-=> 0 f ok 3
-";
-
-/// What is known of a number: by the ranges of a load, a comparison and an operation, and by its bits.
-const RANGES: &str = "\
-verify text / .method f r 8 16 / ldxdw r4, [r1+0] / mov r0, 0 / jgt32 r4, 15, +2 / add r3, r4 / stb [r3+0], 1 / exit
-=> 1 refused method 0 slot 4: 10 Bounds
-verify text / .method f r 8 16 / ldxw r4, [r1+0] / mov r0, 0 / jgt32 r4, 15, +2 / add r3, r4 / stb [r3+0], 1 / exit
-=> 0 f ok 6
-verify text / .method f r 8 255 / ldxdw r4, [r1+0] / ldxb r5, [r1+0] / or r5, 1 / mod r4, r5 / add r3, r4 / \
-    stb [r3+0], 1 / mov r0, 0 / exit
-=> 0 f ok 8
-verify text / .method f r 8 254 / ldxdw r4, [r1+0] / ldxb r5, [r1+0] / or r5, 1 / mod r4, r5 / add r3, r4 / \
-    stb [r3+0], 1 / mov r0, 0 / exit
-=> 1 refused method 0 slot 5: 10 Bounds
-verify text / .method f r 8 255 / ldxdw r4, [r1+0] / ldxb r5, [r1+0] / mod r4, r5 / add r3, r4 / \
-    stb [r3+0], 1 / mov r0, 0 / exit
-=> 1 refused method 0 slot 4: 10 Bounds
-verify text / .method f r 8 14 / ldxdw r4, [r1+0] / and r4, 12 / or r4, 1 / add r3, r4 / stb [r3+0], 1 / \
-    mov r0, 0 / exit
-=> 0 f ok 7
-verify text / .method f r 8 13 / ldxdw r4, [r1+0] / and r4, 12 / or r4, 1 / add r3, r4 / stb [r3+0], 1 / \
-    mov r0, 0 / exit
-=> 1 refused method 0 slot 4: 10 Bounds
-verify text / .method f r 8 16 / ldxdw r4, [r1+0] / mov r0, 0 / jset r4, -16, +2 / add r3, r4 / stb [r3+0], 1 / exit
-=> 0 f ok 6
-verify text / .method f r 8 15 / ldxdw r4, [r1+0] / mov r0, 0 / jset r4, -16, +2 / add r3, r4 / stb [r3+0], 1 / exit
-=> 1 refused method 0 slot 4: 10 Bounds
-";
-
-/// Pointers and numbers in the stack, by rule set 2, and some of them by rule set 1.
-const SPILLS: &str = "\
-verify text / .rules 2 / .method f r 0 1 / stxdw [r10-8], r3 / mov r0, 0 / ldxdw r4, [r10-8] / stb [r4+0], 1 / exit
-=> 0 f ok 5
-run text f / .rules 2 / .method f r 0 1 / stxdw [r10-8], r3 / mov r0, 0 / ldxdw r4, [r10-8] / stb [r4+0], 1 / exit
-=> 0 code 0 / output - / steps 5 / object absent
-verify text / .method f r 0 1 / stxdw [r10-8], r3 / mov r0, 0 / ldxdw r4, [r10-8] / stb [r4+0], 1 / exit
-=> 1 refused method 0 slot 0: 9 PointerStored
-verify text / .rules 2 / .method f r 0 1 / stxdw [r10-8], r3 / stb [r10-8], 0 / ldxdw r0, [r10-8] / exit
-=> 1 refused method 0 slot 2: 5 UnsetRead
-verify text / .rules 2 / .method f r 0 1 / stxdw [r10-8], r3 / ldxw r0, [r10-8] / exit
-=> 1 refused method 0 slot 1: 17 PointerBytes
 verify text / .rules 2 / .method f r 16 1 / and r2, 15 / stxdw [r10-16], r2 / ldxdw r4, [r10-16] / \
     add r1, r4 / ldxb r0, [r1+0] / exit
 => 0 f ok 6
 verify text / .method f r 16 1 / and r2, 15 / stxdw [r10-16], r2 / ldxdw r4, [r10-16] / add r1, r4 / \
     ldxb r0, [r1+0] / exit
 => 1 refused method 0 slot 4: 10 Bounds
-verify text / .rules 2 / .method f r 0 1 / stxdw [r10-12], r3 / mov r0, 0 / exit
-=> 1 refused method 0 slot 0: 9 PointerStored
-verify text / .rules 2 / .method f w 0 1 / stxdw [r10-8], r3 / mov r1, 0 / mov r2, r10 / add r2, -8 / \
-    mov r3, 8 / call 3 / exit
-=> 1 refused method 0 slot 5: 17 PointerBytes
+asm text out / .method f r 0 0 / foo r1 / exit
+=> 1 line 2: 1 Word
 ";
 
-/// Calls: of operations by the standard of the instructions, of a write that fails, of the first lock
-/// of an object.
+/// Calls: of an operation, of a write that fails, of the first lock of an object. Other operations
+/// are rows of `tests_machine`.
 const CALLS: &str = "\
 run text f / .method f r 0 0 / mov r0, -13 / smod r0, 3 / exit
-=> 0 code -1 / output - / steps 3 / object absent
-run text f / .method f r 0 0 / lddw r0, 0x8000000000000000 / sdiv r0, -1 / exit
-=> 0 code -9223372036854775808 / output - / steps 3 / object absent
-run text f / .method f r 0 0 / lddw r0, 0xffffffffffffffff / mov r1, 0 / mod32 r0, r1 / exit
-=> 0 code 4294967295 / output - / steps 4 / object absent
-run text f / .method f r 0 0 / mov r0, 10 / div r0, 0 / exit
-=> 0 code 0 / output - / steps 3 / object absent
-run text f / .method f r 0 0 / lddw r0, 0x000000009abcdef0 / be32 r0 / exit
-=> 0 code 4041129114 / output - / steps 3 / object absent
-run text f / .method f r 0 0 / mov32 r0, -13 / sdiv32 r0, 3 / exit
-=> 0 code 4294967292 / output - / steps 3 / object absent
-run text f / .method f r 0 0 / lddw r0, 0x0000000080000000 / arsh32 r0, 33 / exit
-=> 0 code 3221225472 / output - / steps 3 / object absent
-run text f / .method f r 0 0 / mov r1, 128 / movsx8_32 r0, r1 / exit
-=> 0 code 4294967168 / output - / steps 3 / object absent
-run text f / .method f r 0 0 / mov r1, 128 / movsx8 r0, r1 / exit
-=> 0 code -128 / output - / steps 3 / object absent
-run text f / .method f r 0 0 / mov r0, -1 / jgt32 r0, 0, +1 / mov r0, 7 / exit
 => 0 code -1 / output - / steps 3 / object absent
 run text f --input 616263 / .method f w 3 0 / mov r2, r1 / mov r1, 0 / mov r3, 3 / call 3 / mov r0, -5 / exit
 => 0 code -5 / output - / steps 6 / object absent
@@ -150,24 +35,6 @@ run text lock / .method lock rw 0 0 / call 15 / mov r6, r0 / stw [r10-4], 0x6b63
     stxdw [r10-16], r6 / mov r1, r10 / add r1, -4 / mov r2, 4 / mov r3, r10 / add r3, -16 / mov r4, 8 / \
     call 7 / exit / held: / ldxdw r1, [r10-16] / mov r0, 0 / jeq r1, r6, done / mov r0, -16 / done: / exit
 => 0 code 0 / output - / steps 20 / object 0 1 0
-";
-
-/// Lines that are no instructions, and a rule set that isn't 2 or stands elsewhere.
-const LINES: &str = "\
-asm text out / .method f r 0 0 / foo r1 / exit
-=> 1 line 2: 1 Word
-asm text out / .method f r 0 0 / mov r0 / exit
-=> 1 line 2: 2 Operand
-asm text out / .method f r 0 0 / mov r11, 0 / exit
-=> 1 line 2: 3 Range
-asm text out / .method f r 0 0 / jeq r0, 0, nowhere / exit
-=> 1 line 2: 4 Label
-asm text out / .rules 1 / .method f r 0 0 / exit
-=> 1 line 1: 2 Operand
-asm text out / .method f r 0 0 / .rules 2 / exit
-=> 1 line 2: 1 Word
-asm text out / .rules 2 / .rules 2 / .method f r 0 0 / exit
-=> 1 line 2: 1 Word
 ";
 
 /// A folder that tells no reason, to which nothing is added.
@@ -233,20 +100,12 @@ fn are_right<R: Abort + AllocGlobal + Threads + Wait + Clock + Sync>(
 
 #[test]
 fn classes_are_judged(rt: HostRuntime) {
-    are_right(&rt, VERDICTS, 15);
-    are_right(&rt, RULES, 12);
-    are_right(&rt, RANGES, 9);
-    are_right(&rt, SPILLS, 9);
+    are_right(&rt, VERDICTS, 5);
 }
 
 #[test]
 fn methods_are_called(rt: HostRuntime) {
-    are_right(&rt, CALLS, 12);
-}
-
-#[test]
-fn lines_are_refused(rt: HostRuntime) {
-    are_right(&rt, LINES, 7);
+    are_right(&rt, CALLS, 3);
 }
 
 #[test]
