@@ -2,8 +2,7 @@
 
 use crate::ending::Ending;
 use crate::made::class_of;
-use crate::same::same;
-use crate::store::object_of;
+use crate::store::{object_of, same};
 use interp::{CallError, ClassTable, Outcome, Room, TableError, call};
 use object_store::Object;
 use std::alloc::Global;
@@ -12,53 +11,18 @@ use verifier::VerifiedClass;
 /// Calls each helper that takes memory, on the input `abcdefgh`: writes it at 4,092, cuts the data
 /// at 4,100, sets the xattrs `a` and `abcd`, sets the keys `ab` and `abc`, takes `a` and `ab` away,
 /// and reads from 4,094 what is there.
-const EVERY: &str = ".method every rw 8 8
-mov r6, r1
-mov r7, r3
-mov r1, 0
-call 14
-mov r1, 4092
-mov r2, r6
-mov r3, 8
-call 3
-mov r1, 4100
-call 4
-mov r1, r6
-mov r2, 1
-mov r3, r6
-mov r4, 8
-call 7
-mov r1, r6
-mov r2, 4
-mov r3, r6
-mov r4, 1
-call 7
-mov r1, r6
-mov r2, 2
-mov r3, r6
-mov r4, 8
-call 10
-mov r1, r6
-mov r2, 3
-mov r3, r6
-mov r4, 4
-call 10
-mov r1, r6
-mov r2, 1
-call 8
-mov r1, r6
-mov r2, 2
-call 11
-mov r1, 4094
-mov r2, r7
-mov r3, 8
-call 2
-mov r8, r0
-mov r1, 8
-call 13
-mov r0, r8
-exit
-";
+const EVERY: &str = ".method every rw 8 8\nmov r6, r1\nmov r7, r3\nmov r1, 0\ncall 14\n\
+    mov r1, 4092\nmov r2, r6\nmov r3, 8\ncall 3\n\
+    mov r1, 4100\ncall 4\n\
+    mov r1, r6\nmov r2, 1\nmov r3, r6\nmov r4, 8\ncall 7\n\
+    mov r1, r6\nmov r2, 4\nmov r3, r6\nmov r4, 1\ncall 7\n\
+    mov r1, r6\nmov r2, 2\nmov r3, r6\nmov r4, 8\ncall 10\n\
+    mov r1, r6\nmov r2, 3\nmov r3, r6\nmov r4, 4\ncall 10\n\
+    mov r1, r6\nmov r2, 1\ncall 8\n\
+    mov r1, r6\nmov r2, 2\ncall 11\n\
+    mov r1, 4094\nmov r2, r7\nmov r3, 8\ncall 2\n\
+    mov r8, r0\nmov r1, 8\ncall 13\n\
+    mov r0, r8\nexit\n";
 
 /// True if the object after holds what the method makes of that of 4,200 bytes.
 fn is_made(after: &Object) -> bool {

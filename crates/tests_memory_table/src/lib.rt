@@ -15,7 +15,6 @@ mod logs;
 mod made;
 mod nodes;
 mod objects;
-mod same;
 mod staged;
 mod store;
 mod table;

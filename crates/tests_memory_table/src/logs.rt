@@ -3,7 +3,7 @@ ghost use mathlib.Core.List.{IsPrefix};
 
 use crate::ending::Ending;
 use crate::made::{Asked, list_of, names_of, request_of, table_of};
-use crate::same::same;
+use crate::store::same;
 use object_store::ObjectName;
 use pg_log::{ClassTable, Classes, Group, GroupWork, LogError, Request, with_group};
 use placement::Epoch;
@@ -21,29 +21,12 @@ pub enum Verb {
 
 /// Puts its input after the object's data and answers their length; sets the xattr and the key of
 /// its input's first byte.
-const KEEP: &str = ".method keep rw 4 0
-mov r6, r1
-call 1
-jsge r0, 0, there
-mov r0, 0
-there:
-mov r1, r0
-mov r2, r6
-mov r3, 4
-call 3
-mov r1, r6
-mov r2, 1
-mov r3, r6
-mov r4, 4
-call 7
-mov r1, r6
-mov r2, 1
-mov r3, r6
-mov r4, 4
-call 10
-call 1
-exit
-";
+const KEEP: &str = ".method keep rw 4 0\nmov r6, r1\ncall 1\n\
+    jsge r0, 0, there\nmov r0, 0\n\
+    there:\nmov r1, r0\nmov r2, r6\nmov r3, 4\ncall 3\n\
+    mov r1, r6\nmov r2, 1\nmov r3, r6\nmov r4, 4\ncall 7\n\
+    mov r1, r6\nmov r2, 1\nmov r3, r6\nmov r4, 4\ncall 10\n\
+    call 1\nexit\n";
 
 /// The log before: as many entries as its first room has.
 const LOGGED: [Asked; 4] = [

@@ -2,8 +2,7 @@
 
 use crate::ending::Ending;
 use crate::made::names_of;
-use crate::same::same;
-use crate::store::{NAMES, object_of, objects_of};
+use crate::store::{NAMES, object_of, objects_of, same};
 use object_store::{Data, DataError, Edit, Object, ObjectName, Objects, StoreError, edit_all};
 use std::alloc::{AllocError, Global};
 

@@ -3,8 +3,7 @@
 
 use crate::ending::Ending;
 use crate::made::names_of;
-use crate::same::same;
-use crate::store::{NAMES, object_of, objects_of};
+use crate::store::{NAMES, object_of, objects_of, same};
 use object_store::{Object, ObjectName, Objects, StoreError};
 use std::alloc::Global;
 use txn::{Change, NoMemory, Staged, apply, undo};

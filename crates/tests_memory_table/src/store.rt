@@ -1,4 +1,4 @@
-//! The objects of the rows.
+//! The objects of the rows, and which are equal.
 
 use object_store::{Object, ObjectName, Objects, StoreError};
 use std::alloc::Global;
@@ -46,4 +46,13 @@ fn put_all(
         }
     }
     Ok(())
+}
+
+/// True if both are absent, or equal. It takes no memory.
+pub fn same(one: Option<&Object>, other: Option<&Object>) -> bool {
+    match (one, other) {
+        (None, None) => true,
+        (Some(one), Some(other)) => one.is_same(other),
+        _ => false,
+    }
 }
