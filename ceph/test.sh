@@ -220,6 +220,7 @@ try_wrong() {
 try_install() {
     local name sum there=$work/there line
     install_of() { want "$1" "$(said radosbpf "${@:3}")" "$2"; }
+    upgrade() { echo "$2" > "$work/upgraded" && mv -f "$work/upgraded" "$1"; }
     sum=$(sha256sum < "$here/classes/counter.img" | cut -c 1-64)
     cp "$work/images/lock.img" "$work/images/lock.2.img"
     head -c 40 "$here/classes/lock.img" > "$work/cut.img"
@@ -246,6 +247,17 @@ and not bpf" install "$(cp "$here/classes/lock.img" "$work/bpf.img" && echo "$wo
     install_of "uninstalled" "0 $there/libcls_lock.so is there again, uninstalled lock from $there" \
         uninstall lock --dir "$there"
     want "Ceph's own again" "$(readlink "$there/libcls_lock.so")" "$folder/libcls_lock.so"
+    # An upgrade of Ceph puts its own class back over ours: once we install again, once not.
+    radosbpf install "$here/classes/lock.img" --dir "$there" --replace > "$work/log"
+    upgrade "$there/libcls_lock.so" newer
+    line=$(radosbpf install "$here/classes/lock.img" --dir "$there" --replace | head -n 1)
+    want "replaced again" "$line" "replaced $there/libcls_lock.so, a class of another's"
+    want "the newer one is kept" "$(cat "$there/libcls_lock.so.replaced")" newer
+    upgrade "$there/libcls_lock.so" newest
+    install_of "uninstalled behind an upgrade" "0 $there/libcls_lock.so is another's already, uninstalled lock from $there" \
+        uninstall lock --dir "$there"
+    want "the newest one stays" "$(cat "$there/libcls_lock.so")" newest
+    want "its files" "$(ls -A "$there")" "$(printf '%s\n' libcls_lock.so sillarnica_engine.so)"
     # What no OSD can open as a class, and has to survive.
     for name in cut none bpf.old; do cp "$folder/libcls_bpf.so" "$folder/libcls_$name.so"; done
     cp "$work/cut.img" "$folder"

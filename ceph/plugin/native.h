@@ -1,5 +1,5 @@
-// An installed class: its image lies beside the stub that the OSD opened. It is verified once, and
-// called by handles.
+// An installed class: its image lies beside the stub that the OSD opened. It is called by handles,
+// each of which verified it.
 #pragma once
 
 #include "classes.h"
