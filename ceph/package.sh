@@ -11,7 +11,8 @@
 # plug-in is for, and keep no OSD from being upgraded: in an OSD of a release that it isn't for, each
 # call is answered -95.
 #
-# Of the environment: CLASS_VERSION, the version of a class's package (1).
+# Of the environment: CLASS_VERSION, the version of a class's package (1); DEBFULLNAME and DEBEMAIL,
+# the packages' maintainer.
 set -eu
 here=$(cd "$(dirname "$0")" && pwd)
 usage() {
@@ -39,7 +40,7 @@ pack() {
 Package: $1
 Version: $2
 Architecture: $architecture
-Maintainer: Sillarnica <sillarnica@localhost>
+Maintainer: ${DEBFULLNAME:-Sillarnica} <${DEBEMAIL:-sillarnica@localhost}>
 Depends: $3
 Installed-Size: $(du -sk "$tree" | cut -f 1)
 Section: admin

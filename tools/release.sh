@@ -12,7 +12,8 @@
 #     packages/                                   radoscls, libsillarnicaN, libsillarnica-dev and python3-sillarnica
 #     BUILT, SHA256SUMS                           what the gate said, commit and kit; sums of all other files
 #
-# It needs cc, ar, dpkg-deb and the kit, and proves nothing. tools/release_test.sh installs it.
+# It needs cc, ar, dpkg-deb and the kit, and proves nothing. Of the environment DEBFULLNAME and DEBEMAIL are the packages'
+# maintainer. tools/release_test.sh installs it.
 set -euo pipefail
 top=$(cd "$(dirname "$0")/.." && pwd)
 [ $# -ge 1 ] || { sed -n 's/^#  *\(tools\/release.sh F\)/\1/p' "$0" >&2; exit 2; }
@@ -79,7 +80,7 @@ package() {
 Package: $name
 Version: $debian
 Architecture: $([ "$name" = python3-sillarnica ] && echo all || echo "$architecture")
-Maintainer: Sillarnica <sillarnica@localhost>
+Maintainer: ${DEBFULLNAME:-Sillarnica} <${DEBEMAIL:-sillarnica@localhost}>
 Installed-Size: $(du -sk "$tree" | cut -f 1)
 Depends: $depends
 Section: $([ "${name#lib}" = "$name" ] && echo utils || echo libs)

@@ -57,6 +57,7 @@ compile() {
     wait
     if [ -z "$program" ]; then
         cat "$work/told" >&2
+        echo "no program came of \`rt try\`: what is wrong stands above, or it was stopped, or lacked memory" >&2
         exit 2
     fi
     rm -rf "$work"
