@@ -13,8 +13,9 @@
 # - a command does what it does with all its memory: the same lines on both streams, the same status
 #   and the same file OUT (figures of `--stats` may differ). Or it prints the first of these lines,
 #   and then one that names want of memory, ends with 1, says nothing on standard error and leaves
-#   OUT as it was; a call of `cluster` that is refused so ends with 0. Or, of a refusal that is
-#   explained, the last of these lines are missing.
+#   OUT as it was; a call of `cluster` that is refused so ends with 0. Where OUT is being written
+#   that line is `cannot write`, and the new file that was to take its place is gone too. Or, of a
+#   refusal that is explained, the last of these lines are missing.
 #
 # A row or a command that met no refusal doesn't pass. Each of the first 700 growths is refused,
 # then every seventh: so all takes less than three minutes of one processor. A run has five minutes,
@@ -86,11 +87,16 @@ is_err() { [[ $err == "$whole_err" || (-n $has_figures && ${err//[0-9]/} == "${w
 # Whether the run did what is done with all memory.
 is_whole() { [[ $status == "$wanted_status" && $out == "$whole" ]] && is_err && is_out after; }
 
-# Whether a line names want of memory, and the status is the one that it has.
+# Whether a line names want of memory, and the status is the one that it has; where OUT is being
+# written it says that it can't be, and no other file is left.
 names_memory() {
     local form
     case $status in
         1)
+            if [ "$1" = "cannot write" ]; then
+                [ -e "$work/before" ] && ! compgen -G "$work/.radoscls-*" > /dev/null
+                return
+            fi
             form='^(no memory|(image refused after [0-9]+ methods: 12|refused method 0 slot 0: 16'
             form+='|line 0: 5|line [0-9]+: refused [24]|object refused: 7|call refused: 3) NoMemory)$'
             ;;

@@ -5,9 +5,8 @@
 #
 # Without a word it is the gate: `rt ci` proves every crate and its tests from nothing, tries the wrong edits of must-fail/ and
 # makes every test and stored run; then come the other wrong edits, the program as a process, its manual page, the commands
-# that the pages show, histories of random clusters, classes in C, memory refused to each call, hosts over the library, what is
-# installed, and the plug-in in a real Ceph (as root, with Debian's packages). At the end it tells the minutes that each part
-# took. One that fails ends it.
+# that the pages show, histories of random clusters, classes in C, hosts over the library, what is installed, and the plug-in in
+# a real Ceph (as root, with Debian's packages). At the end it tells the minutes that each part took. One that fails ends it.
 #
 # --quick proves nothing: it passes, by a program that is compiled without a proof, what needs none. Hosts over the library are
 # left out where no gate has built the library yet.
@@ -72,7 +71,6 @@ of_the_program() {
     local program=crates/radoscls/out/radoscls
     part process tools/process.py && part manual tools/manual.py --check && part pages tools/pages.sh &&
         part judge tools/judge.py --seed 1 --seconds 40 --runs 30 && part c tools/cc_tests.py "$program" &&
-        part memory tools/refuse.sh "$PWD/crates/tests_memory_rows/out/tests_memory_rows" - &&
         part classes examples/ceph/check.py "$program" 100
 }
 
