@@ -66,8 +66,7 @@ static void fill(struct found *f, uint8_t *out, size_t room) {
 
 static int is_filled(const void *at, uint8_t with, size_t n) {
 	const uint8_t *p = (const uint8_t *)at;
-	while (n && p[n - 1] == with) n--;
-	return n == 0;
+	return !n || (p[0] == with && !memcmp(p, p + 1, n - 1));
 }
 
 /* Whether the call wrote what its answer lets it write, and no more. */

@@ -12,8 +12,8 @@
 #   make of the object before the program's object after;
 # - each is made by a handle too, with too little room, on the parts that its method needs alone, and with memory refused at each
 #   growth; eight threads make all of them at once, each with a handle of its own;
-# - the same under the address and undefined-behavior sanitizers.
-set -u
+# - the same under the address and undefined-behavior sanitizers, refused memory too.
+set -uo pipefail
 top=$(cd "$(dirname "$0")/.." && pwd)
 calls=${1:-10000}
 radoscls=$(realpath "${3:-$top/crates/radoscls/out/radoscls}")
@@ -33,8 +33,8 @@ step() {
 plays() {
     local name=$1
     shift
-    "$@" "$here/parts.img" a write 0000000068656c6c6f a putx 016176 a write 05000000 a stat - b stat - a rmx 61 a none - a remove - > "$work/lines"
-    diff "$work/lines" - <<'LINES'
+    "$@" "$here/parts.img" a write 0000000068656c6c6f a putx 016176 a write 05000000 a stat - b stat - a rmx 61 a none - a remove - > "$work/lines" &&
+        diff "$work/lines" - <<'LINES'
 code 5 output - steps 9 object 5 0 0
 code 0 output - steps 14 object 5 1 0
 code 0 output - steps 9 object 5 1 0
@@ -45,8 +45,8 @@ refused -95
 code 0 output - steps 2 object absent
 LINES
     step "$name" $?
-    "$@" "$work/lock.img" a lock@1 - a lock@2 - a lock@1 - a unlock@2 - a unlock@1 - a unlock@1 - a lock@2 - a lock@1 - b unlock@2 - > "$work/lines"
-    diff "$work/lines" - <<'LINES'
+    "$@" "$work/lock.img" a lock@1 - a lock@2 - a lock@1 - a unlock@2 - a unlock@1 - a unlock@1 - a lock@2 - a lock@1 - b unlock@2 - > "$work/lines" &&
+        diff "$work/lines" - <<'LINES'
 code 0 output - steps 20 object 0 1 0
 code -16 output - steps 16 object 0 1 0
 code 0 output - steps 15 object 0 1 0
@@ -59,7 +59,7 @@ code -2 output - steps 12 object absent
 LINES
     step "$name: a lock of two callers" $?
     "$@" <(printf RCL1) > "$work/lines"
-    [ "$(cat "$work/lines")" = "image refused after 0 methods: 1 Truncated" ]
+    [ $? = 1 ] && [ "$(cat "$work/lines")" = "image refused after 0 methods: 1 Truncated" ]
     step "$name refuses" $?
 }
 
@@ -80,7 +80,7 @@ cc -std=gnu11 -O2 "${flags[@]}" "${wrap[@]}" "$top/tools/embed.c" "$archive" -o 
 step "calls, and eight threads" $?
 c++ -x c++ -O2 "${flags[@]}" -pthread "$top/tools/embed.c" -x none "$archive" -o "$work/embed" && "$work/embed" "$work/calls" 1 | cmp - "$work/printed"
 step "calls by c++" $?
-cc -std=gnu11 "${flags[@]}" "${clean[@]}" -pthread "$top/tools/embed.c" "$archive" -o "$work/embed" && "$work/embed" "$work/calls" 8 | cmp - "$work/printed"
+cc -std=gnu11 "${flags[@]}" "${wrap[@]}" "${clean[@]}" "$top/tools/embed.c" "$archive" -o "$work/embed" && "$work/embed" "$work/calls" 8 | cmp - "$work/printed"
 step "calls under sanitizers" $?
 python3 "$top/tools/embed.py" python "$work/calls" "$work/printed" "$work/libsillarnica.so"
 step "calls in Python" $?
