@@ -12,6 +12,8 @@
 #   make of the object before the program's object after;
 # - each is made by a handle too, with too little room, on the parts that its method needs alone, and with memory refused at each
 #   growth; eight threads make all of them at once, each with a handle of its own;
+# - the largest image and the largest object, answers of over 2 MB, and handles that a host wrote over (tools/embed_large.c), which
+#   a library with a mistake, each of five, doesn't pass (tools/embed_wrong.c);
 # - the same under the address and undefined-behavior sanitizers, refused memory too.
 set -uo pipefail
 top=$(cd "$(dirname "$0")/.." && pwd)
@@ -82,6 +84,17 @@ c++ -x c++ -O2 "${flags[@]}" -pthread "$top/tools/embed.c" -x none "$archive" -o
 step "calls by c++" $?
 cc -std=gnu11 "${flags[@]}" "${wrap[@]}" "${clean[@]}" "$top/tools/embed.c" "$archive" -o "$work/embed" && "$work/embed" "$work/calls" 8 | cmp - "$work/printed"
 step "calls under sanitizers" $?
+large=(-Wl,--wrap=malloc -Wl,--wrap=realloc -Wl,--wrap=free "$top/tools/embed_large.c")
+cc -std=gnu11 -O2 "${flags[@]}" "${large[@]}" "$archive" -o "$work/large" && "$work/large"
+step "large things, and handles" $?
+cc -std=gnu11 "${flags[@]}" "${clean[@]}" "${large[@]}" "$archive" -o "$work/large" && "$work/large"
+step "large things, and handles, under sanitizers" $?
+for call in verify call verified_open verified_call verified_close; do large+=("-Wl,--wrap=sillarnica_$call"); done
+for wrong in FORMS EDITS IMAGES OPENS CLOSED; do
+    cc -std=gnu11 -O2 "${flags[@]}" -DWRONG=$wrong "${large[@]}" "$top/tools/embed_wrong.c" "$archive" -o "$work/large" &&
+        { "$work/large" 2> "$work/lines"; [ $? = 1 ] && grep -q '^large: ' "$work/lines"; }
+    step "large things fail of the mistake $wrong" $?
+done
 python3 "$top/tools/embed.py" python "$work/calls" "$work/printed" "$work/libsillarnica.so"
 step "calls in Python" $?
 python3 "$top/tools/embed.py" judge "$work/calls" "$work/printed" "$radoscls"
