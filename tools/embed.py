@@ -1,6 +1,7 @@
 """Random calls for tools/embed.sh, and their answers beside those of `radoscls run`.
 
     embed.py make N SEED FILE IMAGE ..       writes N calls for tools/embed.c, some of them of hostile images and flat forms
+    embed.py seeds N SEED FOLDER IMAGE ..    writes N such calls and one of each image's methods, each as a file for tools/fuzz.c
     embed.py judge FILE PRINTED RADOSCLS     compares what tools/embed.c printed of them with the program's lines
     embed.py python FILE PRINTED LIBRARY     compares it with what examples/embed/host.py gets of a shared object"""
 import os, random, struct, subprocess, sys, tempfile
@@ -63,17 +64,42 @@ def calls_of(path):
     return calls
 
 
+def random_calls(count, r, images):
+    for n in range(int(count)):
+        image, method = (images[0], r.choice(METHODS[:15])) if n % 8 else (r.choice(images), r.choice(METHODS))
+        fields = [image, method.encode(), host.flatten(random_object(r)), struct.pack("<I", r.randrange(1, 5)), random_input(r, method)]
+        if n % 10 == 9:
+            which = r.choice((0, 2))
+            fields[which] = spoiled(r, fields[which])
+        yield written(fields)
+
+
+def written(fields):
+    return b"".join(struct.pack("<I", len(field)) + field for field in fields)
+
+
 def make(count, seed, path, *images):
+    with open(path, "wb") as file:
+        file.writelines(random_calls(count, random.Random(int(seed)), [open(image, "rb").read() for image in images]))
+
+
+def methods_of(image):
+    """The names in an image (docs/IMAGE.md)."""
+    at = 8
+    for _ in range(image[4]):
+        end = at + 1 + image[at]
+        yield image[at + 1:end]
+        at = end + 7 + 8 * struct.unpack_from("<H", image, end + 5)[0]
+
+
+def seeds(count, seed, folder, *images):
     r = random.Random(int(seed))
     images = [open(image, "rb").read() for image in images]
-    with open(path, "wb") as file:
-        for n in range(int(count)):
-            image, method = (images[0], r.choice(METHODS[:15])) if n % 8 else (r.choice(images), r.choice(METHODS))
-            fields = [image, method.encode(), host.flatten(random_object(r)), struct.pack("<I", r.randrange(1, 5)), random_input(r, method)]
-            if n % 10 == 9:
-                which = r.choice((0, 2))
-                fields[which] = spoiled(r, fields[which])
-            file.write(b"".join(struct.pack("<I", len(field)) + field for field in fields))
+    calls = list(random_calls(count, r, images))
+    calls += [written([image, name, host.flatten(random_object(r)), bytes(4), b"\1a"]) for image in images for name in methods_of(image)]
+    for n, call in enumerate(calls):
+        with open(os.path.join(folder, f"{n:04}"), "wb") as file:
+            file.write(call)
 
 
 def unflattened(form):
@@ -180,4 +206,4 @@ def python(path, printed, library):
 
 
 if __name__ == "__main__":
-    sys.exit({"make": make, "judge": judge, "python": python}[sys.argv[1]](*sys.argv[2:]))
+    sys.exit({"make": make, "seeds": seeds, "judge": judge, "python": python}[sys.argv[1]](*sys.argv[2:]))

@@ -16,7 +16,7 @@ NAMES = (r"(radoscls|rt|clang|llvm-[a-z]*|sh|cc|python3|bash|cat|cd|rm|find|for|
 # What other parts of the gate run: tests of the program (forms, with words in capitals),
 # tools/embed.sh, tools/release_test.sh, `rt ci`.
 ELSEWHERE = re.compile(r"radoscls (verify|run|asm|pack|dis|sim|cluster) .*[A-Z].*|tools/try\.sh"
-                       r"|tools/(test|edits|changed|library|embed|refuse|pages|release|release_test)\b.*|cc -I lib host.*|cc host.c .*"
+                       r"|tools/(test|edits|changed|library|embed|fuzz|refuse|pages|release|release_test)\b.*|cc -I lib host.*|cc host.c .*"
                        r"|radoscls verify --all|cd crates/radoscls && rt run .*|rt run|rt try --test|\./out/bench --dry")
 
 

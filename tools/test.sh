@@ -5,8 +5,9 @@
 #
 # Without a word it is the gate: `rt ci` proves every crate and its tests from nothing, tries the wrong edits of must-fail/ and
 # makes every test and stored run; then come the other wrong edits, the program as a process, its manual page, the commands
-# that the pages show, histories of random clusters, classes in C, hosts over the library, what is installed, and the plug-in in
-# a real Ceph (as root, with Debian's packages). At the end it tells the minutes that each part took. One that fails ends it.
+# that the pages show, histories of random clusters, classes in C, hosts over the library, a minute of libFuzzer, what is
+# installed, and the plug-in in a real Ceph (as root, with Debian's packages). At the end it tells the minutes that each part took.
+# One that fails ends it.
 #
 # --quick proves nothing: it passes, by a program that is compiled without a proof, what needs none. Hosts over the library are
 # left out where no gate has built the library yet.
@@ -75,7 +76,8 @@ of_the_program() {
 }
 
 of_the_library() {
-    part archive tools/archive.py && part embed tools/embed.sh && part release tools/release_test.sh && part ceph ceph/test.sh
+    part archive tools/archive.py && part embed tools/embed.sh && part fuzz tools/fuzz.sh && part release tools/release_test.sh &&
+        part ceph ceph/test.sh
 }
 
 if [ "${1-}" = --quick ]; then

@@ -1,0 +1,337 @@
+/* Makes calls of the library of whatever bytes libFuzzer hands in, and compares each answer with what the header and the pages
+ * say (fuzz_model.c). tools/fuzz.sh compiles and runs it; fuzz.h has an input's fields. Of the last field, 7 bytes, three are the
+ * room for an answer, one that for a line, two say which growth of memory is refused, one how a run's memory is laid out.
+ *
+ * Whatever is handed in lies at the end of its memory, so that a byte read or written behind it ends the process, and so does a
+ * byte behind memory that the library took. A difference ends it too: libFuzzer keeps the input then. */
+#include "fuzz.h"
+#include "sillarnica.h"
+#include <malloc.h>
+#include <stdio.h>
+#include <stdlib.h>
+#include <string.h>
+#include <sys/mman.h>
+
+enum { PLACE = 1 << 24, BEFORE = 64, BEHIND = 16 };
+struct call { struct slice image, method, object, input; uint32_t caller; };
+struct found { int32_t result; struct sillarnica_refusal why; struct sillarnica_answer said; size_t room; };
+enum { FORM = FIELDS, OUT, TEXT, KEPT, PLACES };
+
+static uint8_t *ends[PLACES]; /* of memory; behind each is none */
+static struct class_of class;
+static struct object before, after, edited;
+static struct outcome outcome;
+
+/* What was refused, and of which instruction, is what libFuzzer is to find more of. */
+__attribute__((section("__libfuzzer_extra_counters"))) static uint8_t refusals[32 * 256];
+
+static void want(int is, const char *what) {
+	if (is) return;
+	fprintf(stderr, "DIFFERS: %s\n", what);
+	abort();
+}
+
+/* ---- the library's memory */
+
+static int is_inside;         /* a call of the library */
+static long growths = -1;     /* how many are still granted; below 0 all are */
+static long granted;          /* how many were */
+static long held_memory;      /* how many pieces it has */
+static uint8_t fresh = 0xa7;  /* what memory holds that nothing was written to */
+
+void *__real_malloc(size_t);
+void *__real_realloc(void *, size_t);
+void __real_free(void *);
+void *__wrap_malloc(size_t);
+void *__wrap_realloc(void *, size_t);
+void __wrap_free(void *);
+
+void *__wrap_malloc(size_t n) {
+	if (!is_inside) return __real_malloc(n);
+	if (growths == 0) return NULL;
+	growths -= growths > 0;
+	uint8_t *p = (uint8_t *)__real_malloc(n + BEHIND);
+	if (!p) return NULL;
+	held_memory++, granted++;
+	memset(p, fresh, n), memset(p + n, 0xc9, BEHIND);
+	return p;
+}
+
+/* How many bytes the library asked for there. */
+static size_t asked_for(const uint8_t *p) {
+	size_t n = malloc_usable_size((void *)p) - BEHIND;
+	for (int i = 0; i < BEHIND; i++) want(p[n + i] == 0xc9, "the library wrote behind its memory");
+	return n;
+}
+
+void __wrap_free(void *p) {
+	if (is_inside && p) asked_for((uint8_t *)p), held_memory--;
+	__real_free(p);
+}
+
+void *__wrap_realloc(void *old, size_t n) {
+	if (!is_inside) return __real_realloc(old, n);
+	void *p = __wrap_malloc(n);
+	if (!p || !old) return p;
+	size_t had = asked_for((uint8_t *)old);
+	memcpy(p, old, had < n ? had : n);
+	__wrap_free(old);
+	return p;
+}
+
+#define INSIDE(call) __extension__({ is_inside = 1; __typeof__(call) said_ = (call); is_inside = 0; said_; })
+
+/* ---- what is handed in */
+
+static struct slice placed(int where, struct slice from) {
+	struct slice to = { from.len ? ends[where] - from.len : NULL, from.len };
+	if (from.len) memmove(ends[where] - from.len, from.at, from.len);
+	return to;
+}
+
+static int is_filled(const void *at, uint8_t with, size_t n) {
+	const uint8_t *p = (const uint8_t *)at;
+	return !n || (p[0] == with && !memcmp(p, p + 1, n - 1));
+}
+
+/* Makes the call, by a handle if there is one, and looks at what it wrote. */
+static struct found ask(const struct call *c, struct sillarnica_verified *held, size_t room) {
+	struct found f;
+	uint8_t *out = ends[OUT] - room;
+	memset(&f, 0xa5, sizeof f);
+	memset(out - BEFORE, 0x5a, room + BEFORE);
+	f.room = room, fresh = (uint8_t)~fresh;
+	if (held)
+		f.result = INSIDE(sillarnica_verified_call(held, c->method.at, c->method.len, c->object.at, c->object.len, c->caller,
+			c->input.at, c->input.len, &f.said, out, room));
+	else
+		f.result = INSIDE(sillarnica_call(c->image.at, c->image.len, c->method.at, c->method.len, c->object.at, c->object.len, c->caller,
+			c->input.at, c->input.len, &f.why, &f.said, out, room));
+	size_t used = f.result == 0 ? f.said.output_len + f.said.edits_len : 0;
+	want(used <= room && is_filled(out + used, 0x5a, room - used), "the rest of the buffer changed");
+	want(is_filled(out - BEFORE, 0x5a, BEFORE), "what is before the buffer changed");
+	if (f.result != 1 && f.result != 2) want(is_filled(&f.why, 0xa5, sizeof f.why), "the refusal changed");
+	if (f.result != 0 && f.result != -34) want(is_filled(&f.said, 0xa5, sizeof f.said), "the answer changed");
+	return f;
+}
+
+/* Whether both answer the same, each by its room: `first` has its bytes in KEPT, `f` in OUT. */
+static int is_same(const struct found *first, const struct found *f) {
+	if (first->result != 0) return first->result == f->result && !memcmp(&first->why, &f->why, sizeof f->why);
+	size_t used = first->said.output_len + first->said.edits_len;
+	if (f->result != (used > f->room ? -34 : 0) || memcmp(&first->said, &f->said, sizeof f->said)) return 0;
+	return f->result || !memcmp(ends[KEPT] - used, ends[OUT] - f->room, used);
+}
+
+/* ---- what it should answer */
+
+static const char *const ERRORS[] = { "", "Truncated", "Magic", "Opcode", "Register", "NonzeroField", "WideHalf", "Name", "Order", "Flags",
+	"Limit", "Trailing" };
+static const char *const RULES[] = { "", "Backward", "Target", "FallsOff", "LocalCall", "UnsetRead", "WritesR10", "PointerArithmetic",
+	"PointerCompare", "PointerStored", "Bounds", "ReadOnlyRegion", "UnknownHelper", "HelperArgument", "WriteHelperInReader",
+	"ReturnsPointer", "NoMemory", "PointerBytes" };
+
+/* The verdict of an image: 0, 1 or 2, and why. Of rules 5 and above it is the library's own, as far as it is possible. */
+static int32_t verdict(const struct call *c, struct sillarnica_refusal *why) {
+	struct where refused = read_class(c->image, &class), plain = plain_rules(&class);
+	memset(why, 0xa5, sizeof *why);
+	int32_t result = INSIDE(sillarnica_verify(c->image.at, c->image.len, why));
+	if (refused.number) {
+		want(result == 1 && why->kind == 1 && why->number == refused.number && why->method == refused.method && why->slot == refused.slot,
+			"an image's refusal");
+		refusals[refused.number]++;
+		return 1;
+	}
+	if (result == 0) {
+		want(is_filled(why, 0xa5, sizeof *why) && !plain.number, "a class is accepted that a plain rule refuses");
+		return 0;
+	}
+	want(result == 2 && why->kind == 2 && why->number >= 1 && why->number <= 17 && why->number != 16, "a rule's number");
+	want(why->method < class.count && why->slot >= 0 && why->slot < class.methods[why->method].slots, "a rule's place");
+	int is_before = why->method < plain.method || (why->method == plain.method && why->slot < plain.slot);
+	int is_plain = why->number == plain.number && why->method == plain.method && why->slot == plain.slot;
+	want(why->number <= 4 ? is_plain : !plain.number || is_before, "it isn't the first refusal");
+	const uint8_t *slot = class.methods[why->method].code + 8 * why->slot;
+	want(slot[0] != 0, "a rule refuses half an instruction");
+	refusals[why->number << 8 | slot[0]]++;
+	return 2;
+}
+
+static void test_explain(const struct call *c, int32_t result, const struct sillarnica_refusal *why, size_t room) {
+	char line[256] = "";
+	int n = 0;
+	if (result == 1) {
+		n = snprintf(line, sizeof line, "image refused after %llu methods", (unsigned long long)why->method);
+		if (why->slot >= 0) n += snprintf(line + n, sizeof line - (size_t)n, ", slot %lld", (long long)why->slot);
+		n += snprintf(line + n, sizeof line - (size_t)n, ": %u %s", why->number, ERRORS[why->number]);
+	} else if (result == 2)
+		n = snprintf(line, sizeof line, "refused method %llu slot %lld: %u %s", (unsigned long long)why->method, (long long)why->slot,
+			why->number, RULES[why->number]);
+	uint8_t *text = ends[TEXT] - room;
+	size_t written = (size_t)n < room ? (size_t)n : room;
+	memset(text, 0x5a, room);
+	want(INSIDE(sillarnica_explain(c->image.at, c->image.len, text, room)) == n, "the length of the line");
+	want(!memcmp(text, line, written) && is_filled(text + written, 0x5a, room - written), "the line");
+}
+
+static void test_method(const struct call *c, int32_t result, const struct method *m) {
+	uint32_t said[3] = { 7, 7, 7 };
+	int32_t found = INSIDE(sillarnica_method(c->image.at, c->image.len, c->method.at, c->method.len, &said[0], &said[1], &said[2]));
+	want(found == (result == 1 ? 1 : m ? 0 : -95), "what is said of a method");
+	if (found) want(said[0] == 7 && said[1] == 7 && said[2] == 7, "a method that isn't there has numbers");
+	else want(said[0] == m->flags && said[1] == m->in_cap && said[2] == m->out_cap, "a method's numbers");
+	int32_t needs = INSIDE(sillarnica_needs(c->image.at, c->image.len, c->method.at, c->method.len));
+	want(needs == (result != 1 && m ? needs_of(m) : -95), "what a method needs");
+}
+
+/* What a call answers, before its room is looked at. An answer is in `outcome`, and the object in `after`. */
+static int32_t wanted(const struct call *c, int32_t result, const struct method *m, unsigned layout) {
+	if (result) return result;
+	if (!m) return -95;
+	if (c->input.len > m->in_cap) return -7;
+	if (!read_flat(c->object, &before)) return -22;
+	copy_object(&after, &before);
+	const char *stuck = run_method(m, &after, c->caller, c->input, layout, &outcome);
+	want(!stuck, stuck);
+	if (outcome.code < 0) copy_object(&after, &before);
+	return 0;
+}
+
+/* Whether output and edits are what they should be; `out` has both. */
+static void test_answer(const struct found *f, const struct method *m, const uint8_t *out) {
+	struct slice edits = { out + f->said.output_len, f->said.edits_len };
+	want(f->said.code == outcome.code, "the code");
+	want(f->said.steps == outcome.steps, "the steps");
+	want(f->said.output_len == outcome.len && !memcmp(out, outcome.output, outcome.len), "the output");
+	copy_object(&edited, &before);
+	want(make_edits(&edited, edits), "the edits can't be made");
+	want(same_object(&edited, &after), "the edits don't make the object after");
+	want(!edits.len || (m->flags != 1 && !same_object(&before, &after)), "edits of no change");
+}
+
+/* Grants so many growths, and refuses the next: one of those that were made since `before`. */
+static void refuse(long number, long before) { growths = number % (granted - before + 1); }
+
+/* Each call with memory refused: -12, or what it answers with all of its memory. */
+static void with_refused_memory(const struct call *c, const struct found *first, int32_t result, const struct method *m, long number) {
+	struct sillarnica_refusal why;
+	struct sillarnica_verified held;
+	uint8_t line[BEFORE];
+	uint32_t said[3];
+	long had = granted;
+	struct found f = ask(c, NULL, first->room);
+	refuse(number, had), f = ask(c, NULL, first->room);
+	want(f.result == -12 || is_same(first, &f), "an answer where memory is refused");
+	growths = -1, had = granted;
+	int32_t verdict = INSIDE(sillarnica_verify(c->image.at, c->image.len, &why));
+	refuse(number, had), verdict = INSIDE(sillarnica_verify(c->image.at, c->image.len, &why));
+	refuse(number, had);
+	int64_t length = INSIDE(sillarnica_explain(c->image.at, c->image.len, line, sizeof line));
+	want((verdict == -12 || verdict == result) && (length == -12 || (length > 0) == (result > 0)), "a verdict where memory is refused");
+	refuse(number, had);
+	int32_t needs = INSIDE(sillarnica_needs(c->image.at, c->image.len, c->method.at, c->method.len));
+	refuse(number, had);
+	int32_t told = INSIDE(sillarnica_method(c->image.at, c->image.len, c->method.at, c->method.len, &said[0], &said[1], &said[2]));
+	want(needs == -12 || needs == (result != 1 && m ? needs_of(m) : -95), "what a method needs where memory is refused");
+	want(told == -12 || told == (result == 1 ? 1 : m ? 0 : -95), "what is said of a method where memory is refused");
+	refuse(number, had);
+	int32_t opened = INSIDE(sillarnica_verified_open(c->image.at, c->image.len, &why, &held));
+	want((opened == -12 || opened == result) && held.is_open == (opened == 0), "a handle where memory is refused");
+	growths = -1;
+	if (opened == -12) opened = INSIDE(sillarnica_verified_open(c->image.at, c->image.len, &why, &held));
+	want(opened == result, "a handle after memory was refused");
+	if (opened) return;
+	had = granted, f = ask(c, &held, first->room);
+	refuse(number, had), f = ask(c, &held, first->room);
+	want(f.result == -12 || is_same(first, &f), "a handle's answer where memory is refused");
+	growths = -1, f = ask(c, &held, first->room);
+	want(is_same(first, &f), "a handle's answer after memory was refused");
+	is_inside = 1, sillarnica_verified_close(&held), is_inside = 0;
+}
+
+/* By a handle, and by a closed one. */
+static void by_handle(const struct call *c, const struct found *first, int32_t result, const struct sillarnica_refusal *why,
+	size_t room) {
+	struct sillarnica_verified held;
+	struct sillarnica_refusal other;
+	struct found f;
+	memset(&held, 0xa5, sizeof held), memset(&other, 0xa5, sizeof other);
+	want(INSIDE(sillarnica_verified_open(c->image.at, c->image.len, &other, &held)) == result, "a handle's verdict");
+	want(!memcmp(&other, why, sizeof other), "a handle's refusal");
+	want(held.is_open == (result == 0), "whether a handle is open");
+	for (int i = 0; result == 0 && i < 3; i++) {
+		f = ask(c, &held, i ? first->room : room);
+		want(is_same(first, &f), "a handle's answer");
+	}
+	for (int i = 0; i < 2; i++) {
+		is_inside = 1, sillarnica_verified_close(&held), is_inside = 0;
+		f = ask(c, &held, room);
+		want(held.is_open == 0 && f.result == -9, "a closed handle");
+	}
+}
+
+/* On the parts that the method needs alone; and for another client, if its code asks for none. */
+static void on_parts(const struct call *c, const struct found *first, const struct method *m) {
+	struct call other = *c;
+	struct slice form = { ends[FORM] - PLACE / 2, write_flat(&before, needs_of(m), ends[FORM] - PLACE / 2) };
+	other.object = placed(FORM, form);
+	int asks = 0;
+	for (unsigned i = 0; i < m->slots; i++) asks |= m->code[8 * i] == 0x85 && m->code[8 * i + 4] == 15;
+	other.caller ^= asks ? 0 : 0x80000001;
+	struct found f = ask(&other, NULL, first->room);
+	want(is_same(first, &f), "another answer on the parts alone, or for another client");
+}
+
+int LLVMFuzzerInitialize(int *count, char ***words);
+int LLVMFuzzerTestOneInput(const uint8_t *at, size_t len);
+
+int LLVMFuzzerInitialize(int *count, char ***words) {
+	(void)count, (void)words;
+	for (int i = 0; i < PLACES; i++) {
+		uint8_t *p = (uint8_t *)mmap(NULL, PLACE + 4096, PROT_READ | PROT_WRITE, MAP_PRIVATE | MAP_ANONYMOUS, -1, 0);
+		if (p == MAP_FAILED || mprotect(p + PLACE, 4096, PROT_NONE)) abort();
+		ends[i] = p + PLACE;
+	}
+	want(sillarnica_version() == 1, "the version");
+	find_blocks();
+	return 0;
+}
+
+int LLVMFuzzerTestOneInput(const uint8_t *at, size_t len) {
+	struct slice whole = { at, len };
+	struct cut_input cut = cut_input(whole);
+	struct sillarnica_refusal why;
+	uint8_t choices[7] = { 0 };
+	memcpy(choices, cut.fields[CHOICES].at ? cut.fields[CHOICES].at : choices, cut.fields[CHOICES].len < 7 ? cut.fields[CHOICES].len : 7);
+	struct call c = { placed(IMAGE, cut.fields[IMAGE]), placed(METHOD, cut.fields[METHOD]), placed(OBJECT, cut.fields[OBJECT]),
+		placed(INPUT, cut.fields[INPUT]), 0 };
+	for (size_t i = 0; i < cut.fields[CALLER].len && i < 4; i++) c.caller |= (uint32_t)cut.fields[CALLER].at[i] << (8 * i);
+	size_t room = number_at(choices, 3) % (choices[2] % 8 ? 1 << 9 : 1 << 17);
+
+	int32_t result = verdict(&c, &why);
+	const struct method *m = method_named(&class, c.method);
+	test_explain(&c, result, &why, choices[3]);
+	test_method(&c, result, m);
+	int32_t wants = wanted(&c, result, m, choices[6]);
+	struct found first = ask(&c, NULL, room);
+	if (wants == 0) {
+		size_t used = first.said.output_len + first.said.edits_len;
+		want(first.result == (used > room ? -34 : 0) && used < PLACE / 2, "an answer by its room");
+		if (first.result) first = ask(&c, NULL, used);
+		want(first.result == 0 && first.said.output_len + first.said.edits_len == used, "the call again, with more room");
+		memcpy(ends[KEPT] - used, ends[OUT] - first.room, used);
+		test_answer(&first, m, ends[KEPT] - used);
+		on_parts(&c, &first, m);
+		struct found less = ask(&c, NULL, used ? used - 1 : 0);
+		want(is_same(&first, &less), "with a byte of room too little");
+	} else {
+		want(first.result == wants, "the number of a refused call");
+		if (wants > 0) want(!memcmp(&first.why, &why, sizeof why), "a call's refusal");
+	}
+	struct found again = ask(&c, NULL, first.room);
+	want(is_same(&first, &again), "the same call again");
+	by_handle(&c, &first, result, &why, room);
+	with_refused_memory(&c, &first, result, m, (long)number_at(choices + 4, 2));
+	want(held_memory == 0, "the library kept memory");
+	return 0;
+}

@@ -1,0 +1,65 @@
+/* Of the files of the fuzzer: fuzz.c makes calls, fuzz_change.c changes them, fuzz_model.c and fuzz_machine.c say what the pages
+ * say of them, in plain C after docs/IMAGE.md, docs/MACHINE.md, docs/ASSEMBLY.md and the header, with nothing of the library's. Of
+ * the verifier they have rules 1 to 4 alone. */
+#include <stddef.h>
+#include <stdint.h>
+
+enum { METHODS = 32, DATA = 65536, XATTRS = 32, KEYS = 1024, NAME = 64, VALUE = 4096, CAPACITY = 4096, STACK = 512, LAYOUTS = 12 };
+
+struct slice { const uint8_t *at; size_t len; };
+
+/* An input is a call as tools/embed.py writes it, each field four bytes of length and its bytes, and what a host chooses beside
+ * it. What an input lacks is zero. */
+enum { IMAGE, METHOD, OBJECT, CALLER, INPUT, CHOICES, FIELDS };
+struct cut_input { struct slice fields[FIELDS]; };
+struct cut_input cut_input(struct slice from);
+
+struct method { struct slice name; unsigned flags, in_cap, out_cap, slots; const uint8_t *code; };
+struct class_of { unsigned count; struct method methods[METHODS]; };
+struct entry { struct slice name, value; };
+struct part { size_t count; struct entry at[KEYS]; };
+struct object { int is_there; size_t len; uint8_t data[DATA]; struct part parts[2]; }; /* xattrs, keys */
+struct outcome { int64_t code; uint64_t steps; size_t len; uint8_t output[CAPACITY]; };
+/* a refusal as the library tells it; number 0 is none */
+struct where { uint32_t number; uint64_t method; int64_t slot; };
+
+int same(struct slice a, struct slice b);
+size_t number_at(const uint8_t *p, int n);
+
+/* Tells libFuzzer from now on which code of the library is run (fuzz_blocks.c). */
+void find_blocks(void);
+
+/* Reads an image, as far as it is one: why it is none. */
+struct where read_class(struct slice image, struct class_of *to);
+const struct method *method_named(const struct class_of *c, struct slice name);
+/* How many instructions a method has. */
+unsigned instructions(const struct method *m);
+/* The parts that its code needs, by the helpers in it. */
+int needs_of(const struct method *m);
+/* The first of a class that one of the rules 1 to 4 refuses. */
+struct where plain_rules(const struct class_of *c);
+int is_wide(const uint8_t *slot);
+int is_arithmetic(unsigned opcode);
+int is_comparison(unsigned opcode);
+/* Where a jump goes to, in slots from the method's first; the slot itself where it is none. */
+int64_t target_of(const uint8_t *slot, int64_t at);
+
+/* Reads a flat form: whether it is one. Names and values lie in it. */
+int read_flat(struct slice form, struct object *to);
+/* Writes it without the parts that aren't needed, and gives its length. */
+size_t write_flat(const struct object *o, int needs, uint8_t *to);
+void copy_object(struct object *to, const struct object *from);
+int same_object(const struct object *a, const struct object *b);
+/* An entry of that name, or the place where it would stand. */
+struct entry *find_entry(struct part *p, struct slice name, int *is_there);
+/* Sets an entry, if there are fewer than most, or one of that name; removes one. Whether it did. */
+int set_entry(struct part *p, size_t most, struct entry with);
+int unset_entry(struct part *p, struct slice name);
+void resize_data(struct object *o, size_t len);
+void clear_object(struct object *o, int is_there);
+/* Makes edits: whether they are edits, and each can be made. Names and values lie in them. */
+int make_edits(struct object *o, struct slice edits);
+
+/* Runs a method on an object, in one of so many layouts. NULL; or why the run is stuck, so that the method isn't safe. */
+const char *run_method(const struct method *m, struct object *o, uint32_t caller, struct slice input, unsigned layout,
+	struct outcome *to);
