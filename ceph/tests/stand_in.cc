@@ -592,4 +592,5 @@ int main(int count, char **words) {
         letter == 0 ? answer_call() : answer_threads();
         fflush(stdout);
     }
+    return 0;
 }

@@ -2,10 +2,11 @@
 # Builds the plug-in over the stand-in of an OSD, with the compiler's tests of memory and of
 # arithmetic, or of threads.
 #
-#     ceph/tests/stand_in.sh PLUGIN OUT IMAGES address,undefined|thread
+#     ceph/tests/stand_in.sh PLUGIN OUT IMAGES address,undefined|thread|fuzzer
 #
 # PLUGIN is the folder of the plug-in's sources. What is in OUT and newer is taken. OUT gets the
-# program `stand_in` and a folder `classes` to open: the class `bpf`, with its methods for classes
+# program `stand_in`, or of `fuzzer`, which takes clang, the program `fuzz`, with the tests of memory
+# and of arithmetic; and a folder `classes` to open: the class `bpf`, with its methods for classes
 # that are sent, and of each image in the folder IMAGES a class; besides `cut`, whose image is cut,
 # `none`, which has no image, and `a_link`, a link to another class's file that is opened before it.
 #
@@ -15,27 +16,33 @@ here=$(cd "$(dirname "$0")" && pwd)
 [ $# = 4 ] || { sed -n 's/^#  *\(ceph\/\)/\1/p' "$0" >&2; exit 2; }
 plugin=$1 out=$2 images=$3 sanitizers=$4
 classes=$out/classes libraries=/usr/lib/$(uname -m)-linux-gnu
+compiler=g++ program=stand_in of_objects=() of_program=()
+if [ "$sanitizers" = fuzzer ]; then
+    # An OSD calls a method as a function of other pointers than it takes, which clang would tell of.
+    compiler=clang++ program=fuzz sanitizers=address,undefined
+    of_objects=(-O1 -fsanitize=fuzzer-no-link -fno-sanitize=function) of_program=(-fsanitize=fuzzer)
+fi
 mkdir -p "$classes"
 flags=(-std=c++17 -g1 -O0 -fPIC -Wall -Wextra -Werror "-fsanitize=$sanitizers" -fno-sanitize-recover=undefined
-    "-I$SILLARNICA_INCLUDE")
+    "-I$SILLARNICA_INCLUDE" "${of_objects[@]}")
 
 jobs=()
-for file in "$plugin"/{engine,classes,native,bpf,call,object,sum,stub}.cc "$plugin/../tests/stand_in.cc"; do
+for file in "$plugin"/{engine,classes,native,bpf,call,object,sum,stub}.cc "$plugin/../tests/$program.cc"; do
     object=$out/$(basename "$file" .cc).o
     is_old=
     for source in "$file" "$plugin"/*.h; do if [ ! "$object" -nt "$source" ]; then is_old=yes; fi; done
     [ -n "$is_old" ] || continue
-    g++ "${flags[@]}" -c "$file" -o "$object" &
+    $compiler "${flags[@]}" -c "$file" -o "$object" &
     jobs+=($!)
 done
 for job in "${jobs[@]}"; do wait "$job"; done
 
-g++ -shared "-fsanitize=$sanitizers" -o "$classes/sillarnica_engine.so" \
+$compiler -shared "-fsanitize=$sanitizers" -o "$classes/sillarnica_engine.so" \
     "$out"/{engine,classes,native,bpf,call,object,sum}.o "$SILLARNICA_ARCHIVE" "$SILLARNICA_LIBC" \
     -Wl,--wrap=malloc,--wrap=realloc -Wl,-soname,sillarnica_engine.so -Wl,--version-script="$plugin/engine.map"
-g++ -shared "-fsanitize=$sanitizers" -o "$classes/libcls_bpf.so" "$out/stub.o" "$classes/sillarnica_engine.so" \
+$compiler -shared "-fsanitize=$sanitizers" -o "$classes/libcls_bpf.so" "$out/stub.o" "$classes/sillarnica_engine.so" \
     -Wl,-rpath,'$ORIGIN' -Wl,--version-script="$plugin/stub.map"
-g++ "-fsanitize=$sanitizers" -o "$out/stand_in" "$out/stand_in.o" -rdynamic -ldl -lpthread \
+$compiler "-fsanitize=$sanitizers" "${of_program[@]}" -o "$out/$program" "$out/$program.o" -rdynamic -ldl -lpthread \
     -L"$libraries/ceph" -l:libceph-common.so.2 -Wl,-rpath,"$libraries/ceph"
 
 touch "$classes/bpf.sent"
