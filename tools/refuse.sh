@@ -13,9 +13,9 @@
 # - a command does what it does with all its memory: the same lines on both streams, the same status
 #   and the same file OUT (figures of `--stats` may differ). Or it prints the first of these lines,
 #   and then one that names want of memory, ends with 1, says nothing on standard error and leaves
-#   OUT as it was; a call of `cluster` that is refused so ends with 0. Where OUT is being written
-#   that line is `cannot write`, and the new file that was to take its place is gone too. Or, of a
-#   refusal that is explained, the last of these lines are missing.
+#   OUT as it was; a call of `cluster` that is refused so ends with 0. Of the last growths, eight at
+#   most, by which OUT is written, that line is `cannot write`, and the new file that was to take its
+#   place is gone too. Or, of a refusal that is explained, the last of these lines are missing.
 #
 # A row or a command that met no refusal doesn't pass. Each of the first 700 growths is refused,
 # then every seventh: so all takes less than three minutes of one processor. A run has five minutes,
@@ -132,7 +132,7 @@ is_unexplained() {
 # A command of `radoscls` that ends with that status; it writes OUT where a word is `out`. What it
 # prints and writes with all its memory is `whole`, `whole_err` and the file `after`.
 sweep_command() {
-    local name=$1 wanted_status=$2 n=1 refused=0 told=0 whole whole_err has_figures=
+    local name=$1 wanted_status=$2 n=1 refused=0 told=0 unwritten=0 whole whole_err has_figures=
     shift 2
     rm -f "$work/before" "$work/after" "$work/out"
     if [[ " $* " == *" out "* ]]; then printf before | tee "$work/before" > "$work/out"; fi
@@ -153,9 +153,17 @@ sweep_command() {
         else
             differs "$name" "$n"
         fi
+        # OUT is written last, and by few growths: those of the new file's name.
+        if [ -e "$work/before" ]; then
+            case $out in
+                *"cannot write"*) unwritten=$((unwritten + 1)) ;;
+                *) [ "$unwritten" = 0 ] || differs "$name" "$n" ;;
+            esac
+        fi
         next "$n"
     done
     if [ "$told" = 0 ]; then differs "$name" "of none was refused"; fi
+    if [ "$unwritten" -gt 8 ]; then differs "$name" "one of $unwritten that aren't written"; fi
     tell "$name" "$refused" "$told"
 }
 
