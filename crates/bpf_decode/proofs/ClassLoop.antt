@@ -9,14 +9,15 @@ use Rattle.bpf_decode.specs.declared.decode_error.DecodeError.{DecodeError}
 use Rattle.bpf_decode.specs.declared.decode_error.DecodeError.TheVariants.{Name, Order, Flags, Limit}
 use Rattle.bpf_decode.specs.declared.image_error.ImageError.{ImageError}
 use Rattle.bpf_decode.specs.Instruction.{AllFit, slot_total}
-use Rattle.bpf_decode.specs.Class.{ClassMethod, IsMethod, IsClass}
+use Rattle.bpf_decode.specs.declared.rule_set.RuleSet.{RuleSet}
+use Rattle.bpf_decode.specs.Class.{ClassMethod, IsMethod, IsClass, IsWithinSet, AreWithinSet}
 use Rattle.bpf_decode.specs.Reading.{◌>>=◌, checked}
 use Rattle.bpf_decode.specs.ImageReading.{after, is_above, method_after, methods_after, methods_of}
 use Rattle.bpf_decode.proofs.Bytes.{bind_ok, checked_ok}
-use Rattle.bpf_decode.specs.Limits.{between, are_name_bytes}
-use Rattle.bpf_decode.proofs.ImageFields.{between-true, between-is, letters_are, letters_again, above_is, above_again}
+use Rattle.bpf_decode.specs.Limits.{between, are_name_bytes, capacity_limit}
+use Rattle.bpf_decode.proofs.ImageFields.{between-true, between-is, limit_wide, letters_are, letters_again, above_is, above_again}
 use Rattle.bpf_decode.proofs.ImageLaws.{RisesFrom, rises_on, rises_first, after_ok}
-use Rattle.bpf_decode.specs.declared.limits.TheConstants.{METHOD_LIMIT, NAME_LIMIT, CAPACITY_LIMIT, SLOT_LIMIT}
+use Rattle.bpf_decode.specs.declared.limits.TheConstants.{METHOD_LIMIT, NAME_LIMIT, SLOT_LIMIT}
 
 abbrev pub Tested : Type 0
 Tested = Result (List ClassMethod) ImageError
@@ -29,8 +30,8 @@ abbrev pub AllCodeFits : List ClassMethod → Type 0
 AllCodeFits ms = AllByRecursion (λ m. AllFit m.instructions) ms
 
 -- the methods before this one passed, the last of that name
-pub record Progress (ms : List ClassMethod) (done : ℕ) (before : List ℕ) : Type 0 where
-  pub so_far : with_front (take done ms) (methods_after done before (drop done ms)) ≡ methods_after 0 [] ms
+pub record Progress (rules : RuleSet) (ms : List ClassMethod) (done : ℕ) (before : List ℕ) : Type 0 where
+  pub so_far : with_front (take done ms) (methods_after rules done before (drop done ms)) ≡ methods_after rules 0 [] ms
   pub fit : AllCodeFits (take done ms)
 
 regroup : (front : List ClassMethod) (m : ClassMethod) (read : Tested) → with_front front (read >>= λ others. Ok (m ∷ others)) ≡ with_front (front ++ m ∷ []) read
@@ -41,119 +42,119 @@ code_fits-push : (ms : List ClassMethod) (m : ClassMethod) → AllCodeFits ms �
 code_fits-push [] m all one = (one, tt)
 code_fits-push (n ∷ ms) m all one = (all.0, code_fits-push ms m all.1 one)
 
-abbrev first_tested : ℕ → List ℕ → List ClassMethod → Result ClassMethod DecodeError → Tested
-first_tested done name ms read = after done read >>= λ first. methods_after (done + 1) name ms >>= λ others. Ok (first ∷ others)
+abbrev first_tested : RuleSet → ℕ → List ℕ → List ClassMethod → Result ClassMethod DecodeError → Tested
+first_tested rules done name ms read = after done read >>= λ first. methods_after rules (done + 1) name ms >>= λ others. Ok (first ∷ others)
 
-one_more : (done : ℕ) (before : List ℕ) (m : ClassMethod) (ms : List ClassMethod) (read : Result ClassMethod DecodeError) → method_after before m ≡ read → methods_after done before (m ∷ ms) ≡ first_tested done m.name ms read
+one_more : (rules : RuleSet) (done : ℕ) (before : List ℕ) (m : ClassMethod) (ms : List ClassMethod) (read : Result ClassMethod DecodeError) → method_after rules before m ≡ read → methods_after rules done before (m ∷ ms) ≡ first_tested rules done m.name ms read
 unfolding methods_after
-one_more done before m ms read h = ap (first_tested done m.name ms) h
+one_more rules done before m ms read h = ap (first_tested rules done m.name ms) h
 
 -- the method at that place and those after it
 here : (ms : List ClassMethod) (done : ℕ) (m : ClassMethod) → done < length ms → m ≡ get_or ms done m → drop done ms ≡ m ∷ drop (done + 1) ms
 here ms done m lt is = drop_more ms done m lt ∙ ap (λ (x : ClassMethod). x ∷ drop (done + 1) ms) (sym is)
 
-pub goes_on : (ms : List ClassMethod) (done : ℕ) (before : List ℕ) (m : ClassMethod) → done < length ms → m ≡ get_or ms done m → method_after before m ≡ Ok m → AllFit m.instructions → Progress ms done before → Progress ms (done + 1) m.name
-goes_on ms done before m lt is h fit p =
+pub goes_on : (rules : RuleSet) (ms : List ClassMethod) (done : ℕ) (before : List ℕ) (m : ClassMethod) → done < length ms → m ≡ get_or ms done m → method_after rules before m ≡ Ok m → AllFit m.instructions → Progress rules ms done before → Progress rules ms (done + 1) m.name
+goes_on rules ms done before m lt is h fit p =
     let front = take done ms in
     let behind = drop (done + 1) ms in
     let more : take (done + 1) ms ≡ front ++ m ∷ [] = take_more ms done m lt ∙ ap (λ (x : ClassMethod). front ++ x ∷ []) (sym is) in
-    let one : with_front front (methods_after done before (drop done ms)) ≡ with_front (take (done + 1) ms) (methods_after (done + 1) m.name behind) =
-    ap (λ (xs : List ClassMethod). with_front front (methods_after done before xs)) (here ms done m lt is) ∙ ap (with_front front) (one_more done before m behind (Ok m) h)
-    ∙ regroup front m (methods_after (done + 1) m.name behind) ∙ ap (λ (xs : List ClassMethod). with_front xs (methods_after (done + 1) m.name behind)) (sym more) in
+    let one : with_front front (methods_after rules done before (drop done ms)) ≡ with_front (take (done + 1) ms) (methods_after rules (done + 1) m.name behind) =
+    ap (λ (xs : List ClassMethod). with_front front (methods_after rules done before xs)) (here ms done m lt is) ∙ ap (with_front front) (one_more rules done before m behind (Ok m) h)
+    ∙ regroup front m (methods_after rules (done + 1) m.name behind) ∙ ap (λ (xs : List ClassMethod). with_front xs (methods_after rules (done + 1) m.name behind)) (sym more) in
     record { so_far = sym one ∙ p.so_far; fit = subst (λ (xs : List ClassMethod). AllCodeFits xs) (sym more) (code_fits-push front m p.fit fit) }
 
-abbrev by_count : List ClassMethod → Bool → Tested
-by_count ms b = after 0 (checked b Limit ms) >>= λ some. methods_after 0 [] ms
+abbrev by_count : RuleSet → List ClassMethod → Bool → Tested
+by_count rules ms b = after 0 (checked b Limit ms) >>= λ some. methods_after rules 0 [] ms
 
-counted : (ms : List ClassMethod) → between 1 METHOD_LIMIT (length ms) ≡ true → methods_of ms ≡ methods_after 0 [] ms
+counted : (rules : RuleSet) (ms : List ClassMethod) → between 1 METHOD_LIMIT (length ms) ≡ true → methods_of rules ms ≡ methods_after rules 0 [] ms
 unfolding methods_of
-counted ms some = ap (by_count ms) some
+counted rules ms some = ap (by_count rules ms) some
 
-pub not_counted : (ms : List ClassMethod) → between 1 METHOD_LIMIT (length ms) ≡ false → methods_of ms ≡ Err (record { methods = 0; error = Limit })
+pub not_counted : (rules : RuleSet) (ms : List ClassMethod) → between 1 METHOD_LIMIT (length ms) ≡ false → methods_of rules ms ≡ Err (record { methods = 0; error = Limit })
 unfolding methods_of
-not_counted ms none = ap (by_count ms) none
+not_counted rules ms none = ap (by_count rules ms) none
 
-pub is_refused : (ms : List ClassMethod) (done : ℕ) (before : List ℕ) (m : ClassMethod) (e : DecodeError) → between 1 METHOD_LIMIT (length ms) ≡ true → done < length ms → m ≡ get_or ms done m → method_after before m ≡ Err e → Progress ms done before
-    → methods_of ms ≡ Err (record { methods = done; error = e })
-is_refused ms done before m e some lt is h p =
+pub is_refused : (rules : RuleSet) (ms : List ClassMethod) (done : ℕ) (before : List ℕ) (m : ClassMethod) (e : DecodeError) → between 1 METHOD_LIMIT (length ms) ≡ true → done < length ms → m ≡ get_or ms done m → method_after rules before m ≡ Err e → Progress rules ms done before
+    → methods_of rules ms ≡ Err (record { methods = done; error = e })
+is_refused rules ms done before m e some lt is h p =
     let front = take done ms in
     let behind = drop (done + 1) ms in
-    counted ms some ∙ sym p.so_far ∙ ap (λ (xs : List ClassMethod). with_front front (methods_after done before xs)) (here ms done m lt is) ∙ ap (with_front front) (one_more done before m behind (Err e) h)
+    counted rules ms some ∙ sym p.so_far ∙ ap (λ (xs : List ClassMethod). with_front front (methods_after rules done before xs)) (here ms done m lt is) ∙ ap (with_front front) (one_more rules done before m behind (Err e) h)
 
-pub all_pass : (ms : List ClassMethod) (done : ℕ) (before : List ℕ) → between 1 METHOD_LIMIT (length ms) ≡ true → length ms ≤ done → Progress ms done before → methods_of ms ≡ Ok ms
+pub all_pass : (rules : RuleSet) (ms : List ClassMethod) (done : ℕ) (before : List ℕ) → between 1 METHOD_LIMIT (length ms) ≡ true → length ms ≤ done → Progress rules ms done before → methods_of rules ms ≡ Ok ms
 unfolding methods_after
-all_pass ms done before some le p =
-    counted ms some ∙ sym p.so_far ∙ ap (λ (xs : List ClassMethod). with_front (take done ms) (methods_after done before xs)) (drop_all done ms le) ∙ ap (λ (xs : List ClassMethod). Ok xs) (append-nil (take done ms) ∙ take_all done ms le)
+all_pass rules ms done before some le p =
+    counted rules ms some ∙ sym p.so_far ∙ ap (λ (xs : List ClassMethod). with_front (take done ms) (methods_after rules done before xs)) (drop_all done ms le) ∙ ap (λ (xs : List ClassMethod). Ok xs) (append-nil (take done ms) ∙ take_all done ms le)
 
-pub all_fit : (ms : List ClassMethod) (done : ℕ) (before : List ℕ) → length ms ≤ done → Progress ms done before → AllCodeFits ms
-all_fit ms done before le p = subst (λ (xs : List ClassMethod). AllCodeFits xs) (take_all done ms le) p.fit
+pub all_fit : (rules : RuleSet) (ms : List ClassMethod) (done : ℕ) (before : List ℕ) → length ms ≤ done → Progress rules ms done before → AllCodeFits ms
+all_fit rules ms done before le p = subst (λ (xs : List ClassMethod). AllCodeFits xs) (take_all done ms le) p.fit
 
 -- ---- methods that pass are a class
 
 abbrev above : List ℕ → List ℕ → Type 0
 above before name = slice_cmp nat_cmp before name ≡ Less
 
-method_passes : (before : List ℕ) (m x : ClassMethod) → AllFit m.instructions → method_after before m ≡ Ok x → IsMethod m × above before m.name
-method_passes before m x fit e =
-    let a = bind_ok (checked (between 1 NAME_LIMIT (length m.name)) Name m) (λ y. checked (are_name_bytes m.name) Name m >>= λ y. checked (is_above before m.name) Order m >>= λ y. checked (between 1 3 m.flags) Flags m >>= λ y. checked (between 0 CAPACITY_LIMIT m.in_cap) Limit m >>= λ y. checked (between 0 CAPACITY_LIMIT m.out_cap) Limit m >>= λ y. checked (between 1 SLOT_LIMIT (slot_total m.instructions)) Limit m) x e in
-    let b = bind_ok (checked (are_name_bytes m.name) Name m) (λ y. checked (is_above before m.name) Order m >>= λ y. checked (between 1 3 m.flags) Flags m >>= λ y. checked (between 0 CAPACITY_LIMIT m.in_cap) Limit m >>= λ y. checked (between 0 CAPACITY_LIMIT m.out_cap) Limit m >>= λ y. checked (between 1 SLOT_LIMIT (slot_total m.instructions)) Limit m) x a.2 in
-    let c = bind_ok (checked (is_above before m.name) Order m) (λ y. checked (between 1 3 m.flags) Flags m >>= λ y. checked (between 0 CAPACITY_LIMIT m.in_cap) Limit m >>= λ y. checked (between 0 CAPACITY_LIMIT m.out_cap) Limit m >>= λ y. checked (between 1 SLOT_LIMIT (slot_total m.instructions)) Limit m) x b.2 in
-    let d = bind_ok (checked (between 1 3 m.flags) Flags m) (λ y. checked (between 0 CAPACITY_LIMIT m.in_cap) Limit m >>= λ y. checked (between 0 CAPACITY_LIMIT m.out_cap) Limit m >>= λ y. checked (between 1 SLOT_LIMIT (slot_total m.instructions)) Limit m) x c.2 in
-    let f = bind_ok (checked (between 0 CAPACITY_LIMIT m.in_cap) Limit m) (λ y. checked (between 0 CAPACITY_LIMIT m.out_cap) Limit m >>= λ y. checked (between 1 SLOT_LIMIT (slot_total m.instructions)) Limit m) x d.2 in
-    let g = bind_ok (checked (between 0 CAPACITY_LIMIT m.out_cap) Limit m) (λ y. checked (between 1 SLOT_LIMIT (slot_total m.instructions)) Limit m) x f.2 in
+method_passes : (rules : RuleSet) (before : List ℕ) (m x : ClassMethod) → AllFit m.instructions → method_after rules before m ≡ Ok x → IsMethod m × above before m.name × IsWithinSet rules m
+method_passes rules before m x fit e =
+    let a = bind_ok (checked (between 1 NAME_LIMIT (length m.name)) Name m) (λ y. checked (are_name_bytes m.name) Name m >>= λ y. checked (is_above before m.name) Order m >>= λ y. checked (between 1 3 m.flags) Flags m >>= λ y. checked (between 0 (capacity_limit rules) m.in_cap) Limit m >>= λ y. checked (between 0 (capacity_limit rules) m.out_cap) Limit m >>= λ y. checked (between 1 SLOT_LIMIT (slot_total m.instructions)) Limit m) x e in
+    let b = bind_ok (checked (are_name_bytes m.name) Name m) (λ y. checked (is_above before m.name) Order m >>= λ y. checked (between 1 3 m.flags) Flags m >>= λ y. checked (between 0 (capacity_limit rules) m.in_cap) Limit m >>= λ y. checked (between 0 (capacity_limit rules) m.out_cap) Limit m >>= λ y. checked (between 1 SLOT_LIMIT (slot_total m.instructions)) Limit m) x a.2 in
+    let c = bind_ok (checked (is_above before m.name) Order m) (λ y. checked (between 1 3 m.flags) Flags m >>= λ y. checked (between 0 (capacity_limit rules) m.in_cap) Limit m >>= λ y. checked (between 0 (capacity_limit rules) m.out_cap) Limit m >>= λ y. checked (between 1 SLOT_LIMIT (slot_total m.instructions)) Limit m) x b.2 in
+    let d = bind_ok (checked (between 1 3 m.flags) Flags m) (λ y. checked (between 0 (capacity_limit rules) m.in_cap) Limit m >>= λ y. checked (between 0 (capacity_limit rules) m.out_cap) Limit m >>= λ y. checked (between 1 SLOT_LIMIT (slot_total m.instructions)) Limit m) x c.2 in
+    let f = bind_ok (checked (between 0 (capacity_limit rules) m.in_cap) Limit m) (λ y. checked (between 0 (capacity_limit rules) m.out_cap) Limit m >>= λ y. checked (between 1 SLOT_LIMIT (slot_total m.instructions)) Limit m) x d.2 in
+    let g = bind_ok (checked (between 0 (capacity_limit rules) m.out_cap) Limit m) (λ y. checked (between 1 SLOT_LIMIT (slot_total m.instructions)) Limit m) x f.2 in
     let sized = between-true 1 NAME_LIMIT (length m.name) (checked_ok (between 1 NAME_LIMIT (length m.name)) Name m a.0 a.1).0 in
     let letters = letters_are m.name (checked_ok (are_name_bytes m.name) Name m b.0 b.1).0 in
     let rises = above_is before m.name (checked_ok (is_above before m.name) Order m c.0 c.1).0 in
     let flags = between-true 1 3 m.flags (checked_ok (between 1 3 m.flags) Flags m d.0 d.1).0 in
-    let read = between-true 0 CAPACITY_LIMIT m.in_cap (checked_ok (between 0 CAPACITY_LIMIT m.in_cap) Limit m f.0 f.1).0 in
-    let written = between-true 0 CAPACITY_LIMIT m.out_cap (checked_ok (between 0 CAPACITY_LIMIT m.out_cap) Limit m g.0 g.1).0 in
+    let read = between-true 0 (capacity_limit rules) m.in_cap (checked_ok (between 0 (capacity_limit rules) m.in_cap) Limit m f.0 f.1).0 in
+    let written = between-true 0 (capacity_limit rules) m.out_cap (checked_ok (between 0 (capacity_limit rules) m.out_cap) Limit m g.0 g.1).0 in
     let slots = between-true 1 SLOT_LIMIT (slot_total m.instructions) (checked_ok (between 1 SLOT_LIMIT (slot_total m.instructions)) Limit m x g.2).0 in
-    (record { named = sized.0; short = sized.1; letters = letters; some_flag = flags.0; known_flags = flags.1; in_cap = read.1; out_cap = written.1; some_slot = slots.0; slots = slots.1; fit = fit }, rises)
+    (record { named = sized.0; short = sized.1; letters = letters; some_flag = flags.0; known_flags = flags.1; in_cap = omega (arith, read.1, limit_wide rules); out_cap = omega (arith, written.1, limit_wide rules); some_slot = slots.0; slots = slots.1; fit = fit }, rises, record { in_cap = read.1; out_cap = written.1 })
 
-method_again : (before : List ℕ) (m : ClassMethod) → IsMethod m → above before m.name → method_after before m ≡ Ok m
-method_again before m h rises =
+method_again : (rules : RuleSet) (before : List ℕ) (m : ClassMethod) → IsMethod m → IsWithinSet rules m → above before m.name → method_after rules before m ≡ Ok m
+method_again rules before m h within rises =
     rw (
       between-is 1 NAME_LIMIT (length m.name) h.named h.short,
       letters_again m.name h.letters,
       above_again before m.name rises,
       between-is 1 3 m.flags h.some_flag h.known_flags,
-      between-is 0 CAPACITY_LIMIT m.in_cap (omega arith) h.in_cap,
-      between-is 0 CAPACITY_LIMIT m.out_cap (omega arith) h.out_cap,
+      between-is 0 (capacity_limit rules) m.in_cap (omega arith) within.in_cap,
+      between-is 0 (capacity_limit rules) m.out_cap (omega arith) within.out_cap,
       between-is 1 SLOT_LIMIT (slot_total m.instructions) h.some_slot h.slots,
     ) refl
 
-methods_pass : (done : ℕ) (before : List ℕ) (ms xs : List ClassMethod) → AllCodeFits ms → methods_after done before ms ≡ Ok xs → AllByRecursion IsMethod ms × RisesFrom before ms
+methods_pass : (rules : RuleSet) (done : ℕ) (before : List ℕ) (ms xs : List ClassMethod) → AllCodeFits ms → methods_after rules done before ms ≡ Ok xs → AllByRecursion IsMethod ms × RisesFrom before ms × AreWithinSet rules ms
 unfolding methods_after
-methods_pass done before [] xs fit e = (tt, tt)
-methods_pass done before (m ∷ ms) xs fit e =
-    let a = bind_ok (after done (method_after before m)) (λ first. methods_after (done + 1) m.name ms >>= λ others. Ok (first ∷ others)) xs e in
-    let b = bind_ok (methods_after (done + 1) m.name ms) (λ others. Ok (a.0 ∷ others)) xs a.2 in
-    let first = method_passes before m a.0 fit.0 (after_ok done (method_after before m) a.0 a.1) in
-    let others = methods_pass (done + 1) m.name ms b.0 fit.1 b.1 in
-    ((first.0, others.0), (first.1, others.1))
+methods_pass rules done before [] xs fit e = (tt, tt, tt)
+methods_pass rules done before (m ∷ ms) xs fit e =
+    let a = bind_ok (after done (method_after rules before m)) (λ first. methods_after rules (done + 1) m.name ms >>= λ others. Ok (first ∷ others)) xs e in
+    let b = bind_ok (methods_after rules (done + 1) m.name ms) (λ others. Ok (a.0 ∷ others)) xs a.2 in
+    let first = method_passes rules before m a.0 fit.0 (after_ok done (method_after rules before m) a.0 a.1) in
+    let others = methods_pass rules (done + 1) m.name ms b.0 fit.1 b.1 in
+    ((first.0, others.0), (first.1, others.1), (first.2, others.2))
 
-methods_again : (done : ℕ) (before : List ℕ) (ms : List ClassMethod) → AllByRecursion IsMethod ms → RisesFrom before ms → methods_after done before ms ≡ Ok ms
+methods_again : (rules : RuleSet) (done : ℕ) (before : List ℕ) (ms : List ClassMethod) → AllByRecursion IsMethod ms → AreWithinSet rules ms → RisesFrom before ms → methods_after rules done before ms ≡ Ok ms
 unfolding methods_after
-methods_again done before [] all rises = refl
-methods_again done before (m ∷ ms) all rises =
-    ap (first_tested done m.name ms) (method_again before m all.0 rises.0) ∙ ap (λ (r : Tested). r >>= λ others. Ok (m ∷ others)) (methods_again (done + 1) m.name ms all.1 rises.1)
+methods_again rules done before [] all within rises = refl
+methods_again rules done before (m ∷ ms) all within rises =
+    ap (first_tested rules done m.name ms) (method_again rules before m all.0 within.0 rises.0) ∙ ap (λ (r : Tested). r >>= λ others. Ok (m ∷ others)) (methods_again rules (done + 1) m.name ms all.1 within.1 rises.1)
 
-pub class_again : (ms : List ClassMethod) → IsClass ms → methods_of ms ≡ Ok ms
-class_again ms class = counted ms (between-is 1 METHOD_LIMIT (length ms) class.some class.limit) ∙ methods_again 0 [] ms class.methods (rises_first ms class.methods class.names)
+pub class_again : (rules : RuleSet) (ms : List ClassMethod) → IsClass ms → AreWithinSet rules ms → methods_of rules ms ≡ Ok ms
+class_again rules ms class within = counted rules ms (between-is 1 METHOD_LIMIT (length ms) class.some class.limit) ∙ methods_again rules 0 [] ms class.methods within (rises_first ms class.methods class.names)
 
 abbrev passed : List ClassMethod → Tested
 passed ms = Ok ms
 
-pub class_passes : (ms xs : List ClassMethod) → AllCodeFits ms → methods_of ms ≡ Ok xs → IsClass ms
+pub class_passes : (rules : RuleSet) (ms xs : List ClassMethod) → AllCodeFits ms → methods_of rules ms ≡ Ok xs → IsClass ms × AreWithinSet rules ms
 unfolding methods_of
-class_passes ms xs fit e =
-    let a = bind_ok (after 0 (checked (between 1 METHOD_LIMIT (length ms)) Limit ms)) (λ some. methods_after 0 [] ms) xs e in
+class_passes rules ms xs fit e =
+    let a = bind_ok (after 0 (checked (between 1 METHOD_LIMIT (length ms)) Limit ms)) (λ some. methods_after rules 0 [] ms) xs e in
     let some = between-true 1 METHOD_LIMIT (length ms) (checked_ok (between 1 METHOD_LIMIT (length ms)) Limit ms a.0 (after_ok 0 (checked (between 1 METHOD_LIMIT (length ms)) Limit ms) a.0 a.1)).0 in
-    let all = methods_pass 0 [] ms xs fit a.2 in
-    record { some = some.0; limit = some.1; methods = all.0; names = rises_on [] ms all.1 }
+    let all = methods_pass rules 0 [] ms xs fit a.2 in
+    (record { some = some.0; limit = some.1; methods = all.0; names = rises_on [] ms all.1 }, all.2)
 
 -- refused methods are no class
-pub refused_is_none : (ms : List ClassMethod) (e : ImageError) → methods_of ms ≡ Err e → IsClass ms → ⊥
-refused_is_none ms e h class =
-    let both : Err e ≡ passed ms = sym h ∙ class_again ms class in
+pub refused_is_none : (rules : RuleSet) (ms : List ClassMethod) (e : ImageError) → methods_of rules ms ≡ Err e → IsClass ms → AreWithinSet rules ms → ⊥
+refused_is_none rules ms e h class within =
+    let both : Err e ≡ passed ms = sym h ∙ class_again rules ms class within in
     cc

@@ -18,13 +18,15 @@ use Rattle.bpf_decode.specs.declared.decode_error.DecodeError.{DecodeError}
 use Rattle.bpf_decode.specs.declared.decode_error.DecodeError.TheVariants.{Truncated, Name, Order, Flags, Limit}
 use Rattle.bpf_decode.specs.declared.insn.Insn.{Insn}
 use Rattle.bpf_decode.specs.Instruction.{AllFit, spelling, slot_total}
-use Rattle.bpf_decode.specs.Class.{IsNameByte}
+use Rattle.bpf_decode.specs.Class.{IsNameByte, heads_bytes}
 use Rattle.bpf_decode.specs.Reading.{◌>>=◌, checked, code_of}
-use Rattle.bpf_decode.specs.Limits.{between, is_name_byte, are_name_bytes}
-use Rattle.bpf_decode.specs.ImageReading.{is_above, byte_at, number_at, bytes_at, name_at, flags_at, capacity_at, code_at}
+use Rattle.bpf_decode.specs.Limits.{between, is_name_byte, are_name_bytes, capacity_limit}
+use Rattle.bpf_decode.specs.ImageReading.{is_above, byte_at, number_at, bytes_at, name_at, flags_at, capacity_at, code_at, heads_at}
 use Rattle.bpf_decode.proofs.Bytes.{IsBytes, IsBytes-drop, IsBytes-take, IsBytes-rest, bind_ok, checked_ok, both_true}
 use Rattle.bpf_decode.proofs.CodeLaws.{length-spelling, code_takes, code_again}
 use Rattle.bpf_decode.specs.declared.limits.TheConstants.{NAME_LIMIT, CAPACITY_LIMIT, SLOT_LIMIT}
+use Rattle.bpf_decode.specs.declared.rule_set.RuleSet.{RuleSet}
+use Rattle.bpf_decode.specs.declared.rule_set.RuleSet.TheVariants.{One, Two, Three}
 
 -- what a reader took from the front
 pub record Takes (bytes text rest : List ℕ) : Type 0 where
@@ -201,21 +203,27 @@ pub flags_again : (flags : ℕ) (rest : List ℕ) → 1 ≤ flags → flags ≤ 
 unfolding flags_at
 flags_again flags rest h k = ap (λ (b : Bool). checked b Flags (flags, rest)) (between-is 1 3 flags h k)
 
-pub capacity_takes : (bytes : List ℕ) (n : ℕ) (rest : List ℕ) → IsBytes bytes → capacity_at bytes ≡ Ok (n, rest) → Takes bytes (little_bytes 2 n) rest × (n ≤ CAPACITY_LIMIT)
+-- no rule set's capacities are above the limit of all
+pub limit_wide : (rules : RuleSet) → capacity_limit rules ≤ CAPACITY_LIMIT
+limit_wide One = omega arith
+limit_wide Two = omega arith
+limit_wide Three = omega arith
+
+pub capacity_takes : (rules : RuleSet) (bytes : List ℕ) (n : ℕ) (rest : List ℕ) → IsBytes bytes → capacity_at rules bytes ≡ Ok (n, rest) → Takes bytes (little_bytes 2 n) rest × (n ≤ capacity_limit rules)
 unfolding capacity_at
-capacity_takes bytes n rest fits e =
-    let a = bind_ok (number_at bytes) (λ n. checked (between 0 CAPACITY_LIMIT n.0) Limit n) (n, rest) e in
+capacity_takes rules bytes n rest fits e =
+    let a = bind_ok (number_at bytes) (λ n. checked (between 0 (capacity_limit rules) n.0) Limit n) (n, rest) e in
     let t = number_takes bytes a.0.0 a.0.1 fits a.1 in
-    let last = tested (between 0 CAPACITY_LIMIT a.0.0) Limit a.0.0 n a.0.1 rest a.2 in
-    let known = between-true 0 CAPACITY_LIMIT a.0.0 last.0 in
+    let last = tested (between 0 (capacity_limit rules) a.0.0) Limit a.0.0 n a.0.1 rest a.2 in
+    let known = between-true 0 (capacity_limit rules) a.0.0 last.0 in
     let here : Takes bytes (little_bytes 2 a.0.0) rest = subst (λ (r : List ℕ). Takes bytes (little_bytes 2 a.0.0) r) last.2 t.0 in
     (subst (λ (m : ℕ). Takes bytes (little_bytes 2 m) rest) last.1 here, omega (arith, known.1, last.1))
 
-pub capacity_again : (n : ℕ) (rest : List ℕ) → n ≤ CAPACITY_LIMIT → capacity_at (little_bytes 2 n ++ rest) ≡ Ok (n, rest)
+pub capacity_again : (rules : RuleSet) (n : ℕ) (rest : List ℕ) → n ≤ capacity_limit rules → capacity_at rules (little_bytes 2 n ++ rest) ≡ Ok (n, rest)
 unfolding capacity_at
-capacity_again n rest h =
-    ap (λ (r : Result (ℕ × List ℕ) DecodeError). r >>= λ n. checked (between 0 CAPACITY_LIMIT n.0) Limit n) (number_again n rest (omega arith))
-    ∙ ap (λ (b : Bool). checked b Limit (n, rest)) (between-is 0 CAPACITY_LIMIT n (omega arith) h)
+capacity_again rules n rest h =
+    ap (λ (r : Result (ℕ × List ℕ) DecodeError). r >>= λ n. checked (between 0 (capacity_limit rules) n.0) Limit n) (number_again n rest (omega (arith, h, limit_wide rules)))
+    ∙ ap (λ (b : Bool). checked b Limit (n, rest)) (between-is 0 (capacity_limit rules) n (omega arith) h)
 
 -- code after its number of slots
 pub record IsCodeField (is : List Insn) : Type 0 where
@@ -257,6 +265,26 @@ code_field_again is rest h =
     ∙ ap (λ (b : Bool). checked b Limit first >>= λ some. bytes_at (8 * n) (spelling is ++ rest) >>= λ code. code_of code.0 >>= λ js. Ok (js, code.1)) (between-is 1 SLOT_LIMIT n h.some h.few)
     ∙ ap (λ (r : Result (List ℕ × List ℕ) DecodeError). r >>= λ code. code_of code.0 >>= λ js. Ok (js, code.1)) (bytes_again (8 * n) (spelling is) rest (length-spelling is))
     ∙ ap (λ (r : Result (List Insn) DecodeError). r >>= λ js. Ok (js, rest)) (code_again is h.fit)
+
+-- ---- heads
+
+pub heads_take : (rules : RuleSet) (bytes : List ℕ) (n : ℕ) (rest : List ℕ) → IsBytes bytes → heads_at rules bytes ≡ Ok (n, rest) → Takes bytes (heads_bytes rules) rest
+unfolding heads_at
+heads_take One bytes n rest fits e = let s = same_value 0 n bytes rest e in record { parts = s.1; rest_fits = subst (λ (r : List ℕ). IsBytes r) s.1 fits }
+heads_take Two bytes n rest fits e = let s = same_value 0 n bytes rest e in record { parts = s.1; rest_fits = subst (λ (r : List ℕ). IsBytes r) s.1 fits }
+heads_take Three bytes n rest fits e =
+    let a = bind_ok (number_at bytes) (λ n. checked (n.0 == 0) Limit n) (n, rest) e in
+    let t = number_takes bytes a.0.0 a.0.1 fits a.1 in
+    let last = tested (a.0.0 == 0) Limit a.0.0 n a.0.1 rest a.2 in
+    let none : a.0.0 ≡ 0 = eqb-true a.0.0 0 last.0 in
+    let here : Takes bytes (0 ∷ 0 ∷ []) a.0.1 = subst (λ (k : ℕ). Takes bytes (little_bytes 2 k) a.0.1) none t.0 in
+    subst (λ (r : List ℕ). Takes bytes (0 ∷ 0 ∷ []) r) last.2 here
+
+pub heads_again : (rules : RuleSet) (rest : List ℕ) → heads_at rules (heads_bytes rules ++ rest) ≡ Ok (0, rest)
+unfolding heads_at
+heads_again One rest = refl
+heads_again Two rest = refl
+heads_again Three rest = ap (λ (r : Result (ℕ × List ℕ) DecodeError). r >>= λ n. checked (n.0 == 0) Limit n) (number_again 0 rest (omega arith))
 
 -- ---- a name is text
 

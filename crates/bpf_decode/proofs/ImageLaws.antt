@@ -16,13 +16,13 @@ use Rattle.bpf_decode.specs.declared.insn.Insn.{Insn}
 use Rattle.bpf_decode.specs.Instruction.{spelling, slot_total}
 use Rattle.bpf_decode.specs.declared.image.Header.{Header}
 use Rattle.bpf_decode.specs.declared.rule_set.RuleSet.{RuleSet}
-use Rattle.bpf_decode.specs.declared.rule_set.RuleSet.TheVariants.{One, Two}
-use Rattle.bpf_decode.specs.Class.{ClassMethod, IsMethod, NamesRise, IsClass, Class, IsImage, method_bytes, magic, image_bytes}
+use Rattle.bpf_decode.specs.declared.rule_set.RuleSet.TheVariants.{One, Two, Three}
+use Rattle.bpf_decode.specs.Class.{ClassMethod, IsMethod, NamesRise, IsClass, IsWithinSet, AreWithinSet, Class, IsImage, heads_bytes, method_bytes, magic, image_bytes}
 use Rattle.bpf_decode.specs.Reading.{◌>>=◌, checked}
-use Rattle.bpf_decode.specs.ImageReading.{GivesImage, after, name_at, flags_at, capacity_at, code_at, method_at, methods_at, number_at, bytes_at, rules_of, rules_at, header_at, image_of}
+use Rattle.bpf_decode.specs.ImageReading.{GivesImage, after, name_at, flags_at, capacity_at, code_at, heads_at, method_at, methods_at, number_at, bytes_at, rules_of, rules_at, header_at, image_of}
 use Rattle.bpf_decode.proofs.Bytes.{IsBytes, bind_ok, checked_ok}
-use Rattle.bpf_decode.specs.Limits.{between}
-use Rattle.bpf_decode.proofs.ImageFields.{Takes, Takes-then, ok_is, same_value, between-true, between-is, number_takes, number_again, bytes_take, bytes_again, name_takes, name_again, flags_take, flags_again, capacity_takes, capacity_again, IsCodeField, code_field, code_field_takes, code_field_again}
+use Rattle.bpf_decode.specs.Limits.{between, capacity_limit}
+use Rattle.bpf_decode.proofs.ImageFields.{Takes, Takes-then, ok_is, same_value, between-true, between-is, number_takes, number_again, bytes_take, bytes_again, name_takes, name_again, flags_take, flags_again, limit_wide, capacity_takes, capacity_again, IsCodeField, code_field, code_field_takes, code_field_again, heads_take, heads_again}
 use Rattle.bpf_decode.specs.declared.limits.TheConstants.{METHOD_LIMIT}
 
 -- ---- a method
@@ -34,61 +34,71 @@ abbrev made : List ℕ → ℕ → ℕ → ℕ → List Insn → ClassMethod
 made name flags in_cap out_cap is = record { name = name; flags = flags; in_cap = in_cap; out_cap = out_cap; instructions = is }
 
 -- the same of an equal method and an equal rest
-same_method : (before bytes : List ℕ) (m n : ClassMethod) (behind rest : List ℕ) → m ≡ n → behind ≡ rest → Takes bytes (method_bytes m) behind → IsMethod m → above before m.name → Takes bytes (method_bytes n) rest × IsMethod n × above before n.name
-same_method before bytes m n behind rest same end taken known rises =
-    subst (λ (x : ClassMethod). Takes bytes (method_bytes x) rest × IsMethod x × above before x.name) same (subst (λ (r : List ℕ). Takes bytes (method_bytes m) r) end taken, known, rises)
+same_method : (rules : RuleSet) (before bytes : List ℕ) (m n : ClassMethod) (behind rest : List ℕ) → m ≡ n → behind ≡ rest → Takes bytes (method_bytes rules m) behind → IsMethod m → IsWithinSet rules m → above before m.name
+    → Takes bytes (method_bytes rules n) rest × IsMethod n × above before n.name × IsWithinSet rules n
+same_method rules before bytes m n behind rest same end taken known within rises =
+    subst (λ (x : ClassMethod). Takes bytes (method_bytes rules x) rest × IsMethod x × above before x.name × IsWithinSet rules x) same (subst (λ (r : List ℕ). Takes bytes (method_bytes rules m) r) end taken, known, rises, within)
 
-pub method_takes : (before bytes : List ℕ) (m : ClassMethod) (rest : List ℕ) → IsBytes bytes → method_at before bytes ≡ Ok (m, rest) → Takes bytes (method_bytes m) rest × IsMethod m × above before m.name
+pub method_takes : (rules : RuleSet) (before bytes : List ℕ) (m : ClassMethod) (rest : List ℕ) → IsBytes bytes → method_at rules before bytes ≡ Ok (m, rest) → Takes bytes (method_bytes rules m) rest × IsMethod m × above before m.name × IsWithinSet rules m
 unfolding method_at
-method_takes before bytes m rest fits e =
-    let a = bind_ok (name_at before bytes) (λ name. flags_at name.1 >>= λ flags. capacity_at flags.1 >>= λ in_cap. capacity_at in_cap.1 >>= λ out_cap. code_at out_cap.1 >>= λ code. Ok (made name.0 flags.0 in_cap.0 out_cap.0 code.0, code.1)) (m, rest) e in
+method_takes rules before bytes m rest fits e =
+    let a = bind_ok (name_at before bytes) (λ name. flags_at name.1 >>= λ flags. capacity_at rules flags.1 >>= λ in_cap. capacity_at rules in_cap.1 >>= λ out_cap. code_at out_cap.1 >>= λ code. heads_at rules code.1 >>= λ heads. Ok (made name.0 flags.0 in_cap.0 out_cap.0 code.0, heads.1)) (m, rest) e in
     let t0 = name_takes before bytes a.0.0 a.0.1 fits a.1 in
-    let b = bind_ok (flags_at a.0.1) (λ flags. capacity_at flags.1 >>= λ in_cap. capacity_at in_cap.1 >>= λ out_cap. code_at out_cap.1 >>= λ code. Ok (made a.0.0 flags.0 in_cap.0 out_cap.0 code.0, code.1)) (m, rest) a.2 in
+    let b = bind_ok (flags_at a.0.1) (λ flags. capacity_at rules flags.1 >>= λ in_cap. capacity_at rules in_cap.1 >>= λ out_cap. code_at out_cap.1 >>= λ code. heads_at rules code.1 >>= λ heads. Ok (made a.0.0 flags.0 in_cap.0 out_cap.0 code.0, heads.1)) (m, rest) a.2 in
     let t1 = flags_take a.0.1 b.0.0 b.0.1 t0.0.rest_fits b.1 in
-    let c = bind_ok (capacity_at b.0.1) (λ in_cap. capacity_at in_cap.1 >>= λ out_cap. code_at out_cap.1 >>= λ code. Ok (made a.0.0 b.0.0 in_cap.0 out_cap.0 code.0, code.1)) (m, rest) b.2 in
-    let t2 = capacity_takes b.0.1 c.0.0 c.0.1 t1.0.rest_fits c.1 in
-    let d = bind_ok (capacity_at c.0.1) (λ out_cap. code_at out_cap.1 >>= λ code. Ok (made a.0.0 b.0.0 c.0.0 out_cap.0 code.0, code.1)) (m, rest) c.2 in
-    let t3 = capacity_takes c.0.1 d.0.0 d.0.1 t2.0.rest_fits d.1 in
-    let f = bind_ok (code_at d.0.1) (λ code. Ok (made a.0.0 b.0.0 c.0.0 d.0.0 code.0, code.1)) (m, rest) d.2 in
+    let c = bind_ok (capacity_at rules b.0.1) (λ in_cap. capacity_at rules in_cap.1 >>= λ out_cap. code_at out_cap.1 >>= λ code. heads_at rules code.1 >>= λ heads. Ok (made a.0.0 b.0.0 in_cap.0 out_cap.0 code.0, heads.1)) (m, rest) b.2 in
+    let t2 = capacity_takes rules b.0.1 c.0.0 c.0.1 t1.0.rest_fits c.1 in
+    let d = bind_ok (capacity_at rules c.0.1) (λ out_cap. code_at out_cap.1 >>= λ code. heads_at rules code.1 >>= λ heads. Ok (made a.0.0 b.0.0 c.0.0 out_cap.0 code.0, heads.1)) (m, rest) c.2 in
+    let t3 = capacity_takes rules c.0.1 d.0.0 d.0.1 t2.0.rest_fits d.1 in
+    let f = bind_ok (code_at d.0.1) (λ code. heads_at rules code.1 >>= λ heads. Ok (made a.0.0 b.0.0 c.0.0 d.0.0 code.0, heads.1)) (m, rest) d.2 in
     let t4 = code_field_takes d.0.1 f.0.0 f.0.1 t3.0.rest_fits f.1 in
-    let last = same_value (made a.0.0 b.0.0 c.0.0 d.0.0 f.0.0) m f.0.1 rest f.2 in
-    let e34 = Takes-then c.0.1 (little_bytes 2 d.0.0) d.0.1 (code_field f.0.0) f.0.1 t3.0 t4.0 in
-    let e24 = Takes-then b.0.1 (little_bytes 2 c.0.0) c.0.1 (little_bytes 2 d.0.0 ++ code_field f.0.0) f.0.1 t2.0 e34 in
-    let e14 = Takes-then a.0.1 (b.0.0 ∷ []) b.0.1 (little_bytes 2 c.0.0 ++ (little_bytes 2 d.0.0 ++ code_field f.0.0)) f.0.1 t1.0 e24 in
-    let whole : Takes bytes (method_bytes (made a.0.0 b.0.0 c.0.0 d.0.0 f.0.0)) f.0.1 = Takes-then bytes (length a.0.0 ∷ a.0.0) a.0.1 ((b.0.0 ∷ []) ++ (little_bytes 2 c.0.0 ++ (little_bytes 2 d.0.0 ++ code_field f.0.0))) f.0.1 t0.0 e14 in
+    let g = bind_ok (heads_at rules f.0.1) (λ heads. Ok (made a.0.0 b.0.0 c.0.0 d.0.0 f.0.0, heads.1)) (m, rest) f.2 in
+    let t5 = heads_take rules f.0.1 g.0.0 g.0.1 t4.0.rest_fits g.1 in
+    let last = same_value (made a.0.0 b.0.0 c.0.0 d.0.0 f.0.0) m g.0.1 rest g.2 in
+    let e45 = Takes-then d.0.1 (code_field f.0.0) f.0.1 (heads_bytes rules) g.0.1 t4.0 t5 in
+    let e34 = Takes-then c.0.1 (little_bytes 2 d.0.0) d.0.1 (code_field f.0.0 ++ heads_bytes rules) g.0.1 t3.0 e45 in
+    let e24 = Takes-then b.0.1 (little_bytes 2 c.0.0) c.0.1 (little_bytes 2 d.0.0 ++ (code_field f.0.0 ++ heads_bytes rules)) g.0.1 t2.0 e34 in
+    let e14 = Takes-then a.0.1 (b.0.0 ∷ []) b.0.1 (little_bytes 2 c.0.0 ++ (little_bytes 2 d.0.0 ++ (code_field f.0.0 ++ heads_bytes rules))) g.0.1 t1.0 e24 in
+    let whole : Takes bytes (method_bytes rules (made a.0.0 b.0.0 c.0.0 d.0.0 f.0.0)) g.0.1 = Takes-then bytes (length a.0.0 ∷ a.0.0) a.0.1 ((b.0.0 ∷ []) ++ (little_bytes 2 c.0.0 ++ (little_bytes 2 d.0.0 ++ (code_field f.0.0 ++ heads_bytes rules)))) g.0.1 t0.0 e14 in
     let known : IsMethod (made a.0.0 b.0.0 c.0.0 d.0.0 f.0.0) = record {
       named = t0.1.named;
       short = t0.1.short;
       letters = t0.1.letters;
       some_flag = t1.1;
       known_flags = t1.2;
-      in_cap = t2.1;
-      out_cap = t3.1;
+      in_cap = omega (arith, t2.1, limit_wide rules);
+      out_cap = omega (arith, t3.1, limit_wide rules);
       some_slot = t4.1.some;
       slots = t4.1.few;
       fit = t4.1.fit;
     } in
-    same_method before bytes (made a.0.0 b.0.0 c.0.0 d.0.0 f.0.0) m f.0.1 rest last.0 last.1 whole known t0.1.above
+    let within : IsWithinSet rules (made a.0.0 b.0.0 c.0.0 d.0.0 f.0.0) = record { in_cap = t2.1; out_cap = t3.1 } in
+    same_method rules before bytes (made a.0.0 b.0.0 c.0.0 d.0.0 f.0.0) m g.0.1 rest last.0 last.1 whole known within t0.1.above
 
--- the fields after a method's name
-abbrev behind_name : ClassMethod → List ℕ
-behind_name m = m.flags ∷ little_bytes 2 m.in_cap ++ little_bytes 2 m.out_cap ++ little_bytes 2 (slot_total m.instructions) ++ spelling m.instructions
+-- the fields between a method's name and its code, and what follows them
+abbrev behind_name : ClassMethod → List ℕ → List ℕ
+behind_name m code = m.flags ∷ little_bytes 2 m.in_cap ++ little_bytes 2 m.out_cap ++ little_bytes 2 (slot_total m.instructions) ++ code
 
-pub method_again : (before : List ℕ) (m : ClassMethod) (rest : List ℕ) → IsMethod m → above before m.name → method_at before (method_bytes m ++ rest) ≡ Ok (m, rest)
+pub method_again : (rules : RuleSet) (before : List ℕ) (m : ClassMethod) (rest : List ℕ) → IsMethod m → IsWithinSet rules m → above before m.name → method_at rules before (method_bytes rules m ++ rest) ≡ Ok (m, rest)
 unfolding method_at
-method_again before m rest h rises =
-    let regrouped : method_bytes m ++ rest ≡ length m.name ∷ (m.name ++ (behind_name m ++ rest)) = ap (λ (x : List ℕ). length m.name ∷ x) (append_assoc m.name (behind_name m) rest) in
+method_again rules before m rest h within rises =
+    let code_on : List ℕ = spelling m.instructions ++ heads_bytes rules in
+    let heads_on : List ℕ = heads_bytes rules ++ rest in
+    let regrouped : method_bytes rules m ++ rest ≡ length m.name ∷ (m.name ++ behind_name m (spelling m.instructions ++ heads_on)) =
+    ap (λ (x : List ℕ). length m.name ∷ x) (append_assoc m.name (behind_name m code_on) rest)
+    ∙ ap (λ (x : List ℕ). length m.name ∷ (m.name ++ behind_name m x)) (append_assoc (spelling m.instructions) (heads_bytes rules) rest) in
     let code : IsCodeField m.instructions = record { some = h.some_slot; few = h.slots; fit = h.fit } in
-    let after_code : List ℕ = spelling m.instructions ++ rest in
+    let after_code : List ℕ = spelling m.instructions ++ heads_on in
     let after_out : List ℕ = little_bytes 2 (slot_total m.instructions) ++ after_code in
     let after_in : List ℕ = little_bytes 2 m.out_cap ++ after_out in
     let after_flags : List ℕ = little_bytes 2 m.in_cap ++ after_in in
-    ap (method_at before) regrouped
-    ∙ ap (λ (r : Result (List ℕ × List ℕ) DecodeError). r >>= λ name. flags_at name.1 >>= λ flags. capacity_at flags.1 >>= λ in_cap. capacity_at in_cap.1 >>= λ out_cap. code_at out_cap.1 >>= λ code. Ok (made name.0 flags.0 in_cap.0 out_cap.0 code.0, code.1)) (name_again before m.name (m.flags ∷ after_flags) (record { named = h.named; short = h.short; letters = h.letters; above = rises }))
-    ∙ ap (λ (r : Result (ℕ × List ℕ) DecodeError). r >>= λ flags. capacity_at flags.1 >>= λ in_cap. capacity_at in_cap.1 >>= λ out_cap. code_at out_cap.1 >>= λ code. Ok (made m.name flags.0 in_cap.0 out_cap.0 code.0, code.1)) (flags_again m.flags after_flags h.some_flag h.known_flags)
-    ∙ ap (λ (r : Result (ℕ × List ℕ) DecodeError). r >>= λ in_cap. capacity_at in_cap.1 >>= λ out_cap. code_at out_cap.1 >>= λ code. Ok (made m.name m.flags in_cap.0 out_cap.0 code.0, code.1)) (capacity_again m.in_cap after_in h.in_cap)
-    ∙ ap (λ (r : Result (ℕ × List ℕ) DecodeError). r >>= λ out_cap. code_at out_cap.1 >>= λ code. Ok (made m.name m.flags m.in_cap out_cap.0 code.0, code.1)) (capacity_again m.out_cap after_out h.out_cap)
-    ∙ ap (λ (r : Result (List Insn × List ℕ) DecodeError). r >>= λ code. Ok (made m.name m.flags m.in_cap m.out_cap code.0, code.1)) (code_field_again m.instructions rest code)
+    ap (method_at rules before) regrouped
+    ∙ ap (λ (r : Result (List ℕ × List ℕ) DecodeError). r >>= λ name. flags_at name.1 >>= λ flags. capacity_at rules flags.1 >>= λ in_cap. capacity_at rules in_cap.1 >>= λ out_cap. code_at out_cap.1 >>= λ code. heads_at rules code.1 >>= λ heads. Ok (made name.0 flags.0 in_cap.0 out_cap.0 code.0, heads.1)) (name_again before m.name (m.flags ∷ after_flags) (record { named = h.named; short = h.short; letters = h.letters; above = rises }))
+    ∙ ap (λ (r : Result (ℕ × List ℕ) DecodeError). r >>= λ flags. capacity_at rules flags.1 >>= λ in_cap. capacity_at rules in_cap.1 >>= λ out_cap. code_at out_cap.1 >>= λ code. heads_at rules code.1 >>= λ heads. Ok (made m.name flags.0 in_cap.0 out_cap.0 code.0, heads.1)) (flags_again m.flags after_flags h.some_flag h.known_flags)
+    ∙ ap (λ (r : Result (ℕ × List ℕ) DecodeError). r >>= λ in_cap. capacity_at rules in_cap.1 >>= λ out_cap. code_at out_cap.1 >>= λ code. heads_at rules code.1 >>= λ heads. Ok (made m.name m.flags in_cap.0 out_cap.0 code.0, heads.1)) (capacity_again rules m.in_cap after_in within.in_cap)
+    ∙ ap (λ (r : Result (ℕ × List ℕ) DecodeError). r >>= λ out_cap. code_at out_cap.1 >>= λ code. heads_at rules code.1 >>= λ heads. Ok (made m.name m.flags m.in_cap out_cap.0 code.0, heads.1)) (capacity_again rules m.out_cap after_out within.out_cap)
+    ∙ ap (λ (r : Result (List Insn × List ℕ) DecodeError). r >>= λ code. heads_at rules code.1 >>= λ heads. Ok (made m.name m.flags m.in_cap m.out_cap code.0, heads.1)) (code_field_again m.instructions heads_on code)
+    ∙ ap (λ (r : Result (ℕ × List ℕ) DecodeError). r >>= λ heads. Ok (made m.name m.flags m.in_cap m.out_cap m.instructions, heads.1)) (heads_again rules rest)
 
 -- ---- methods
 
@@ -121,31 +131,31 @@ pub after_ok : {A : Type 0} (k : ℕ) (r : Result A DecodeError) (x : A) → aft
 after_ok k (Ok y) x e = ap done_decode (ok_is y x e)
 after_ok k (Err d) x e = absurd cc
 
-pub methods_take : (n k : ℕ) (before bytes : List ℕ) (x : List ClassMethod × List ℕ) → IsBytes bytes → methods_at n k before bytes ≡ Ok x
-    → Takes bytes (flat_map method_bytes x.0) x.1 × (length x.0 ≡ n) × AllByRecursion IsMethod x.0 × RisesFrom before x.0
+pub methods_take : (rules : RuleSet) (n k : ℕ) (before bytes : List ℕ) (x : List ClassMethod × List ℕ) → IsBytes bytes → methods_at rules n k before bytes ≡ Ok x
+    → Takes bytes (flat_map (method_bytes rules) x.0) x.1 × (length x.0 ≡ n) × AllByRecursion IsMethod x.0 × RisesFrom before x.0 × AreWithinSet rules x.0
 unfolding methods_at
-methods_take zero k before bytes x fits e =
-    subst (λ (y : List ClassMethod × List ℕ). Takes bytes (flat_map method_bytes y.0) y.1 × (length y.0 ≡ 0) × AllByRecursion IsMethod y.0 × RisesFrom before y.0) (ok_is ([], bytes) x e) (record { parts = refl; rest_fits = fits }, refl, tt, tt)
-methods_take (suc n) k before bytes x fits e =
-    let a = bind_ok (after k (method_at before bytes)) (λ first. methods_at n (k + 1) first.0.name first.1 >>= λ others. Ok (first.0 ∷ others.0, others.1)) x e in
+methods_take rules zero k before bytes x fits e =
+    subst (λ (y : List ClassMethod × List ℕ). Takes bytes (flat_map (method_bytes rules) y.0) y.1 × (length y.0 ≡ 0) × AllByRecursion IsMethod y.0 × RisesFrom before y.0 × AreWithinSet rules y.0) (ok_is ([], bytes) x e) (record { parts = refl; rest_fits = fits }, refl, tt, tt, tt)
+methods_take rules (suc n) k before bytes x fits e =
+    let a = bind_ok (after k (method_at rules before bytes)) (λ first. methods_at rules n (k + 1) first.0.name first.1 >>= λ others. Ok (first.0 ∷ others.0, others.1)) x e in
     let m = a.0.0 in
-    let b = bind_ok (methods_at n (k + 1) m.name a.0.1) (λ others. Ok (m ∷ others.0, others.1)) x a.2 in
-    let first = method_takes before bytes m a.0.1 fits (after_ok k (method_at before bytes) a.0 a.1) in
-    let second = methods_take n (k + 1) m.name a.0.1 b.0 first.0.rest_fits b.1 in
-    let both = Takes-then bytes (method_bytes m) a.0.1 (flat_map method_bytes b.0.0) b.0.1 first.0 second.0 in
+    let b = bind_ok (methods_at rules n (k + 1) m.name a.0.1) (λ others. Ok (m ∷ others.0, others.1)) x a.2 in
+    let first = method_takes rules before bytes m a.0.1 fits (after_ok k (method_at rules before bytes) a.0 a.1) in
+    let second = methods_take rules n (k + 1) m.name a.0.1 b.0 first.0.rest_fits b.1 in
+    let both = Takes-then bytes (method_bytes rules m) a.0.1 (flat_map (method_bytes rules) b.0.0) b.0.1 first.0 second.0 in
     let built : List ClassMethod × List ℕ = (m ∷ b.0.0, b.0.1) in
-    subst (λ (y : List ClassMethod × List ℕ). Takes bytes (flat_map method_bytes y.0) y.1 × (length y.0 ≡ suc n) × AllByRecursion IsMethod y.0 × RisesFrom before y.0) (ok_is built x b.2)
-    (rw flat_map-cons both, ap suc second.1, (first.1, second.2), (first.2, second.3))
+    subst (λ (y : List ClassMethod × List ℕ). Takes bytes (flat_map (method_bytes rules) y.0) y.1 × (length y.0 ≡ suc n) × AllByRecursion IsMethod y.0 × RisesFrom before y.0 × AreWithinSet rules y.0) (ok_is built x b.2)
+    (rw flat_map-cons both, ap suc second.1, (first.1, second.2), (first.2, second.3), (first.3, second.4))
 
-pub methods_again : (k : ℕ) (before : List ℕ) (ms : List ClassMethod) (rest : List ℕ) → AllByRecursion IsMethod ms → RisesFrom before ms → methods_at (length ms) k before (flat_map method_bytes ms ++ rest) ≡ Ok (ms, rest)
+pub methods_again : (rules : RuleSet) (k : ℕ) (before : List ℕ) (ms : List ClassMethod) (rest : List ℕ) → AllByRecursion IsMethod ms → AreWithinSet rules ms → RisesFrom before ms → methods_at rules (length ms) k before (flat_map (method_bytes rules) ms ++ rest) ≡ Ok (ms, rest)
 unfolding methods_at
-methods_again k before [] rest all rises = refl
-methods_again k before (m ∷ ms) rest all rises =
-    let behind : List ℕ = flat_map method_bytes ms ++ rest in
-    let regrouped : flat_map method_bytes (m ∷ ms) ++ rest ≡ method_bytes m ++ behind = ap (λ (x : List ℕ). x ++ rest) (flat_map-cons method_bytes m ms) ∙ append_assoc (method_bytes m) (flat_map method_bytes ms) rest in
-    ap (methods_at (suc (length ms)) k before) regrouped
-    ∙ ap (λ (r : Result (ClassMethod × List ℕ) DecodeError). after k r >>= λ first. methods_at (length ms) (k + 1) first.0.name first.1 >>= λ others. Ok (first.0 ∷ others.0, others.1)) (method_again before m behind all.0 rises.0)
-    ∙ ap (λ (r : Result (List ClassMethod × List ℕ) ImageError). r >>= λ others. Ok (m ∷ others.0, others.1)) (methods_again (k + 1) m.name ms rest all.1 rises.1)
+methods_again rules k before [] rest all within rises = refl
+methods_again rules k before (m ∷ ms) rest all within rises =
+    let behind : List ℕ = flat_map (method_bytes rules) ms ++ rest in
+    let regrouped : flat_map (method_bytes rules) (m ∷ ms) ++ rest ≡ method_bytes rules m ++ behind = ap (λ (x : List ℕ). x ++ rest) (flat_map-cons (method_bytes rules) m ms) ∙ append_assoc (method_bytes rules m) (flat_map (method_bytes rules) ms) rest in
+    ap (methods_at rules (suc (length ms)) k before) regrouped
+    ∙ ap (λ (r : Result (ClassMethod × List ℕ) DecodeError). after k r >>= λ first. methods_at rules (length ms) (k + 1) first.0.name first.1 >>= λ others. Ok (first.0 ∷ others.0, others.1)) (method_again rules before m behind all.0 within.0 rises.0)
+    ∙ ap (λ (r : Result (List ClassMethod × List ℕ) ImageError). r >>= λ others. Ok (m ∷ others.0, others.1)) (methods_again rules (k + 1) m.name ms rest all.1 within.1 rises.1)
 
 -- ---- the image
 
@@ -153,12 +163,18 @@ abbrev named : RuleSet → Result RuleSet DecodeError
 named rules = Ok rules
 
 -- what names a rule set is its magic
-by_texts : (m : List ℕ) (rules : RuleSet) (one two : Bool) → one ≡ pointwise nat_eq m (codes "RCL1") → two ≡ pointwise nat_eq m (codes "RCL2") → (if one then Ok One else (if two then Ok Two else Err Magic)) ≡ named rules → m ≡ magic rules
-by_texts m One true two e f h = same_text m (codes "RCL1") e
-by_texts m Two true two e f h = absurd cc
-by_texts m One false true e f h = absurd cc
-by_texts m Two false true e f h = same_text m (codes "RCL2") f
-by_texts m rules false false e f h = absurd cc
+by_texts : (m : List ℕ) (rules : RuleSet) (one two three : Bool) → one ≡ pointwise nat_eq m (codes "RCL1") → two ≡ pointwise nat_eq m (codes "RCL2") → three ≡ pointwise nat_eq m (codes "RCL3")
+    → (if one then Ok One else (if two then Ok Two else (if three then Ok Three else Err Magic))) ≡ named rules → m ≡ magic rules
+by_texts m One true two three e f g h = same_text m (codes "RCL1") e
+by_texts m Two true two three e f g h = absurd cc
+by_texts m Three true two three e f g h = absurd cc
+by_texts m One false true three e f g h = absurd cc
+by_texts m Two false true three e f g h = same_text m (codes "RCL2") f
+by_texts m Three false true three e f g h = absurd cc
+by_texts m One false false true e f g h = absurd cc
+by_texts m Two false false true e f g h = absurd cc
+by_texts m Three false false true e f g h = same_text m (codes "RCL3") g
+by_texts m rules false false false e f g h = absurd cc
 
 rules_take : (bytes : List ℕ) (rules : RuleSet) (rest : List ℕ) → IsBytes bytes → rules_at bytes ≡ Ok (rules, rest) → Takes bytes (magic rules) rest
 unfolding rules_at
@@ -166,7 +182,7 @@ rules_take bytes rules rest fits e =
     let a = bind_ok (bytes_at 4 bytes) (λ m. rules_of m.0 >>= λ r. Ok (r, m.1)) (rules, rest) e in
     let t = bytes_take 4 bytes a.0.0 a.0.1 fits a.1 in
     let b = bind_ok (rules_of a.0.0) (λ r. Ok (r, a.0.1)) (rules, rest) a.2 in
-    let is : a.0.0 ≡ magic b.0 = by_texts a.0.0 b.0 (pointwise nat_eq a.0.0 (codes "RCL1")) (pointwise nat_eq a.0.0 (codes "RCL2")) refl refl b.1 in
+    let is : a.0.0 ≡ magic b.0 = by_texts a.0.0 b.0 (pointwise nat_eq a.0.0 (codes "RCL1")) (pointwise nat_eq a.0.0 (codes "RCL2")) (pointwise nat_eq a.0.0 (codes "RCL3")) refl refl refl b.1 in
     let last = same_value b.0 rules a.0.1 rest b.2 in
     let here : Takes bytes (magic b.0) a.0.1 = subst (λ (x : List ℕ). Takes bytes x a.0.1) is t.0 in
     subst (λ (r : RuleSet). Takes bytes (magic r) rest) last.0 (subst (λ (r : List ℕ). Takes bytes (magic b.0) r) last.1 here)
@@ -175,6 +191,7 @@ rules_again : (rules : RuleSet) (rest : List ℕ) → rules_at (magic rules ++ r
 unfolding rules_at
 rules_again One rest = ap (λ (r : Result (List ℕ × List ℕ) DecodeError). r >>= λ m. rules_of m.0 >>= λ s. Ok (s, m.1)) (bytes_again 4 (codes "RCL1") rest refl)
 rules_again Two rest = ap (λ (r : Result (List ℕ × List ℕ) DecodeError). r >>= λ m. rules_of m.0 >>= λ s. Ok (s, m.1)) (bytes_again 4 (codes "RCL2") rest refl)
+rules_again Three rest = ap (λ (r : Result (List ℕ × List ℕ) DecodeError). r >>= λ m. rules_of m.0 >>= λ s. Ok (s, m.1)) (bytes_again 4 (codes "RCL3") rest refl)
 
 abbrev header : RuleSet → ℕ → Header
 header rules count = record { rules = rules; count = count }
@@ -222,34 +239,34 @@ class_with rules ms = record { rules = rules; methods = ms }
 pub image_takes : (bytes : List ℕ) (c : Class) → IsBytes bytes → image_of bytes ≡ Ok c → IsImage bytes c
 unfolding image_of
 image_takes bytes c fits e =
-    let a = bind_ok (after 0 (header_at bytes)) (λ h. methods_at h.0.count 0 [] h.1 >>= λ x. after h.0.count (checked (length x.1 == 0) Trailing (class_with h.0.rules x.0))) c e in
+    let a = bind_ok (after 0 (header_at bytes)) (λ h. methods_at h.0.rules h.0.count 0 [] h.1 >>= λ x. after h.0.count (checked (length x.1 == 0) Trailing (class_with h.0.rules x.0))) c e in
     let h = a.0.0 in
     let n = h.count in
     let t = header_takes bytes h a.0.1 fits (after_ok 0 (header_at bytes) a.0 a.1) in
-    let b = bind_ok (methods_at n 0 [] a.0.1) (λ x. after n (checked (length x.1 == 0) Trailing (class_with h.rules x.0))) c a.2 in
-    let u = methods_take n 0 [] a.0.1 b.0 t.0.rest_fits b.1 in
+    let b = bind_ok (methods_at h.rules n 0 [] a.0.1) (λ x. after n (checked (length x.1 == 0) Trailing (class_with h.rules x.0))) c a.2 in
+    let u = methods_take h.rules n 0 [] a.0.1 b.0 t.0.rest_fits b.1 in
     let last = checked_ok (length b.0.1 == 0) Trailing (class_with h.rules b.0.0) c (after_ok n (checked (length b.0.1 == 0) Trailing (class_with h.rules b.0.0)) c b.2) in
     let nothing : b.0.1 ≡ [] = nil_from_length b.0.1 (eqb-true (length b.0.1) 0 last.0) in
-    let all = flat_map method_bytes b.0.0 in
+    let all = flat_map (method_bytes h.rules) b.0.0 in
     let both = (Takes-then bytes (header_bytes h) a.0.1 all b.0.1 t.0 u.0).parts in
     let whole : bytes ≡ image_bytes (class_with h.rules b.0.0) =
     both ∙ ap (λ (r : List ℕ). (header_bytes h ++ all) ++ r) nothing ∙ append-nil (header_bytes h ++ all) ∙ append_assoc (magic h.rules) (little_bytes 2 n ++ (0 ∷ 0 ∷ [])) all
     ∙ ap (λ (k : ℕ). magic h.rules ++ (little_bytes 2 k ++ (0 ∷ 0 ∷ all))) (sym u.1) ∙ sym (append_assoc (magic h.rules) (little_bytes 2 (length b.0.0)) (0 ∷ 0 ∷ all)) in
     let class : IsClass b.0.0 = record { some = omega (arith, t.1, u.1); limit = omega (arith, t.2, u.1); methods = u.2; names = rises_on [] b.0.0 u.3 } in
-    subst (λ (x : Class). IsImage bytes x) last.1 (record { class = class; spelled = whole })
+    subst (λ (x : Class). IsImage bytes x) last.1 (record { class = class; within = u.4; spelled = whole })
 
-pub image_again : (c : Class) → IsClass c.methods → image_of (image_bytes c) ≡ Ok c
+pub image_again : (c : Class) → IsClass c.methods → AreWithinSet c.rules c.methods → image_of (image_bytes c) ≡ Ok c
 unfolding image_of
-image_again c class =
+image_again c class within =
     let ms = c.methods in
-    let all = flat_map method_bytes ms in
-    let rest : methods_at (length ms) 0 [] all ≡ Ok (ms, []) = ap (methods_at (length ms) 0 []) (sym (append-nil all)) ∙ methods_again 0 [] ms [] class.methods (rises_first ms class.methods class.names) in
+    let all = flat_map (method_bytes c.rules) ms in
+    let rest : methods_at c.rules (length ms) 0 [] all ≡ Ok (ms, []) = ap (methods_at c.rules (length ms) 0 []) (sym (append-nil all)) ∙ methods_again c.rules 0 [] ms [] class.methods within (rises_first ms class.methods class.names) in
     ap image_of (append_assoc (magic c.rules) (little_bytes 2 (length ms)) (0 ∷ 0 ∷ all))
-    ∙ ap (λ (r : Result (Header × List ℕ) DecodeError). after 0 r >>= λ h. methods_at h.0.count 0 [] h.1 >>= λ x. after h.0.count (checked (length x.1 == 0) Trailing (class_with h.0.rules x.0))) (header_again c.rules (length ms) all class.some class.limit)
+    ∙ ap (λ (r : Result (Header × List ℕ) DecodeError). after 0 r >>= λ h. methods_at h.0.rules h.0.count 0 [] h.1 >>= λ x. after h.0.count (checked (length x.1 == 0) Trailing (class_with h.0.rules x.0))) (header_again c.rules (length ms) all class.some class.limit)
     ∙ ap (λ (r : Result (List ClassMethod × List ℕ) ImageError). r >>= λ x. after (length ms) (checked (length x.1 == 0) Trailing (class_with c.rules x.0))) rest
 
 pub image_is : (bytes : List ℕ) (c : Class) → IsImage bytes c → image_of bytes ≡ Ok c
-image_is bytes c image = ap image_of image.spelled ∙ image_again c image.class
+image_is bytes c image = ap image_of image.spelled ∙ image_again c image.class image.within
 
 -- ---- for the callers
 

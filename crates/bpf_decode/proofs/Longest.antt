@@ -10,10 +10,11 @@ use Rattle.bpf_decode.specs.declared.image_error.ImageError.{ImageError}
 use Rattle.bpf_decode.specs.declared.insn.Insn.{Insn}
 use Rattle.bpf_decode.specs.declared.image.Header.{Header}
 use Rattle.bpf_decode.specs.declared.rule_set.RuleSet.{RuleSet}
+use Rattle.bpf_decode.specs.declared.rule_set.RuleSet.TheVariants.{One, Two, Three}
 use Rattle.bpf_decode.specs.Class.{ClassMethod, Class, IsImage}
 use Rattle.bpf_decode.specs.Limits.{is_method_count, is_name_length, are_name_bytes, are_flags, is_capacity, is_slot_count}
 use Rattle.bpf_decode.specs.Reading.{◌>>=◌, checked, code_of}
-use Rattle.bpf_decode.specs.ImageReading.{is_above, after, byte_at, number_at, bytes_at, name_at, flags_at, capacity_at, code_at, method_at, methods_at, rules_of, rules_at, header_at, image_of}
+use Rattle.bpf_decode.specs.ImageReading.{is_above, after, byte_at, number_at, bytes_at, name_at, flags_at, capacity_at, code_at, heads_at, method_at, methods_at, rules_of, rules_at, header_at, image_of}
 use Rattle.bpf_decode.proofs.Bytes.{bind_ok, checked_ok}
 use Rattle.bpf_decode.proofs.ImageFields.{between-true, ok_is}
 use Rattle.bpf_decode.proofs.ImageLaws.{image_is}
@@ -133,7 +134,7 @@ abbrev code_most : ℕ
 code_most = 2 + 8 * SLOT_LIMIT
 
 abbrev method_most : ℕ
-method_most = name_most + (5 + code_most)
+method_most = name_most + (5 + (code_most + 2))
 
 name_local : (before : List ℕ) → Local name_most (name_at before)
 unfolding name_at
@@ -148,9 +149,9 @@ flags_local : Local 1 flags_at
 unfolding flags_at
 flags_local = Local-then 1 0 byte_at (λ flags. checked (are_flags flags.0) Flags flags) byte_local (λ n. Local-tested (are_flags n) Flags n)
 
-capacity_local : Local 2 capacity_at
+capacity_local : (rules : RuleSet) → Local 2 (capacity_at rules)
 unfolding capacity_at
-capacity_local = Local-then 2 0 number_at (λ n. checked (is_capacity n.0) Limit n) number_local (λ n. Local-tested (is_capacity n) Limit n)
+capacity_local rules = Local-then 2 0 number_at (λ n. checked (is_capacity rules n.0) Limit n) number_local (λ n. Local-tested (is_capacity rules n) Limit n)
 
 code_local : Local code_most code_at
 unfolding code_at
@@ -165,14 +166,21 @@ code_local =
 abbrev made : List ℕ → ℕ → ℕ → ℕ → List Insn → ClassMethod
 made name flags in_cap out_cap is = record { name = name; flags = flags; in_cap = in_cap; out_cap = out_cap; instructions = is }
 
-method_local : (before : List ℕ) → Local method_most (method_at before)
+heads_local : (rules : RuleSet) → Local 2 (heads_at rules)
+unfolding heads_at
+heads_local One = Local-more 0 2 (heads_at One) (omega arith) (Local-ok 0)
+heads_local Two = Local-more 0 2 (heads_at Two) (omega arith) (Local-ok 0)
+heads_local Three = Local-then 2 0 number_at (λ n. checked (n.0 == 0) Limit n) number_local (λ n. Local-tested (n == 0) Limit n)
+
+method_local : (rules : RuleSet) (before : List ℕ) → Local method_most (method_at rules before)
 unfolding method_at
-method_local before =
-    Local-then name_most (5 + code_most) (name_at before) (λ name. flags_at name.1 >>= λ flags. capacity_at flags.1 >>= λ in_cap. capacity_at in_cap.1 >>= λ out_cap. code_at out_cap.1 >>= λ code. Ok (made name.0 flags.0 in_cap.0 out_cap.0 code.0, code.1)) (name_local before) (λ name.
-    Local-then 1 (4 + code_most) flags_at (λ flags. capacity_at flags.1 >>= λ in_cap. capacity_at in_cap.1 >>= λ out_cap. code_at out_cap.1 >>= λ code. Ok (made name flags.0 in_cap.0 out_cap.0 code.0, code.1)) flags_local (λ flags.
-    Local-then 2 (2 + code_most) capacity_at (λ in_cap. capacity_at in_cap.1 >>= λ out_cap. code_at out_cap.1 >>= λ code. Ok (made name flags in_cap.0 out_cap.0 code.0, code.1)) capacity_local (λ in_cap.
-    Local-then 2 code_most capacity_at (λ out_cap. code_at out_cap.1 >>= λ code. Ok (made name flags in_cap out_cap.0 code.0, code.1)) capacity_local (λ out_cap.
-    Local-then code_most 0 code_at (λ code. Ok (made name flags in_cap out_cap code.0, code.1)) code_local (λ code. Local-ok (made name flags in_cap out_cap code))))))
+method_local rules before =
+    Local-then name_most (5 + (code_most + 2)) (name_at before) (λ name. flags_at name.1 >>= λ flags. capacity_at rules flags.1 >>= λ in_cap. capacity_at rules in_cap.1 >>= λ out_cap. code_at out_cap.1 >>= λ code. heads_at rules code.1 >>= λ heads. Ok (made name.0 flags.0 in_cap.0 out_cap.0 code.0, heads.1)) (name_local before) (λ name.
+    Local-then 1 (4 + (code_most + 2)) flags_at (λ flags. capacity_at rules flags.1 >>= λ in_cap. capacity_at rules in_cap.1 >>= λ out_cap. code_at out_cap.1 >>= λ code. heads_at rules code.1 >>= λ heads. Ok (made name flags.0 in_cap.0 out_cap.0 code.0, heads.1)) flags_local (λ flags.
+    Local-then 2 (2 + (code_most + 2)) (capacity_at rules) (λ in_cap. capacity_at rules in_cap.1 >>= λ out_cap. code_at out_cap.1 >>= λ code. heads_at rules code.1 >>= λ heads. Ok (made name flags in_cap.0 out_cap.0 code.0, heads.1)) (capacity_local rules) (λ in_cap.
+    Local-then 2 (code_most + 2) (capacity_at rules) (λ out_cap. code_at out_cap.1 >>= λ code. heads_at rules code.1 >>= λ heads. Ok (made name flags in_cap out_cap.0 code.0, heads.1)) (capacity_local rules) (λ out_cap.
+    Local-then code_most 2 code_at (λ code. heads_at rules code.1 >>= λ heads. Ok (made name flags in_cap out_cap code.0, heads.1)) code_local (λ code.
+    Local-then 2 0 (heads_at rules) (λ heads. Ok (made name flags in_cap out_cap code, heads.1)) (heads_local rules) (λ heads. Local-ok (made name flags in_cap out_cap code)))))))
 
 after_same : {A : Type 0} (done : ℕ) (more : List ℕ) (read whole : Result (A × List ℕ) DecodeError) → whole ≡ longer more read → after done whole ≡ longer more (after done read)
 after_same done more (Ok x) whole e = rw e refl
@@ -188,13 +196,13 @@ Local-after done k read l = record {
   few = λ front. after_leaves done k front (read front) (l.few front);
 }
 
-methods_local : (n done : ℕ) (before : List ℕ) → Local (n * method_most) (methods_at n done before)
+methods_local : (rules : RuleSet) (n done : ℕ) (before : List ℕ) → Local (n * method_most) (methods_at rules n done before)
 unfolding methods_at
-methods_local zero done before = Local-ok []
-methods_local (suc n) done before =
-    Local-more (method_most + (n * method_most + 0)) (suc n * method_most) (methods_at (suc n) done before) (omega arith)
-    (Local-then method_most (n * method_most + 0) (λ bytes. after done (method_at before bytes)) (λ first. methods_at n (done + 1) first.0.name first.1 >>= λ others. Ok (first.0 ∷ others.0, others.1)) (Local-after done method_most (method_at before) (method_local before)) (λ first.
-    Local-then (n * method_most) 0 (methods_at n (done + 1) first.name) (λ others. Ok (first ∷ others.0, others.1)) (methods_local n (done + 1) first.name) (λ others. Local-ok (first ∷ others))))
+methods_local rules zero done before = Local-ok []
+methods_local rules (suc n) done before =
+    Local-more (method_most + (n * method_most + 0)) (suc n * method_most) (methods_at rules (suc n) done before) (omega arith)
+    (Local-then method_most (n * method_most + 0) (λ bytes. after done (method_at rules before bytes)) (λ first. methods_at rules n (done + 1) first.0.name first.1 >>= λ others. Ok (first.0 ∷ others.0, others.1)) (Local-after done method_most (method_at rules before) (method_local rules before)) (λ first.
+    Local-then (n * method_most) 0 (methods_at rules n (done + 1) first.name) (λ others. Ok (first ∷ others.0, others.1)) (methods_local rules n (done + 1) first.name) (λ others. Local-ok (first ∷ others))))
 
 -- ---- the image
 
@@ -250,12 +258,12 @@ methods_end : (h : Header) (k : ℕ) (front more : List ℕ) → k + 1 ≤ lengt
 methods_end h k front more long (Ok x) whole e l = rw e (end_same h x.0 x.1 more (omega (arith, long, l)))
 methods_end h k front more long (Err d) whole e l = rw e refl
 
-behind_header : (front more : List ℕ) → IMAGE_LIMIT + 1 ≤ length front → (read whole : Result (Header × List ℕ) DecodeError) → ((h : Header × List ℕ) → read ≡ Ok h → h.0.count ≤ METHOD_LIMIT) → whole ≡ longer more read → Leaves 8 front read → (after 0 whole >>= λ h. methods_at h.0.count 0 [] h.1 >>= at_end h.0) ≡ (after 0 read >>= λ h. methods_at h.0.count 0 [] h.1 >>= at_end h.0)
+behind_header : (front more : List ℕ) → IMAGE_LIMIT + 1 ≤ length front → (read whole : Result (Header × List ℕ) DecodeError) → ((h : Header × List ℕ) → read ≡ Ok h → h.0.count ≤ METHOD_LIMIT) → whole ≡ longer more read → Leaves 8 front read → (after 0 whole >>= λ h. methods_at h.0.rules h.0.count 0 [] h.1 >>= at_end h.0) ≡ (after 0 read >>= λ h. methods_at h.0.rules h.0.count 0 [] h.1 >>= at_end h.0)
 behind_header front more long (Ok h) whole few e l =
     let n = few h refl in
-    let m = methods_local h.0.count 0 [] in
+    let m = methods_local h.0.rules h.0.count 0 [] in
     let rest : h.0.count * method_most + 1 ≤ length h.1 = omega (arith, long, l, n) in
-    rw e (methods_end h.0 (h.0.count * method_most) h.1 more rest (methods_at h.0.count 0 [] h.1) (methods_at h.0.count 0 [] (h.1 ++ more)) (m.same h.1 more (omega (arith, rest))) (m.few h.1))
+    rw e (methods_end h.0 (h.0.count * method_most) h.1 more rest (methods_at h.0.rules h.0.count 0 [] h.1) (methods_at h.0.rules h.0.count 0 [] (h.1 ++ more)) (m.same h.1 more (omega (arith, rest))) (m.few h.1))
 behind_header front more long (Err d) whole few e l = rw e refl
 
 -- bytes after the first `IMAGE_LIMIT + 1` change no answer
@@ -284,10 +292,10 @@ methods_refused : (h : Header) (k : ℕ) (front : List ℕ) (out : Class) (read 
 methods_refused h k front out (Ok x) long l e = end_refused h x.0 x.1 out (omega (arith, long, l)) e
 methods_refused h k front out (Err d) long l e = absurd cc
 
-header_refused : (front : List ℕ) (out : Class) (read : Result (Header × List ℕ) DecodeError) → IMAGE_LIMIT + 1 ≤ length front → ((h : Header × List ℕ) → read ≡ Ok h → h.0.count ≤ METHOD_LIMIT) → Leaves 8 front read → (after 0 read >>= λ h. methods_at h.0.count 0 [] h.1 >>= at_end h.0) ≡ Ok out → ⊥
+header_refused : (front : List ℕ) (out : Class) (read : Result (Header × List ℕ) DecodeError) → IMAGE_LIMIT + 1 ≤ length front → ((h : Header × List ℕ) → read ≡ Ok h → h.0.count ≤ METHOD_LIMIT) → Leaves 8 front read → (after 0 read >>= λ h. methods_at h.0.rules h.0.count 0 [] h.1 >>= at_end h.0) ≡ Ok out → ⊥
 header_refused front out (Ok h) long few l e =
     let n = few h refl in
-    methods_refused h.0 (h.0.count * method_most) h.1 out (methods_at h.0.count 0 [] h.1) (omega (arith, long, l, n)) ((methods_local h.0.count 0 []).few h.1) e
+    methods_refused h.0 (h.0.count * method_most) h.1 out (methods_at h.0.rules h.0.count 0 [] h.1) (omega (arith, long, l, n)) ((methods_local h.0.rules h.0.count 0 []).few h.1) e
 header_refused front out (Err d) long few l e = absurd cc
 
 refused : (bytes : List ℕ) (c : Class) → IMAGE_LIMIT + 1 ≤ length bytes → image_of bytes ≡ Ok c → ⊥

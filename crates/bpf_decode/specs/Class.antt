@@ -1,4 +1,4 @@
--- The class images `RCL1` and `RCL2`: what a class is, and the one spelling of each.
+-- The class images `RCL1`, `RCL2` and `RCL3`: what a class is, and the one spelling of each.
 use Rattle.std.specs.Prelude.{◌≡◌, ℕ, ◌≤◌, List, [], ◌∷◌, ◌++◌, ◌⊎◌, length, codes}
 use Rattle.std.specs.Ordering.{nat_cmp}
 use Rattle.std.specs.List.{flat_map, AllByRecursion}
@@ -7,9 +7,10 @@ use Rattle.std.specs.declared.cmp.Ordering.TheVariants.{Less}
 use Rattle.byteorder.specs.Endian.{little_bytes}
 use Rattle.bpf_decode.specs.declared.insn.Insn.{Insn}
 use Rattle.bpf_decode.specs.declared.rule_set.RuleSet.{RuleSet}
-use Rattle.bpf_decode.specs.declared.rule_set.RuleSet.TheVariants.{One, Two}
+use Rattle.bpf_decode.specs.declared.rule_set.RuleSet.TheVariants.{One, Two, Three}
 use Rattle.bpf_decode.specs.declared.limits.TheConstants.{METHOD_LIMIT, NAME_LIMIT, CAPACITY_LIMIT, SLOT_LIMIT}
 use Rattle.bpf_decode.specs.Instruction.{AllFit, spelling, slot_total}
+use Rattle.bpf_decode.specs.Limits.{capacity_limit}
 
 -- a method without where it lies in memory
 pub record ClassMethod : Type 0 where
@@ -23,7 +24,7 @@ pub record ClassMethod : Type 0 where
 abbrev pub IsNameByte : ℕ → Type 0
 IsNameByte b = ((97 ≤ b) × (b ≤ 122)) ⊎ ((48 ≤ b) × (b ≤ 57)) ⊎ (b ≡ 95)
 
--- a method within the limits
+-- a method within the limits that all rule sets have
 pub record IsMethod (m : ClassMethod) : Type 0 where
   pub named : 1 ≤ length m.name
   pub short : length m.name ≤ NAME_LIMIT
@@ -49,12 +50,27 @@ pub record IsClass (ms : List ClassMethod) : Type 0 where
   pub methods : AllByRecursion IsMethod ms
   pub names : NamesRise ms
 
--- a method's bytes: its name after its length, flags, in_cap, out_cap, the number of slots, and its
--- code
-abbrev pub method_bytes : ClassMethod → List ℕ
-method_bytes m =
+-- a method whose capacities a rule set allows
+pub record IsWithinSet (rules : RuleSet) (m : ClassMethod) : Type 0 where
+  pub in_cap : m.in_cap ≤ capacity_limit rules
+  pub out_cap : m.out_cap ≤ capacity_limit rules
+
+-- methods whose capacities a rule set allows
+abbrev pub AreWithinSet : RuleSet → List ClassMethod → Type 0
+AreWithinSet rules ms = AllByRecursion (IsWithinSet rules) ms
+
+-- what follows a method's code: in rule set 3 the number of its heads, which is 0
+abbrev pub heads_bytes : RuleSet → List ℕ
+heads_bytes One = []
+heads_bytes Two = []
+heads_bytes Three = 0 ∷ 0 ∷ []
+
+-- a method's bytes: its name after its length, flags, in_cap, out_cap, the number of slots, its
+-- code, and its heads
+abbrev pub method_bytes : RuleSet → ClassMethod → List ℕ
+method_bytes rules m =
     (length m.name ∷ m.name)
-    ++ (m.flags ∷ little_bytes 2 m.in_cap ++ little_bytes 2 m.out_cap ++ little_bytes 2 (slot_total m.instructions) ++ spelling m.instructions)
+    ++ (m.flags ∷ little_bytes 2 m.in_cap ++ little_bytes 2 m.out_cap ++ little_bytes 2 (slot_total m.instructions) ++ spelling m.instructions ++ heads_bytes rules)
 
 -- a class as it is written: by which rules it is verified, and its methods
 pub record Class : Type 0 where
@@ -65,12 +81,14 @@ pub record Class : Type 0 where
 abbrev pub magic : RuleSet → List ℕ
 magic One = codes "RCL1"
 magic Two = codes "RCL2"
+magic Three = codes "RCL3"
 
 -- a class's bytes: its magic, the number of methods, a zero number, and each method
 abbrev pub image_bytes : Class → List ℕ
-image_bytes c = magic c.rules ++ little_bytes 2 (length c.methods) ++ (0 ∷ 0 ∷ flat_map method_bytes c.methods)
+image_bytes c = magic c.rules ++ little_bytes 2 (length c.methods) ++ (0 ∷ 0 ∷ flat_map (method_bytes c.rules) c.methods)
 
 -- The grammar of images: the bytes spell the class, and nothing else.
 pub record IsImage (bytes : List ℕ) (c : Class) : Type 0 where
   pub class : IsClass c.methods
+  pub within : AreWithinSet c.rules c.methods
   pub spelled : bytes ≡ image_bytes c

@@ -10,7 +10,7 @@ use Rattle.bpf_decode.specs.declared.insn.Insn.{Insn}
 use Rattle.bpf_decode.specs.Instruction.{slot_total}
 use Rattle.bpf_decode.specs.declared.image.Header.{Header}
 use Rattle.bpf_decode.specs.declared.rule_set.RuleSet.{RuleSet}
-use Rattle.bpf_decode.specs.declared.rule_set.RuleSet.TheVariants.{One, Two}
+use Rattle.bpf_decode.specs.declared.rule_set.RuleSet.TheVariants.{One, Two, Three}
 use Rattle.bpf_decode.specs.Class.{ClassMethod, Class}
 use Rattle.bpf_decode.specs.Limits.{is_method_count, is_name_length, are_name_bytes, are_flags, is_capacity, is_slot_count}
 use Rattle.bpf_decode.specs.Reading.{◌>>=◌, checked, code_of}
@@ -46,10 +46,10 @@ flags_at bytes = do
   flags ← byte_at bytes
   checked (are_flags flags.0) Flags flags
 
-unfoldable pub capacity_at : List ℕ → Result (ℕ × List ℕ) DecodeError
-capacity_at bytes = do
+unfoldable pub capacity_at : RuleSet → List ℕ → Result (ℕ × List ℕ) DecodeError
+capacity_at rules bytes = do
   n ← number_at bytes
-  checked (is_capacity n.0) Limit n
+  checked (is_capacity rules n.0) Limit n
 
 -- code after its number of slots
 unfoldable pub code_at : List ℕ → Result (List Insn × List ℕ) DecodeError
@@ -60,19 +60,32 @@ code_at bytes = do
   is ← code_of code.0
   Ok (is, code.1)
 
+-- the number of a method's heads, which has to be 0: only in rule set 3 it is written
+unfoldable pub heads_at : RuleSet → List ℕ → Result (ℕ × List ℕ) DecodeError
+heads_at One bytes = Ok (0, bytes)
+heads_at Two bytes = Ok (0, bytes)
+heads_at Three bytes = do
+  n ← number_at bytes
+  checked (n.0 == 0) Limit n
+
 -- a method after the name of the one before it
-unfoldable pub method_at : List ℕ → List ℕ → Result (ClassMethod × List ℕ) DecodeError
-method_at before bytes = do
+unfoldable pub method_at : RuleSet → List ℕ → List ℕ → Result (ClassMethod × List ℕ) DecodeError
+method_at rules before bytes = do
   name ← name_at before bytes
   flags ← flags_at name.1
-  in_cap ← capacity_at flags.1
-  out_cap ← capacity_at in_cap.1
+  in_cap ← capacity_at rules flags.1
+  out_cap ← capacity_at rules in_cap.1
   code ← code_at out_cap.1
-  Ok (record { name = name.0; flags = flags.0; in_cap = in_cap.0; out_cap = out_cap.0; instructions = code.0 }, code.1)
+  heads ← heads_at rules code.1
+  Ok (record { name = name.0; flags = flags.0; in_cap = in_cap.0; out_cap = out_cap.0; instructions = code.0 }, heads.1)
 
 -- the rule set that four bytes name
 abbrev pub rules_of : List ℕ → Result RuleSet DecodeError
-rules_of magic = if pointwise nat_eq magic (codes "RCL1") then Ok One else (if pointwise nat_eq magic (codes "RCL2") then Ok Two else Err Magic)
+rules_of magic =
+    if pointwise nat_eq magic (codes "RCL1") then Ok One
+    else (if pointwise nat_eq magic (codes "RCL2") then Ok Two
+    else (if pointwise nat_eq magic (codes "RCL3") then Ok Three
+    else Err Magic))
 
 unfoldable pub rules_at : List ℕ → Result (RuleSet × List ℕ) DecodeError
 rules_at bytes = do
@@ -98,13 +111,13 @@ after methods (Ok x) = Ok x
 after methods (Err e) = Err (record { methods = methods; error = e })
 
 -- n methods, when that many were read before, the last of that name
-unfoldable pub methods_at : ℕ → ℕ → List ℕ → List ℕ → Result (List ClassMethod × List ℕ) ImageError
-methods_at zero done before bytes = Ok ([], bytes)
-methods_at (suc n) done before bytes = after done (method_at before bytes) >>= λ first. methods_at n (done + 1) first.0.name first.1 >>= λ others. Ok (first.0 ∷ others.0, others.1)
+unfoldable pub methods_at : RuleSet → ℕ → ℕ → List ℕ → List ℕ → Result (List ClassMethod × List ℕ) ImageError
+methods_at rules zero done before bytes = Ok ([], bytes)
+methods_at rules (suc n) done before bytes = after done (method_at rules before bytes) >>= λ first. methods_at rules n (done + 1) first.0.name first.1 >>= λ others. Ok (first.0 ∷ others.0, others.1)
 
 -- all of the bytes
 unfoldable pub image_of : List ℕ → Result Class ImageError
-image_of bytes = after 0 (header_at bytes) >>= λ h. methods_at h.0.count 0 [] h.1 >>= λ ms. after h.0.count (checked (length ms.1 == 0) Trailing (record { rules = h.0.rules; methods = ms.0 }))
+image_of bytes = after 0 (header_at bytes) >>= λ h. methods_at h.0.rules h.0.count 0 [] h.1 >>= λ ms. after h.0.count (checked (length ms.1 == 0) Trailing (record { rules = h.0.rules; methods = ms.0 }))
 
 -- What reading an image returned is what the definition gives, unless memory ran out.
 abbrev pub GivesImage : {X Y : Type 0} → (X → Y) → Result X ImageError → Result Y ImageError → Type 0
@@ -112,21 +125,21 @@ GivesImage view (Ok x) read = read ≡ Ok (view x)
 GivesImage view (Err e) read = (e.error ≡ NoMemory) ⊎ (read ≡ Err e)
 
 -- n methods are read whole, of bytes that are to have more
-pub record ReadsSoFar (count : ℕ) (bytes : List ℕ) (n : ℕ) : Type 0 where
+pub record ReadsSoFar (rules : RuleSet) (count : ℕ) (bytes : List ℕ) (n : ℕ) : Type 0 where
   pub methods : List ClassMethod
   pub behind : List ℕ
   pub more : n < count
-  pub read : methods_at n 0 [] bytes ≡ Ok (methods, behind)
+  pub read : methods_at rules n 0 [] bytes ≡ Ok (methods, behind)
 
-abbrev pub RefusesMethods : ℕ → List ℕ → ImageError → Type 0
-RefusesMethods count bytes e = ((e.error ≡ NoMemory) × ReadsSoFar count bytes e.methods) ⊎ (methods_at count 0 [] bytes ≡ Err e)
+abbrev pub RefusesMethods : RuleSet → ℕ → List ℕ → ImageError → Type 0
+RefusesMethods rules count bytes e = ((e.error ≡ NoMemory) × ReadsSoFar rules count bytes e.methods) ⊎ (methods_at rules count 0 [] bytes ≡ Err e)
 
 -- n methods of an image are read whole, and it is to have more
 pub record ReadsMethods (bytes : List ℕ) (n : ℕ) : Type 0 where
   pub header : Header
   pub rest : List ℕ
   pub read : header_at bytes ≡ Ok (header, rest)
-  pub so_far : ReadsSoFar header.count rest n
+  pub so_far : ReadsSoFar header.rules header.count rest n
 
 -- A refusal is the one that reading gives, or want of memory after as many methods as it says.
 abbrev pub RefusesImage : List ℕ → ImageError → Type 0
@@ -135,24 +148,24 @@ RefusesImage bytes e = ((e.error ≡ NoMemory) × ReadsMethods bytes e.methods) 
 -- ---- methods that are given
 
 -- a method after the name of the one before it
-abbrev pub method_after : List ℕ → ClassMethod → Result ClassMethod DecodeError
-method_after before m = do
+abbrev pub method_after : RuleSet → List ℕ → ClassMethod → Result ClassMethod DecodeError
+method_after rules before m = do
   sized ← checked (is_name_length (length m.name)) Name m
   lettered ← checked (are_name_bytes m.name) Name m
   above ← checked (is_above before m.name) Order m
   flagged ← checked (are_flags m.flags) Flags m
-  read ← checked (is_capacity m.in_cap) Limit m
-  written ← checked (is_capacity m.out_cap) Limit m
+  read ← checked (is_capacity rules m.in_cap) Limit m
+  written ← checked (is_capacity rules m.out_cap) Limit m
   checked (is_slot_count (slot_total m.instructions)) Limit m
 
-unfoldable pub methods_after : ℕ → List ℕ → List ClassMethod → Result (List ClassMethod) ImageError
-methods_after done before [] = Ok []
-methods_after done before (m ∷ ms) = after done (method_after before m) >>= λ first. methods_after (done + 1) m.name ms >>= λ others. Ok (first ∷ others)
+unfoldable pub methods_after : RuleSet → ℕ → List ℕ → List ClassMethod → Result (List ClassMethod) ImageError
+methods_after rules done before [] = Ok []
+methods_after rules done before (m ∷ ms) = after done (method_after rules before m) >>= λ first. methods_after rules (done + 1) m.name ms >>= λ others. Ok (first ∷ others)
 
 -- methods that are a class's, or the first refusal in the order of an image's fields
-unfoldable pub methods_of : List ClassMethod → Result (List ClassMethod) ImageError
-methods_of ms = after 0 (checked (is_method_count (length ms)) Limit ms) >>= λ some. methods_after 0 [] ms
+unfoldable pub methods_of : RuleSet → List ClassMethod → Result (List ClassMethod) ImageError
+methods_of rules ms = after 0 (checked (is_method_count (length ms)) Limit ms) >>= λ some. methods_after rules 0 [] ms
 
 -- a class of that rule set and those methods, or the first refusal
 abbrev pub class_of : RuleSet → List ClassMethod → Result Class ImageError
-class_of rules ms = methods_of ms >>= λ passed. Ok (record { rules = rules; methods = passed })
+class_of rules ms = methods_of rules ms >>= λ passed. Ok (record { rules = rules; methods = passed })

@@ -1,7 +1,9 @@
 -- What a class's numbers and names may be, as tests. The numbers are the constants of
 -- src/limits.rt.
 use Rattle.std.specs.Prelude.{ℕ, ◌==◌, ◌&&◌, ◌||◌, nat_le, Bool, true, List, [], ◌∷◌, length}
-use Rattle.bpf_decode.specs.declared.limits.TheConstants.{METHOD_LIMIT, NAME_LIMIT, CAPACITY_LIMIT, SLOT_LIMIT}
+use Rattle.bpf_decode.specs.declared.limits.TheConstants.{METHOD_LIMIT, NAME_LIMIT, NARROW_CAPACITY_LIMIT, CAPACITY_LIMIT, SLOT_LIMIT}
+use Rattle.bpf_decode.specs.declared.rule_set.RuleSet.{RuleSet}
+use Rattle.bpf_decode.specs.declared.rule_set.RuleSet.TheVariants.{One, Two, Three}
 
 -- from low to high
 abbrev pub between : ℕ → ℕ → ℕ → Bool
@@ -31,9 +33,15 @@ is_method_name name = is_name_length (length name) && are_name_bytes name
 abbrev pub are_flags : ℕ → Bool
 are_flags n = between 1 3 n
 
--- how many bytes input and output may have
-abbrev pub is_capacity : ℕ → Bool
-is_capacity n = between 0 CAPACITY_LIMIT n
+-- the greatest capacity of a rule set's methods
+abbrev pub capacity_limit : RuleSet → ℕ
+capacity_limit One = NARROW_CAPACITY_LIMIT
+capacity_limit Two = NARROW_CAPACITY_LIMIT
+capacity_limit Three = CAPACITY_LIMIT
+
+-- how many bytes input and output may have by a rule set
+abbrev pub is_capacity : RuleSet → ℕ → Bool
+is_capacity rules n = between 0 (capacity_limit rules) n
 
 -- how many slots a method may have
 abbrev pub is_slot_count : ℕ → Bool

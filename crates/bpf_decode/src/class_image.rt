@@ -1,5 +1,5 @@
 ghost use Rattle.std.specs.Prelude.{◌≡◌, IfOk};
-ghost use Rattle.bpf_decode.specs.Class.{IsClass};
+ghost use Rattle.bpf_decode.specs.Class.{IsClass, AreWithinSet};
 ghost use Rattle.bpf_decode.specs.Instruction.{AllFit};
 ghost use Rattle.bpf_decode.specs.Reading.{Reads};
 ghost use Rattle.bpf_decode.specs.ImageReading.{method_after, methods_of, class_of};
@@ -12,8 +12,8 @@ use crate::method::Method;
 use crate::rule_set::RuleSet;
 use std::marker::Model;
 
-/// A class: its rule set, and 1 to 32 methods within the limits, by rising names. Contracts see a
-/// `Class`.
+/// A class: its rule set, and 1 to 32 methods within the limits and those of the rule set, by rising
+/// names. Contracts see a `Class`.
 pub struct ClassImage {
     rules: RuleSet,
     methods: Vec<Method>,
@@ -27,13 +27,13 @@ impl Drop for ClassImage {
 }
 
 impl Model for ClassImage {
-    ghost use Rattle.bpf_decode.specs.Class.{Class, IsClass};
+    ghost use Rattle.bpf_decode.specs.Class.{Class, IsClass, AreWithinSet};
 
     ghost Value = { Class };
 
     ghost view = { λ c. record { rules = c.rules; methods = c.methods.items } };
 
-    ghost invariant = { λ c. IsClass c.methods.items };
+    ghost invariant = { λ c. IsClass c.methods.items × AreWithinSet c.rules c.methods.items };
 }
 
 impl ClassImage {
@@ -43,14 +43,14 @@ impl ClassImage {
     ///
     /// Refusals, in the order of the image's fields, with the number of methods that are right
     /// before it: `Limit` for their count; of a method `Name`, `Order`, `Flags`, and `Limit` for a
-    /// capacity or its slots. Such methods may have no image (a name of 300 bytes has no length
+    /// capacity above the rule set's `capacity_limit`, or its slots. Such methods may have no image (a name of 300 bytes has no length
     /// byte), so this order is a definition of its own.
     pub fn new(methods: Vec<Method>, rules: RuleSet) -> Result<ClassImage, ImageError>
         ensures exact { result ≡ class_of rules methods.items }
-        ensures accepts { IsOk result ↔ IsClass methods.items }
+        ensures accepts { IsOk result ↔ (IsClass methods.items × AreWithinSet rules methods.items) }
         ensures value { IfOk result (λ c. c ≡ record { rules = rules; methods = methods.items }) }
     {
-        match check_methods(&methods) {
+        match check_methods(rules, &methods) {
             Ok(()) => Ok(ClassImage { rules, methods }),
             Err(error) => Err(error),
         }
@@ -59,18 +59,19 @@ impl ClassImage {
     /// The class of methods that were tested while they were read, as `new` tests them: nothing is
     /// tested again.
     pub fn tested(methods: Vec<Method>, rules: RuleSet) -> ClassImage
-        requires { methods_of methods.items ≡ Ok methods.items }
+        requires { methods_of rules methods.items ≡ Ok methods.items }
         ensures { result ≡ record { rules = rules; methods = methods.items } }
     {
-        // For the proof: `check_methods` gives `IsClass` of the methods, the invariant. Nothing of
-        // it runs.
-        prove!(check_methods(&methods).is_ok());
+        // For the proof: `check_methods` gives `IsClass` and `AreWithinSet` of the methods, the
+        // invariant. Nothing of it runs.
+        prove!(check_methods(rules, &methods).is_ok());
         ClassImage { rules, methods }
     }
 
-    /// A class of methods that are within the limits, by rising names.
+    /// A class of methods that are within the limits and those of the rule set, by rising names.
     pub(crate) fn of(rules: RuleSet, methods: Vec<Method>) -> ClassImage
-        requires { IsClass methods.items }
+        requires class { IsClass methods.items }
+        requires within { AreWithinSet rules methods.items }
         ensures { result ≡ record { rules = rules; methods = methods.items } }
     {
         ClassImage { rules, methods }
@@ -87,15 +88,17 @@ impl ClassImage {
     pub fn methods(&self) -> &[Method]
         ensures methods { result.now ≡ self.now.methods }
         ensures class { IsClass self.now.methods }
+        ensures within { AreWithinSet self.now.rules self.now.methods }
     {
         &self.methods
     }
 }
 
-/// Tests that the methods may form a class. Returns the first refusal otherwise.
-fn check_methods(methods: &[Method]) -> Result<(), ImageError>
-    ensures read { Reads (λ _. methods.now) result (methods_of methods.now) }
+/// Tests that the methods may form a class of that rule set. Returns the first refusal otherwise.
+fn check_methods(rules: RuleSet, methods: &[Method]) -> Result<(), ImageError>
+    ensures read { Reads (λ _. methods.now) result (methods_of rules methods.now) }
     ensures class { IfOk result (λ _. IsClass methods.now) }
+    ensures within { IfOk result (λ _. AreWithinSet rules methods.now) }
 {
     if !limits::is_method_count(methods.len()) {
         return Err(ImageError::after(0, DecodeError::Limit));
@@ -103,7 +106,7 @@ fn check_methods(methods: &[Method]) -> Result<(), ImageError>
     let mut before: &[u8] = &[];
     for done in 0..methods.len() {
         let method = &methods[done];
-        match check_method(before, method) {
+        match check_method(rules, before, method) {
             Ok(()) => before = method.name().as_bytes(),
             Err(error) => return Err(ImageError::after(done, error)),
         }
@@ -111,9 +114,10 @@ fn check_methods(methods: &[Method]) -> Result<(), ImageError>
     Ok(())
 }
 
-/// Tests a method, which follows one of the name `before`. Returns its first refusal otherwise.
-fn check_method(before: &[u8], method: &Method) -> Result<(), DecodeError>
-    ensures read { Reads (λ _. method.now) result (method_after before.now method.now) }
+/// Tests a method of that rule set, which follows one of the name `before`. Returns its first
+/// refusal otherwise.
+fn check_method(rules: RuleSet, before: &[u8], method: &Method) -> Result<(), DecodeError>
+    ensures read { Reads (λ _. method.now) result (method_after rules before.now method.now) }
     ensures fit { AllFit method.now.instructions }
 {
     let name = method.name().as_bytes();
@@ -130,10 +134,10 @@ fn check_method(before: &[u8], method: &Method) -> Result<(), DecodeError>
     if !limits::are_flags(method.flags()) {
         return Err(DecodeError::Flags);
     }
-    if !limits::is_capacity(method.in_cap()) {
+    if !limits::is_capacity(rules, method.in_cap()) {
         return Err(DecodeError::Limit);
     }
-    if !limits::is_capacity(method.out_cap()) {
+    if !limits::is_capacity(rules, method.out_cap()) {
         return Err(DecodeError::Limit);
     }
     if !limits::is_slot_count(slots) {

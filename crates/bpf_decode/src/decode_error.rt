@@ -11,7 +11,7 @@ use thiserror::Error;
 pub enum DecodeError {
     /// A field passes the end; of code alone, the length is no multiple of 8.
     Truncated,
-    /// The first four bytes are neither `RCL1` nor `RCL2`, or the number after the count of methods
+    /// The first four bytes are none of `RCL1`, `RCL2` and `RCL3`, or the number after the count of methods
     /// isn't 0.
     Magic,
     /// No instruction has the opcode of that slot.
@@ -29,7 +29,7 @@ pub enum DecodeError {
     Order,
     /// Flags are none of 1, 2 and 3.
     Flags,
-    /// A count, a capacity or a number of slots is out of its range.
+    /// A count, a capacity, a number of slots or a number of heads is out of its range.
     Limit,
     /// Bytes follow the last method.
     Trailing,

@@ -2,11 +2,11 @@
 
 ghost use Rattle.std.specs.Prelude.{◌≡◌, ◌++◌, [], length, string_bytes, IsTrue, IfOk, IfErr, OnOk};
 ghost use Rattle.std.specs.List.{flat_map};
-ghost use Rattle.bpf_decode.specs.Class.{Class, IsMethod, IsClass, IsImage, method_bytes, magic, image_bytes};
+ghost use Rattle.bpf_decode.specs.Class.{Class, IsMethod, IsClass, AreWithinSet, IsImage, heads_bytes, method_bytes, magic, image_bytes};
 ghost use Rattle.byteorder.specs.Endian.{little_bytes};
 ghost use Rattle.bpf_decode.specs.Reading.{Reads, Gives};
 ghost use Rattle.bpf_decode.specs.Limits.{are_name_bytes};
-ghost use Rattle.bpf_decode.specs.ImageReading.{GivesImage, RefusesMethods, RefusesImage, byte_at, number_at, bytes_at, name_at, flags_at, capacity_at, code_at, method_at, methods_at, rules_of, rules_at, header_at, image_of};
+ghost use Rattle.bpf_decode.specs.ImageReading.{GivesImage, RefusesMethods, RefusesImage, byte_at, number_at, bytes_at, name_at, flags_at, capacity_at, code_at, heads_at, method_at, methods_at, rules_of, rules_at, header_at, image_of};
 ghost use Rattle.bpf_decode.specs.declared.decode_error.DecodeError.TheVariants.{NoMemory};
 
 use crate::class_image::ClassImage;
@@ -78,11 +78,11 @@ fn flags_at(bytes: &[u8]) -> Result<(u8, &[u8]), DecodeError>
 }
 
 #[tactic(auto, unfolding(crate::specs::ImageReading::capacity_at))]
-fn capacity_at(bytes: &[u8]) -> Result<(u16, &[u8]), DecodeError>
-    ensures { Reads (λ x. (x.0, x.1.now)) result (capacity_at bytes.now) }
+fn capacity_at(rules: RuleSet, bytes: &[u8]) -> Result<(u16, &[u8]), DecodeError>
+    ensures { Reads (λ x. (x.0, x.1.now)) result (capacity_at rules bytes.now) }
 {
     let (capacity, rest) = number_at(bytes)?;
-    if !limits::is_capacity(capacity) {
+    if !limits::is_capacity(rules, capacity) {
         return Err(DecodeError::Limit);
     }
     Ok((capacity, rest))
@@ -103,20 +103,39 @@ fn code_at(alloc: Global, bytes: &[u8]) -> Result<(Vec<Insn>, &[u8]), DecodeErro
     Ok((decode(alloc, code)?, rest))
 }
 
+/// The number of heads after a method's code, which rule set 3 alone has. It has to be 0.
+#[tactic(auto, unfolding(crate::specs::ImageReading::heads_at))]
+fn heads_at(rules: RuleSet, bytes: &[u8]) -> Result<(u16, &[u8]), DecodeError>
+    ensures { Reads (λ x. (x.0, x.1.now)) result (heads_at rules bytes.now) }
+{
+    match rules {
+        RuleSet::One | RuleSet::Two => Ok((0, bytes)),
+        RuleSet::Three => {
+            let (heads, rest) = number_at(bytes)?;
+            if heads != 0 {
+                return Err(DecodeError::Limit);
+            }
+            Ok((heads, rest))
+        }
+    }
+}
+
 #[tactic(auto, unfolding(crate::specs::ImageReading::method_at))]
 fn method_at<'a>(
     alloc: Global,
+    rules: RuleSet,
     before: &[u8],
     bytes: &'a [u8],
 ) -> Result<(Method, &'a [u8], &'a [u8]), DecodeError>
-    ensures read { Gives (λ x. (x.0, x.2.now)) result (method_at before.now bytes.now) }
+    ensures read { Gives (λ x. (x.0, x.2.now)) result (method_at rules before.now bytes.now) }
     ensures name { IfOk result (λ x. x.1.now ≡ x.0.name) }
 {
     let (name, rest) = name_at(before, bytes)?;
     let (flags, rest) = flags_at(rest)?;
-    let (in_cap, rest) = capacity_at(rest)?;
-    let (out_cap, rest) = capacity_at(rest)?;
+    let (in_cap, rest) = capacity_at(rules, rest)?;
+    let (out_cap, rest) = capacity_at(rules, rest)?;
     let (instructions, rest) = code_at(alloc, rest)?;
+    let (_heads, rest) = heads_at(rules, rest)?;
     let text = name_text(alloc, name)?;
     Ok((
         Method::new(text, flags, in_cap, out_cap, instructions),
@@ -149,6 +168,8 @@ fn rules_of(magic: &[u8]) -> Result<RuleSet, DecodeError>
         Ok(RuleSet::One)
     } else if magic == b"RCL2".as_slice() {
         Ok(RuleSet::Two)
+    } else if magic == b"RCL3".as_slice() {
+        Ok(RuleSet::Three)
     } else {
         Err(DecodeError::Magic)
     }
@@ -179,16 +200,21 @@ fn header_at(bytes: &[u8]) -> Result<(Header, &[u8]), DecodeError>
     Ok((Header { rules, count }, rest))
 }
 
-fn methods_at(alloc: Global, count: u16, bytes: &[u8]) -> Result<(Vec<Method>, &[u8]), ImageError>
-    ensures read { GivesImage (λ x. (x.0.items, x.1.now)) result (methods_at count 0 [] bytes.now) }
-    ensures refused { IfErr result (RefusesMethods count bytes.now) }
+fn methods_at(
+    alloc: Global,
+    rules: RuleSet,
+    count: u16,
+    bytes: &[u8],
+) -> Result<(Vec<Method>, &[u8]), ImageError>
+    ensures read { GivesImage (λ x. (x.0.items, x.1.now)) result (methods_at rules count 0 [] bytes.now) }
+    ensures refused { IfErr result (RefusesMethods rules count bytes.now) }
 {
     let mut methods = Vec::new(alloc);
     // The empty name is below every other, so the first method passes the test of order.
     let mut before: &[u8] = &[];
     let mut rest = bytes;
     for done in 0..count {
-        match method_at(alloc, before, rest) {
+        match method_at(alloc, rules, before, rest) {
             Ok((method, name, behind)) => {
                 if methods.push(method).is_err() {
                     return Err(ImageError::after(done as usize, DecodeError::NoMemory));
@@ -208,7 +234,7 @@ fn read(alloc: Global, bytes: &[u8]) -> Result<(RuleSet, Vec<Method>), ImageErro
 {
     match header_at(bytes) {
         Ok((header, rest)) => {
-            let (methods, rest) = methods_at(alloc, header.count, rest)?;
+            let (methods, rest) = methods_at(alloc, header.rules, header.count, rest)?;
             if !rest.is_empty() {
                 return Err(ImageError::after(header.count as usize, DecodeError::Trailing));
             }
@@ -253,9 +279,19 @@ fn put_number(out: &mut Vec<u8>, number: u16) -> Result<(), AllocError>
     out.extend_from_slice(&bytes)
 }
 
-fn put_method(out: &mut Vec<u8>, method: &Method) -> Result<(), AllocError>
+/// Writes what follows a method's code: in rule set 3 the number of its heads, which is 0.
+fn put_heads(out: &mut Vec<u8>, rules: RuleSet) -> Result<(), AllocError>
+    ensures { OnOk result (out.new.items ≡ out.old.items ++ heads_bytes rules) }
+{
+    match rules {
+        RuleSet::One | RuleSet::Two => Ok(()),
+        RuleSet::Three => put_number(out, 0),
+    }
+}
+
+fn put_method(out: &mut Vec<u8>, rules: RuleSet, method: &Method) -> Result<(), AllocError>
     requires { IsMethod method.now }
-    ensures { OnOk result (out.new.items ≡ out.old.items ++ method_bytes method.now) }
+    ensures { OnOk result (out.new.items ≡ out.old.items ++ method_bytes rules method.now) }
 {
     let name = method.name().as_bytes();
     let instructions = method.instructions();
@@ -265,16 +301,17 @@ fn put_method(out: &mut Vec<u8>, method: &Method) -> Result<(), AllocError>
     put_number(out, method.in_cap())?;
     put_number(out, method.out_cap())?;
     put_number(out, slots(instructions) as u16)?;
-    put_code(out, instructions)
+    put_code(out, instructions)?;
+    put_heads(out, rules)
 }
 
 /// Writes methods at the end.
-fn put_methods(out: &mut Vec<u8>, methods: &[Method]) -> Result<(), AllocError>
+fn put_methods(out: &mut Vec<u8>, rules: RuleSet, methods: &[Method]) -> Result<(), AllocError>
     requires { IsClass methods.now }
-    ensures { OnOk result (out.new.items ≡ out.old.items ++ flat_map method_bytes methods.now) }
+    ensures { OnOk result (out.new.items ≡ out.old.items ++ flat_map (method_bytes rules) methods.now) }
 {
     for method in methods {
-        put_method(out, method)?;
+        put_method(out, rules, method)?;
     }
     Ok(())
 }
@@ -286,19 +323,21 @@ fn magic(rules: RuleSet) -> &'static [u8]
     match rules {
         RuleSet::One => b"RCL1",
         RuleSet::Two => b"RCL2",
+        RuleSet::Three => b"RCL3",
     }
 }
 
 /// Writes the class's image at the end.
 fn put_image(out: &mut Vec<u8>, image: &ClassImage) -> Result<(), AllocError>
     ensures class { IsClass image.now.methods }
+    ensures within { AreWithinSet image.now.rules image.now.methods }
     ensures bytes { OnOk result (out.new.items ≡ out.old.items ++ image_bytes image.now) }
 {
     let methods = image.methods();
     out.extend_from_slice(magic(image.rules()))?;
     put_number(out, methods.len() as u16)?;
     put_number(out, 0)?;
-    put_methods(out, methods)
+    put_methods(out, image.rules(), methods)
 }
 
 /// The one spelling of the class. Only memory may run out.

@@ -37,8 +37,8 @@ pub use insn::{Insn, Operand, width};
 pub use jump::jump_target;
 pub use laws::{beginning, every_row, one_class, one_spelling, round_trip};
 pub use limits::{
-    CAPACITY_LIMIT, IMAGE_LIMIT, METHOD_LIMIT, NAME_LIMIT, SLOT_LIMIT, are_name_bytes,
-    is_method_name,
+    CAPACITY_LIMIT, IMAGE_LIMIT, METHOD_LIMIT, NAME_LIMIT, NARROW_CAPACITY_LIMIT, SLOT_LIMIT,
+    are_name_bytes, capacity_limit, is_method_name,
 };
 pub use method::Method;
 pub use operation::{Arithmetic, ByteOrder, Comparison, EndWidth, OpWidth, SignedMove};

@@ -1,8 +1,10 @@
 //! The limits of a class's numbers and names.
 
 ghost use Rattle.std.specs.Prelude.{◌≡◌};
-ghost use Rattle.bpf_decode.specs.Limits.{is_method_count, is_name_length, is_name_byte, are_name_bytes, is_method_name, are_flags, is_capacity, is_slot_count};
+ghost use Rattle.bpf_decode.specs.Limits.{is_method_count, is_name_length, is_name_byte, are_name_bytes, is_method_name, are_flags, capacity_limit, is_capacity, is_slot_count};
 ghost use Rattle.bpf_decode.specs.ImageReading.{is_above};
+
+use crate::rule_set::RuleSet;
 
 /// A class has 1 to 32 methods.
 pub const METHOD_LIMIT: usize = 32;
@@ -10,14 +12,20 @@ pub const METHOD_LIMIT: usize = 32;
 /// A method's name has 1 to 64 bytes.
 pub const NAME_LIMIT: usize = 64;
 
-/// A method's input and output have at most 4,096 bytes each.
-pub const CAPACITY_LIMIT: u16 = 4096;
+/// The greatest capacity of rule sets 1 and 2: a method's input and output have at most 4,096 bytes
+/// each.
+pub const NARROW_CAPACITY_LIMIT: u16 = 4096;
+
+/// The greatest capacity of any rule set, that of rule set 3: a method's input and output have at
+/// most 65,535 bytes each.
+pub const CAPACITY_LIMIT: u16 = 65_535;
 
 /// A method has 1 to 4,096 slots.
 pub const SLOT_LIMIT: usize = 4096;
 
-/// The bytes of the longest image: the header's 8, and for each method 8, its name and its slots.
-pub const IMAGE_LIMIT: usize = 8 + METHOD_LIMIT * (8 + NAME_LIMIT + 8 * SLOT_LIMIT);
+/// The bytes of the longest image, which is one of rule set 3: the header's 8, and for each method
+/// 8, its name, its slots and 2 for the number of its heads.
+pub const IMAGE_LIMIT: usize = 8 + METHOD_LIMIT * (8 + NAME_LIMIT + 8 * SLOT_LIMIT + 2);
 
 /// True if a class may have `count` methods: 1 to `METHOD_LIMIT`.
 pub(crate) fn is_method_count(count: usize) -> bool
@@ -72,11 +80,22 @@ pub(crate) fn are_flags(flags: u8) -> bool
     1 <= flags && flags <= 3
 }
 
-/// True if input and output may have up to `capacity` bytes: 0 to `CAPACITY_LIMIT`.
-pub(crate) fn is_capacity(capacity: u16) -> bool
-    ensures { result ≡ is_capacity capacity }
+/// The most bytes that a method's input, and its output, may have by that rule set.
+pub fn capacity_limit(rules: RuleSet) -> u16
+    ensures { result ≡ capacity_limit rules }
 {
-    capacity <= CAPACITY_LIMIT
+    match rules {
+        RuleSet::One | RuleSet::Two => NARROW_CAPACITY_LIMIT,
+        RuleSet::Three => CAPACITY_LIMIT,
+    }
+}
+
+/// True if input and output may have up to `capacity` bytes by that rule set: 0 to its
+/// `capacity_limit`.
+pub(crate) fn is_capacity(rules: RuleSet, capacity: u16) -> bool
+    ensures { result ≡ is_capacity rules capacity }
+{
+    capacity <= capacity_limit(rules)
 }
 
 /// True if a method may have `slots` slots: 1 to `SLOT_LIMIT`.
