@@ -407,41 +407,41 @@ module _ (law : Laws) where
   room_left f cs vs ws long h sl (Some k) ok over =
       range_left f.slots vs ws long sl (kind_at f k) (kind_at f (k + 1)) over.0 over.1 over.2 (held_at f.registers cs k _ h over.3) (held_at f.registers cs (k + 1) _ h over.4) ok.0 ok.1 over.5
 
-  pub keeps : (f : PlainFrame) → EachFits f.registers → (room : Option ℕ) (i : Insn) (p : ℕ) → Keeps room i p f
-  keeps f fits room (Alu bits operation dst source) p fit allows cs ds vs ws q long h sl m =
+  pub keeps : (f : PlainFrame) → EachFits f.registers → (room : Option ℕ) (answer : Plain) (i : Insn) (p : ℕ) → Keeps room answer i p f
+  keeps f fits room answer (Alu bits operation dst source) p fit allows cs ds vs ws q long h sl m =
       arrives _ (p + 1) q f dst cs ds vs ws m.2 h sl
       (alu_left bits operation (kind_at f dst) (operand_kind f source) m.0 m.1 m.2 (fits_at f.registers dst fits) (operand_fits f source fit.1 fits) (held_at f.registers cs dst m.0 h m.3) (operand_held f cs source m.1 fit.1 h m.4) m.5) m.6 m.7 m.8
-  keeps f fits room (Neg bits dst) p fit allows cs ds vs ws q long h sl m =
+  keeps f fits room answer (Neg bits dst) p fit allows cs ds vs ws q long h sl m =
       arrives _ (p + 1) q f dst cs ds vs ws _ h sl (neg_left bits (kind_at f dst) m.0 (fits_at f.registers dst fits) (held_at f.registers cs dst _ h m.1)) m.2 m.3 m.4
-  keeps f fits room (Mov bits dst source) p fit allows cs ds vs ws q long h sl m =
+  keeps f fits room answer (Mov bits dst source) p fit allows cs ds vs ws q long h sl m =
       arrives _ (p + 1) q f dst cs ds vs ws m.1 h sl (mov_left bits (operand_kind f source) m.0 m.1 (operand_held f cs source m.0 fit.1 h m.2) m.3) m.4 m.5 m.6
-  keeps f fits room (MovSigned extension dst src) p fit allows cs ds vs ws q long h sl m =
+  keeps f fits room answer (MovSigned extension dst src) p fit allows cs ds vs ws q long h sl m =
       arrives _ (p + 1) q f dst cs ds vs ws _ h sl (signed_move_left extension (kind_at f src) m.0 (held_at f.registers cs src _ h m.1)) m.2 m.3 m.4
-  keeps f fits room (End order width dst) p fit allows cs ds vs ws q long h sl m =
+  keeps f fits room answer (End order width dst) p fit allows cs ds vs ws q long h sl m =
       arrives _ (p + 1) q f dst cs ds vs ws _ h sl (end_left order width (kind_at f dst) m.0 (held_at f.registers cs dst _ h m.1)) m.2 m.3 m.4
-  keeps f fits room (LoadWide dst value) p fit allows cs ds vs ws q long h sl m =
+  keeps f fits room answer (LoadWide dst value) p fit allows cs ds vs ws q long h sl m =
       arrives (Some (Num (constant value))) (p + 2) q f dst cs ds vs ws (values.Num value) h sl (law.constant value fit.1) m.0 m.1 m.2
-  keeps f fits room (Load width dst base offset) p fit allows cs ds vs ws q long h sl m =
+  keeps f fits room answer (Load width dst base offset) p fit allows cs ds vs ws q long h sl m =
       arrives _ (p + 1) q f dst cs ds vs ws m.2 h sl
       (load_left f.slots vs long sl width (kind_at f base) (extended offset) m.0 m.1 m.2 (extended_small16 offset fit.2) (fits_at f.registers base fits) (held_at f.registers cs base _ h m.3) m.4 allows) m.5 m.6 m.7
-  keeps f fits room (LoadSigned width dst base offset) p fit allows cs ds vs ws q long h sl m =
+  keeps f fits room answer (LoadSigned width dst base offset) p fit allows cs ds vs ws q long h sl m =
       arrives _ (p + 1) q f dst cs ds vs ws _ h sl
       (left_num _ _ (law.signed_loads width m.2 (signed_small f.slots vs long sl (signed_byte_count width) (kind_at f base) (extended offset) m.0 m.1 m.2 (extended_small16 offset fit.2) (fits_at f.registers base fits) (held_at f.registers cs base _ h m.3) m.4 allows.0.0 allows.0.1 allows.1))) m.5 m.6 m.7
-  keeps f fits room (Store width base offset source) p fit allows cs ds vs ws q long h sl m =
+  keeps f fits room answer (Store width base offset source) p fit allows cs ds vs ws q long h sl m =
       stays (after_store f (kind_at f base) (extended offset) (byte_count width) (operand_kind f source)) (p + 1) q cs ds vs ws h
       (store_left f.slots vs ws long sl (byte_count width) (kind_at f base) (operand_kind f source) (extended offset) m.0 m.1 m.2 (extended_small16 offset fit.1) (fits_at f.registers base fits) (held_at f.registers cs base _ h m.3) (operand_held f cs source m.2 fit.2 h m.4) m.5 allows) m.6 m.7
-  keeps f fits room (Jump offset) p fit allows cs ds vs ws q long h sl m = stays f (target p offset) q cs ds vs ws h (subst (HoldsEach f.slots) (sym m.2) sl) m.0 m.1
-  keeps f fits room (JumpLong distance) p fit allows cs ds vs ws q long h sl m = stays f (target p distance) q cs ds vs ws h (subst (HoldsEach f.slots) (sym m.2) sl) m.0 m.1
-  keeps f fits room (Branch bits comparison dst source offset) p fit allows cs ds vs ws q long h sl m =
-      subst (λ (xs : List (Option Value)). Reaches (flow room (Branch bits comparison dst source offset) p f) q xs ws) (sym m.5)
+  keeps f fits room answer (Jump offset) p fit allows cs ds vs ws q long h sl m = stays f (target p offset) q cs ds vs ws h (subst (HoldsEach f.slots) (sym m.2) sl) m.0 m.1
+  keeps f fits room answer (JumpLong distance) p fit allows cs ds vs ws q long h sl m = stays f (target p distance) q cs ds vs ws h (subst (HoldsEach f.slots) (sym m.2) sl) m.0 m.1
+  keeps f fits room answer (Branch bits comparison dst source offset) p fit allows cs ds vs ws q long h sl m =
+      subst (λ (xs : List (Option Value)). Reaches (flow room answer (Branch bits comparison dst source offset) p f) q xs ws) (sym m.5)
       (reach_edge (is_taken bits comparison m.0 m.1) (along_edge bits comparison true dst source f) (along_edge bits comparison false dst source f) p q (extended offset) (target p offset) cs ws refl m.4
       (edge_left bits comparison true dst source f cs ws m.0 m.1 fit.2 h (subst (HoldsEach f.slots) (sym m.6) sl) m.2 m.3) (edge_left bits comparison false dst source f cs ws m.0 m.1 fit.2 h (subst (HoldsEach f.slots) (sym m.6) sl) m.2 m.3))
-  keeps f fits room (Call helper) p fit allows cs ds vs ws q long h sl m =
+  keeps f fits room answer (Call helper) p fit allows cs ds vs ws q long h sl m =
       record {
-        frame = after_call room f;
+        frame = after_call room answer f;
         there = inl (m.2, refl);
-        holds = subst (HoldsEach (after_call room f).registers) (sym m.3) (law.any m.0 m.1, (tt, (tt, (tt, (tt, (tt, drop_each 6 f.registers cs h))))));
+        holds = subst (HoldsEach (after_call room answer f).registers) (sym m.3) (m.1, (tt, (tt, (tt, (tt, (tt, drop_each 6 f.registers cs h))))));
         slots = room_left f cs vs ws long h sl room allows m.4;
       }
-  keeps f fits room (CallLocal distance) p fit allows cs ds vs ws q long h sl m = absurd m
-  keeps f fits room Exit p fit allows cs ds vs ws q long h sl m = absurd m
+  keeps f fits room answer (CallLocal distance) p fit allows cs ds vs ws q long h sl m = absurd m
+  keeps f fits room answer Exit p fit allows cs ds vs ws q long h sl m = absurd m

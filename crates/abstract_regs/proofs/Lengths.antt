@@ -47,26 +47,26 @@ each_both f d (Immediate imm) (Some s) = refl
 each_both f d (Register r) (Some s) = refl
 
 pub flows_keep : FlowsKeepSlots
-flows_keep room (Alu bits operation d x) p q f g e = one q (p + 1) (length f.slots) g _ (each_computed f d _) e
-flows_keep room (Neg bits d) p q f g e = one q (p + 1) (length f.slots) g _ (each_computed f d _) e
-flows_keep room (Mov bits d x) p q f g e = one q (p + 1) (length f.slots) g _ (each_computed f d _) e
-flows_keep room (MovSigned extension d src) p q f g e = one q (p + 1) (length f.slots) g _ (each_computed f d _) e
-flows_keep room (End order width d) p q f g e = one q (p + 1) (length f.slots) g _ (each_computed f d _) e
-flows_keep room (LoadWide d value) p q f g e = one q (p + 2) (length f.slots) g (option_map (with_kind f d) (Some (Num (constant value)))) (each_computed f d (Some (Num (constant value)))) e
-flows_keep room (Load width d from offset) p q f g e = one q (p + 1) (length f.slots) g _ (each_computed f d _) e
-flows_keep room (LoadSigned width d from offset) p q f g e = one q (p + 1) (length f.slots) g _ (each_computed f d _) e
-flows_keep room (Store width to offset x) p q f g e =
+flows_keep room answer (Alu bits operation d x) p q f g e = one q (p + 1) (length f.slots) g _ (each_computed f d _) e
+flows_keep room answer (Neg bits d) p q f g e = one q (p + 1) (length f.slots) g _ (each_computed f d _) e
+flows_keep room answer (Mov bits d x) p q f g e = one q (p + 1) (length f.slots) g _ (each_computed f d _) e
+flows_keep room answer (MovSigned extension d src) p q f g e = one q (p + 1) (length f.slots) g _ (each_computed f d _) e
+flows_keep room answer (End order width d) p q f g e = one q (p + 1) (length f.slots) g _ (each_computed f d _) e
+flows_keep room answer (LoadWide d value) p q f g e = one q (p + 2) (length f.slots) g (option_map (with_kind f d) (Some (Num (constant value)))) (each_computed f d (Some (Num (constant value)))) e
+flows_keep room answer (Load width d from offset) p q f g e = one q (p + 1) (length f.slots) g _ (each_computed f d _) e
+flows_keep room answer (LoadSigned width d from offset) p q f g e = one q (p + 1) (length f.slots) g _ (each_computed f d _) e
+flows_keep room answer (Store width to offset x) p q f g e =
     let place = stack_place (kind_at f to) (extended offset) in
     one q (p + 1) (length f.slots) g (Some (after_store f (kind_at f to) (extended offset) (byte_count width) (operand_kind f x)))
     (length_stored f.slots (whole_slot place (byte_count width)) (access_span place (byte_count width)) (operand_kind f x)) e
-flows_keep room (Jump offset) p q f g e = one q (target p offset) (length f.slots) g (Some f) refl e
-flows_keep room (JumpLong distance) p q f g e = one q (target p distance) (length f.slots) g (Some f) refl e
-flows_keep room (Branch bits comparison d x offset) p q f g e =
+flows_keep room answer (Jump offset) p q f g e = one q (target p offset) (length f.slots) g (Some f) refl e
+flows_keep room answer (JumpLong distance) p q f g e = one q (target p distance) (length f.slots) g (Some f) refl e
+flows_keep room answer (Branch bits comparison d x offset) p q f g e =
     two q (target p offset) (p + 1) (length f.slots) g (along_edge bits comparison true d x f) (along_edge bits comparison false d x f) (each_both f d x _) (each_both f d x _) e
-flows_keep room (Call helper) p q f g e =
-    one q (p + 1) (length f.slots) g (Some (after_call room f)) (length_spoiled (room_span f room) 0 f.slots) e
-flows_keep room (CallLocal distance) p q f g e = absurd e
-flows_keep room Exit p q f g e = absurd e
+flows_keep room answer (Call helper) p q f g e =
+    one q (p + 1) (length f.slots) g (Some (after_call room answer f)) (length_spoiled (room_span f room) 0 f.slots) e
+flows_keep room answer (CallLocal distance) p q f g e = absurd e
+flows_keep room answer Exit p q f g e = absurd e
 
 length_join : (xs ys : List PlainKind) → length ys ≡ length xs → length (join_each xs ys) ≡ length xs
 length_join [] ys e = refl

@@ -10,7 +10,7 @@ use Rattle.bpf_decode.specs.declared.operation.Comparison.{Comparison}
 use Rattle.bpf_decode.specs.Jump.{jump_target}
 use Rattle.bpf_decode.specs.Values.{extended}
 use Rattle.bpf_decode.specs.Instruction.{byte_count}
-use Rattle.abstract_num.specs.Plain.{constant}
+use Rattle.abstract_num.specs.Plain.{Plain, constant}
 use Rattle.abstract_num.specs.Tighten.{tighten}
 use Rattle.abstract_num.specs.Transfer.{ranged, signed_ranged, load_high, signed_low, signed_high}
 use Rattle.abstract_regs.specs.Kind.{PlainKind, Num, alu_kind, neg_kind, mov_kind, signed_move_kind, end_kind, along_kinds}
@@ -51,21 +51,22 @@ abbrev pub loaded_kind : Option PlainKind → Option PlainKind → Option PlainK
 loaded_kind (Some x) number = Some x
 loaded_kind None number = number
 
--- `room` is the first register of the range that a helper writes
-abbrev pub flow : Option ℕ → Insn → ℕ → PlainFrame → List (ℕ × PlainFrame)
-flow room (Alu bits operation dst source) p f = computed (p + 1) f dst (alu_kind bits operation (kind_at f dst) (operand_kind f source))
-flow room (Neg bits dst) p f = computed (p + 1) f dst (neg_kind bits (kind_at f dst))
-flow room (Mov bits dst source) p f = computed (p + 1) f dst (mov_kind bits (operand_kind f source))
-flow room (MovSigned extension dst src) p f = computed (p + 1) f dst (signed_move_kind extension (kind_at f src))
-flow room (End order width dst) p f = computed (p + 1) f dst (end_kind order width (kind_at f dst))
-flow room (LoadWide dst value) p f = computed (p + 2) f dst (Some (Num (constant value)))
-flow room (Load width dst base offset) p f = computed (p + 1) f dst (loaded_kind (kept_kind f (kind_at f base) (extended offset) (byte_count width)) (option_map Num (tighten (ranged 0 (load_high width)))))
-flow room (LoadSigned width dst base offset) p f = computed (p + 1) f dst (option_map Num (tighten (signed_ranged (signed_low width) (signed_high width))))
-flow room (Store width base offset source) p f = (p + 1, after_store f (kind_at f base) (extended offset) (byte_count width) (operand_kind f source)) ∷ []
-flow room (Jump offset) p f = (target p offset, f) ∷ []
-flow room (JumpLong distance) p f = (target p distance, f) ∷ []
-flow room (Branch bits comparison dst source offset) p f =
+-- `room` is the first register of the range that a helper writes, `answer` the number that it leaves
+-- in register 0
+abbrev pub flow : Option ℕ → Plain → Insn → ℕ → PlainFrame → List (ℕ × PlainFrame)
+flow room answer (Alu bits operation dst source) p f = computed (p + 1) f dst (alu_kind bits operation (kind_at f dst) (operand_kind f source))
+flow room answer (Neg bits dst) p f = computed (p + 1) f dst (neg_kind bits (kind_at f dst))
+flow room answer (Mov bits dst source) p f = computed (p + 1) f dst (mov_kind bits (operand_kind f source))
+flow room answer (MovSigned extension dst src) p f = computed (p + 1) f dst (signed_move_kind extension (kind_at f src))
+flow room answer (End order width dst) p f = computed (p + 1) f dst (end_kind order width (kind_at f dst))
+flow room answer (LoadWide dst value) p f = computed (p + 2) f dst (Some (Num (constant value)))
+flow room answer (Load width dst base offset) p f = computed (p + 1) f dst (loaded_kind (kept_kind f (kind_at f base) (extended offset) (byte_count width)) (option_map Num (tighten (ranged 0 (load_high width)))))
+flow room answer (LoadSigned width dst base offset) p f = computed (p + 1) f dst (option_map Num (tighten (signed_ranged (signed_low width) (signed_high width))))
+flow room answer (Store width base offset source) p f = (p + 1, after_store f (kind_at f base) (extended offset) (byte_count width) (operand_kind f source)) ∷ []
+flow room answer (Jump offset) p f = (target p offset, f) ∷ []
+flow room answer (JumpLong distance) p f = (target p distance, f) ∷ []
+flow room answer (Branch bits comparison dst source offset) p f =
     edge_to (target p offset) (along_edge bits comparison true dst source f) ++ edge_to (p + 1) (along_edge bits comparison false dst source f)
-flow room (Call helper) p f = (p + 1, after_call room f) ∷ []
-flow room (CallLocal distance) p f = []
-flow room Exit p f = []
+flow room answer (Call helper) p f = (p + 1, after_call room answer f) ∷ []
+flow room answer (CallLocal distance) p f = []
+flow room answer Exit p f = []

@@ -7,7 +7,7 @@ use Rattle.bpf_decode.specs.declared.region.Region.TheVariants.{Input, Output, S
 use Rattle.bpf_decode.specs.declared.value.Value.{Value}
 use Rattle.bpf_decode.specs.Values.{extended}
 use Rattle.bpf_decode.specs.Arithmetic.{mov_value}
-use Rattle.abstract_num.specs.Plain.{Plain, any, constant}
+use Rattle.abstract_num.specs.Plain.{Plain, constant}
 use Rattle.abstract_num.specs.Tighten.{tighten}
 use Rattle.abstract_num.specs.Transfer.{ranged}
 use Rattle.abstract_regs.specs.Kind.{PlainKind, Unset, Num, Ptr, HoldsKind, join_kind}
@@ -60,13 +60,13 @@ room_span f (Some r) = stack_range (kind_at f r) (kind_at f (r + 1))
 abbrev pub with_slots : PlainFrame → List PlainKind → PlainFrame
 with_slots f xs = record { registers = f.registers; slots = xs }
 
--- a helper answers any number in register 0 and leaves registers 1 to 5 unset
-abbrev pub after_answer : PlainFrame → PlainFrame
-after_answer f = record { registers = Num any ∷ Unset ∷ Unset ∷ Unset ∷ Unset ∷ Unset ∷ drop 6 f.registers; slots = f.slots }
+-- a helper answers such a number in register 0 and leaves registers 1 to 5 unset
+abbrev pub after_answer : Plain → PlainFrame → PlainFrame
+after_answer answer f = record { registers = Num answer ∷ Unset ∷ Unset ∷ Unset ∷ Unset ∷ Unset ∷ drop 6 f.registers; slots = f.slots }
 
 -- and it overwrites what its writable range may be
-abbrev pub after_call : Option ℕ → PlainFrame → PlainFrame
-after_call room f = after_answer (with_slots f (spoiled (room_span f room) 0 f.slots))
+abbrev pub after_call : Option ℕ → Plain → PlainFrame → PlainFrame
+after_call room answer f = after_answer answer (with_slots f (spoiled (room_span f room) 0 f.slots))
 
 -- the kind of what an instruction reads besides its destination
 abbrev pub operand_kind : PlainFrame → Operand → PlainKind

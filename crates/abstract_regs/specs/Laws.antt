@@ -84,7 +84,7 @@ RangesFit =
 -- An instruction keeps the number of slots, along each of its edges; so does a join.
 abbrev pub FlowsKeepSlots : Type 0
 FlowsKeepSlots =
-    (room : Option ℕ) (i : Insn) (p q : ℕ) (f g : PlainFrame) → Among q g (flow room i p f) → length g.slots ≡ length f.slots
+    (room : Option ℕ) (answer : Plain) (i : Insn) (p q : ℕ) (f g : PlainFrame) → Among q g (flow room answer i p f) → length g.slots ≡ length f.slots
 
 abbrev pub JoinsKeepSlots : Type 0
 JoinsKeepSlots = (f g : PlainFrame) → length g.slots ≡ length f.slots → length (join f g).slots ≡ length f.slots

@@ -13,6 +13,7 @@ use Rattle.bpf_decode.specs.Instruction.{byte_count, signed_byte_count, Fits}
 use Rattle.bpf_decode.specs.Arithmetic.{neg_value, signed_move_value, end_value, is_taken, signed_load_value}
 use Rattle.bpf_decode.specs.Jump.{branch_to}
 use Rattle.bpf_decode.specs.Values.{extended, alu_values, mov_values}
+use Rattle.abstract_num.specs.Plain.{Plain, Holds}
 use Rattle.abstract_num.specs.Keeping as numbers
 use Rattle.abstract_regs.specs.Kind as kind
 use Rattle.abstract_regs.specs.Kind.{PlainKind, Unset, is_unset, is_num, is_ptr}
@@ -86,33 +87,33 @@ Overwritten (Some k) cs vs ws =
     (r : Region) × (at n : ℕ) × (value_at cs k ≡ Some (Ptr r at)) × (value_at cs (k + 1) ≡ Some (Num n)) × Overwrites vs r at n ws
 
 -- The instruction at slot p takes the registers cs to ds and the stack's slots vs to ws, and goes
--- on at slot q.
-abbrev pub Moves : Option ℕ → Insn → ℕ → List (Option Value) → List (Option Value) → ℕ → List (Option Value) → List (Option Value) → Type 0
-Moves room (Alu bits operation dst source) p cs vs q ds ws =
+-- on at slot q. A helper answers one of the numbers that `answer` holds.
+abbrev pub Moves : Option ℕ → Plain → Insn → ℕ → List (Option Value) → List (Option Value) → ℕ → List (Option Value) → List (Option Value) → Type 0
+Moves room answer (Alu bits operation dst source) p cs vs q ds ws =
     (x y v : Value) × (value_at cs dst ≡ Some x) × (operand_in cs source ≡ Some y) × (alu_values bits operation x y ≡ Some v) × (q ≡ p + 1) × (ds ≡ with_value cs dst v) × (ws ≡ vs)
-Moves room (Neg bits dst) p cs vs q ds ws =
+Moves room answer (Neg bits dst) p cs vs q ds ws =
     (n : ℕ) × (value_at cs dst ≡ Some (Num n)) × (q ≡ p + 1) × (ds ≡ with_value cs dst (Num (neg_value bits n))) × (ws ≡ vs)
-Moves room (Mov bits dst source) p cs vs q ds ws =
+Moves room answer (Mov bits dst source) p cs vs q ds ws =
     (y v : Value) × (operand_in cs source ≡ Some y) × (mov_values bits y ≡ Some v) × (q ≡ p + 1) × (ds ≡ with_value cs dst v) × (ws ≡ vs)
-Moves room (MovSigned extension dst src) p cs vs q ds ws =
+Moves room answer (MovSigned extension dst src) p cs vs q ds ws =
     (n : ℕ) × (value_at cs src ≡ Some (Num n)) × (q ≡ p + 1) × (ds ≡ with_value cs dst (Num (signed_move_value extension n))) × (ws ≡ vs)
-Moves room (End order width dst) p cs vs q ds ws =
+Moves room answer (End order width dst) p cs vs q ds ws =
     (n : ℕ) × (value_at cs dst ≡ Some (Num n)) × (q ≡ p + 1) × (ds ≡ with_value cs dst (Num (end_value order width n))) × (ws ≡ vs)
-Moves room (LoadWide dst value) p cs vs q ds ws = (q ≡ p + 2) × (ds ≡ with_value cs dst (Num value)) × (ws ≡ vs)
-Moves room (Load width dst base offset) p cs vs q ds ws =
+Moves room answer (LoadWide dst value) p cs vs q ds ws = (q ≡ p + 2) × (ds ≡ with_value cs dst (Num value)) × (ws ≡ vs)
+Moves room answer (Load width dst base offset) p cs vs q ds ws =
     (r : Region) × (o : ℕ) × (v : Value) × (value_at cs base ≡ Some (Ptr r o)) × Loads vs r ((o + extended offset) % 2 ^ 64) (byte_count width) v × (q ≡ p + 1) × (ds ≡ with_value cs dst v) × (ws ≡ vs)
-Moves room (LoadSigned width dst base offset) p cs vs q ds ws =
+Moves room answer (LoadSigned width dst base offset) p cs vs q ds ws =
     (r : Region) × (o n : ℕ) × (value_at cs base ≡ Some (Ptr r o)) × Loads vs r ((o + extended offset) % 2 ^ 64) (signed_byte_count width) (Num n) × (q ≡ p + 1) × (ds ≡ with_value cs dst (Num (signed_load_value width n))) × (ws ≡ vs)
-Moves room (Store width base offset source) p cs vs q ds ws =
+Moves room answer (Store width base offset source) p cs vs q ds ws =
     (r : Region) × (o : ℕ) × (x : Value) × (value_at cs base ≡ Some (Ptr r o)) × (operand_in cs source ≡ Some x) × Stores vs r ((o + extended offset) % 2 ^ 64) (byte_count width) x ws × (q ≡ p + 1) × (ds ≡ cs)
-Moves room (Jump offset) p cs vs q ds ws = (q ≡ target p offset) × (ds ≡ cs) × (ws ≡ vs)
-Moves room (JumpLong distance) p cs vs q ds ws = (q ≡ target p distance) × (ds ≡ cs) × (ws ≡ vs)
-Moves room (Branch bits comparison dst source offset) p cs vs q ds ws =
+Moves room answer (Jump offset) p cs vs q ds ws = (q ≡ target p offset) × (ds ≡ cs) × (ws ≡ vs)
+Moves room answer (JumpLong distance) p cs vs q ds ws = (q ≡ target p distance) × (ds ≡ cs) × (ws ≡ vs)
+Moves room answer (Branch bits comparison dst source offset) p cs vs q ds ws =
     (m n : ℕ) × (value_at cs dst ≡ Some (Num m)) × (operand_in cs source ≡ Some (Num n)) × (q ≡ branch_to (is_taken bits comparison m n) p (extended offset)) × (ds ≡ cs) × (ws ≡ vs)
-Moves room (Call helper) p cs vs q ds ws =
-    (n : ℕ) × (n < 2 ^ 64) × (q ≡ p + 1) × (ds ≡ Some (Num n) ∷ None ∷ None ∷ None ∷ None ∷ None ∷ drop 6 cs) × Overwritten room cs vs ws
-Moves room (CallLocal distance) p cs vs q ds ws = ⊥
-Moves room Exit p cs vs q ds ws = ⊥
+Moves room answer (Call helper) p cs vs q ds ws =
+    (n : ℕ) × Holds answer n × (q ≡ p + 1) × (ds ≡ Some (Num n) ∷ None ∷ None ∷ None ∷ None ∷ None ∷ drop 6 cs) × Overwritten room cs vs ws
+Moves room answer (CallLocal distance) p cs vs q ds ws = ⊥
+Moves room answer Exit p cs vs q ds ws = ⊥
 
 -- an edge to that slot with that frame
 abbrev pub Among : ℕ → PlainFrame → List (ℕ × PlainFrame) → Type 0
@@ -157,9 +158,9 @@ Allows room (Call helper) f = AllowsRoom room f
 Allows room i f = Unit {0}
 
 -- What a frame held before an instruction, a frame along an edge holds after it.
-abbrev pub Keeps : Option ℕ → Insn → ℕ → PlainFrame → Type 0
-Keeps room i p f =
-    Fits i → Allows room i f → (cs ds vs ws : List (Option Value)) (q : ℕ) → length f.slots ≡ length vs → HoldsEach f.registers cs → HoldsEach f.slots vs → Moves room i p cs vs q ds ws → Reaches (flow room i p f) q ds ws
+abbrev pub Keeps : Option ℕ → Plain → Insn → ℕ → PlainFrame → Type 0
+Keeps room answer i p f =
+    Fits i → Allows room i f → (cs ds vs ws : List (Option Value)) (q : ℕ) → length f.slots ≡ length vs → HoldsEach f.registers cs → HoldsEach f.slots vs → Moves room answer i p cs vs q ds ws → Reaches (flow room answer i p f) q ds ws
 
 -- Each slot that w bytes reach is a number, or they are a slot that has a value.
 abbrev pub LoadIsKnown : List (Option Value) → Region → ℕ → ℕ → Type 0

@@ -2,6 +2,7 @@ ghost use Rattle.std.specs.Prelude.{◌≡◌, ℕ, ◌<◌, ◌+◌, ◌++◌, 
 ghost use Rattle.std.specs.Option.{option_map};
 ghost use Rattle.bpf_decode.specs.Instruction.{slot_count, byte_count};
 ghost use Rattle.bpf_decode.specs.Values.{extended};
+ghost use Rattle.abstract_num.specs.Plain.{view};
 ghost use Rattle.abstract_num.specs.Tighten.{tighten};
 ghost use Rattle.abstract_num.specs.Transfer.{ranged, load_high};
 ghost use Rattle.abstract_regs.specs.Kind as plain;
@@ -16,7 +17,7 @@ ghost use Rattle.abstract_regs.specs.declared.kind.Kinds.{Kinds};
 use crate::edges::{Compared, Edges};
 use crate::frame::Frame;
 use crate::kind::{Kind, Kinds};
-use abstract_num::{arithmetic, constant, keeping_laws, loaded, loaded_signed};
+use abstract_num::{Number, arithmetic, constant, keeping_laws, loaded, loaded_signed};
 use bpf_decode::{Arithmetic, Comparison, Insn, OpWidth, Operand, Register, Width, jump_target};
 
 /// True if a comparison is of a register with itself.
@@ -33,25 +34,33 @@ fn is_same_register(dst: Register, source: &Operand) -> bool
 impl Frame {
     /// Turns the frame before the instruction at a slot, which no rule refuses, into the one after
     /// it, and gives its edges. `room` is the first register of the range that a call's helper
-    /// writes. If a comparison has both edges, `fallen` gets the kinds along the second.
-    pub fn flow(&mut self, room: Option<u8>, insn: &Insn, slot: usize, fallen: &mut Kinds) -> Edges
+    /// writes, `answer` the number that it leaves in register 0. If a comparison has both edges,
+    /// `fallen` gets the kinds along the second.
+    pub fn flow(
+        &mut self,
+        room: Option<u8>,
+        answer: &Number,
+        insn: &Insn,
+        slot: usize,
+        fallen: &mut Kinds,
+    ) -> Edges
         requires { slot < 2 ^ 62 }
-        ensures table { flow room insn.now slot self.old ≡ with_edges result fallen.new (slot + slot_count insn.now) self.new }
+        ensures table { flow room (view answer.now) insn.now slot self.old ≡ with_edges result fallen.new (slot + slot_count insn.now) self.new }
         // A frame along an edge holds after it the values that were held before it.
-        ensures keeps { Keeps room insn.now slot self.old }
+        ensures keeps { Keeps room (view answer.now) insn.now slot self.old }
         ensures fits { EachFits self.old.registers }
     {
         // For the proof: the tables of numbers keep what is held, and the frame's numbers fit.
         keeping_laws();
         self.fits();
-        self.flow_on(room, insn, slot, fallen)
+        self.flow_on(room, answer, insn, slot, fallen)
     }
 
     /// The same, by the table alone.
     #[rattlefmt::skip]
-    fn flow_on(&mut self, room: Option<u8>, insn: &Insn, slot: usize, fallen: &mut Kinds) -> Edges
+    fn flow_on(&mut self, room: Option<u8>, answer: &Number, insn: &Insn, slot: usize, fallen: &mut Kinds) -> Edges
         requires { slot < 2 ^ 62 }
-        ensures { flow room insn.now slot self.old ≡ with_edges result fallen.new (slot + slot_count insn.now) self.new }
+        ensures { flow room (view answer.now) insn.now slot self.old ≡ with_edges result fallen.new (slot + slot_count insn.now) self.new }
     {
         match *insn {
             Insn::Alu { bits, operation, dst, source } => {
@@ -74,7 +83,7 @@ impl Frame {
                 self.branch(bits, comparison, dst, &source, jump_target(slot, i64::from(offset)), fallen)
             }
             Insn::Call { .. } => {
-                self.end_call(room);
+                self.end_call(room, answer);
                 Edges::Falls
             }
             Insn::CallLocal { .. } | Insn::Exit => Edges::Leaves,

@@ -1,5 +1,6 @@
 ghost use Rattle.std.specs.Prelude.{◌≡◌, IfOk, OnOk, slice_get, slice_set};
 ghost use Rattle.std.specs.Option.{option_map};
+ghost use Rattle.abstract_num.specs.Plain.{view};
 ghost use Rattle.abstract_regs.specs.Frame.{kind_at, or_unset, with_kind, join, entry_frame, after_call, after_answer, after_store, kept_kind, room_span, operand_kind, compared_kind, with_slots};
 ghost use Rattle.abstract_regs.specs.Slots.{stack_place, stack_range, access_span, spoiled, meets};
 ghost use Rattle.abstract_regs.specs.Moves.{EachFits};
@@ -9,7 +10,7 @@ use crate::content::Content;
 use crate::kind::Kind;
 use crate::slots::{fit_all, join_all, join_slots, meets, spoil, zeros};
 use crate::stack_span::{StackSpan, access_span, stack_place, stack_range, whole_slot};
-use abstract_num::{any, between, constant};
+use abstract_num::{Number, between, constant};
 use bpf_decode::arithmetic::copied;
 use bpf_decode::{OpWidth, Operand, Region, Register};
 use std::alloc::{AllocError, Global};
@@ -116,19 +117,21 @@ impl Frame {
         join_slots(&mut self.slots, &other.slots);
     }
 
-    /// After a helper's call: register 0 is any number, registers 1 to 5 are unset, and the slots
-    /// that its writable range may touch are overwritten; `room` is that range's first register.
-    pub(crate) fn end_call(&mut self, room: Option<u8>)
-        ensures { self.new ≡ after_call room self.old }
+    /// After a helper's call: register 0 is the number of its answer, registers 1 to 5 are unset,
+    /// and the slots that its writable range may touch are overwritten; `room` is that range's
+    /// first register.
+    pub(crate) fn end_call(&mut self, room: Option<u8>, answer: &Number)
+        ensures { self.new ≡ after_call room (view answer.now) self.old }
     {
         self.spoil_room(room);
-        self.forget_arguments();
+        self.set_answer(*answer);
     }
 
-    fn forget_arguments(&mut self)
-        ensures { self.new ≡ after_answer self.old }
+    /// The answer takes the place of the arguments.
+    fn set_answer(&mut self, answer: Number)
+        ensures { self.new ≡ after_answer (view answer) self.old }
     {
-        self.registers[0] = Kind::Num(any());
+        self.registers[0] = Kind::Num(answer);
         self.registers[1] = Kind::Unset;
         self.registers[2] = Kind::Unset;
         self.registers[3] = Kind::Unset;

@@ -1,3 +1,4 @@
+use Rattle.abstract_num.specs.Plain.{view}
 use Rattle.abstract_regs.proofs.Keeping.{keeps}
 use Rattle.abstract_regs.proofs.frame.Frame.flow.Goals as goal
 
@@ -17,4 +18,4 @@ returns-clause-keeps c =
       signed_loads = law.signed_loads;
       tighten = law.tighten;
       edges = law.edges;
-    }) c.args.self.now c.fits.ensures c.args.room c.args.insn.now c.args.slot
+    }) c.args.self.now c.fits.ensures c.args.room (view c.args.answer.now) c.args.insn.now c.args.slot
