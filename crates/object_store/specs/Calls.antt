@@ -38,9 +38,15 @@ get_xattr object name = if is_named name then if_there object (λ c. value_in c.
 abbrev pub get_key : PlainObject → List ℕ → Result (List ℕ) StoreError
 get_key object key = if is_named key then if_there object (λ c. value_in c.omap key) else Err Range
 
--- the least key above some bytes, which may be none
+-- the least name above some bytes, which may be none; these are at most as long as a name
+abbrev pub next_in : (Content → Attributes) → PlainObject → List ℕ → Result (List ℕ) StoreError
+next_in names object name = if nat_lt NAME_LIMIT (length name) then Err Range else if_there object (λ c. ok_or (key_above (names c) name) NoAttr)
+
+abbrev pub next_xattr : PlainObject → List ℕ → Result (List ℕ) StoreError
+next_xattr object name = next_in (λ c. c.xattrs) object name
+
 abbrev pub next_key : PlainObject → List ℕ → Result (List ℕ) StoreError
-next_key object key = if nat_lt NAME_LIMIT (length key) then Err Range else if_there object (λ c. ok_or (key_above c.omap key) NoAttr)
+next_key object key = next_in (λ c. c.omap) object key
 
 -- ---- changes: what the object holds afterwards
 abbrev pub write : PlainObject → ℕ → List ℕ → Result Content StoreError

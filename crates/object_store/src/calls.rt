@@ -43,15 +43,24 @@ pub fn get_key<'a>(object: Option<&'a Object>, key: &[u8]) -> Result<&'a [u8], S
     named(object, key)?.key(key).ok_or(StoreError::NoAttr)
 }
 
+/// The least name of an xattr above these bytes, which may be none. Refused: 6 Range past
+/// `NAME_LIMIT`, 1 Absent, 3 NoAttr.
+pub fn next_xattr<'a>(object: Option<&'a Object>, name: &[u8]) -> Result<&'a [u8], StoreError>
+    ensures { behind result ≡ spec.next_xattr (option_copied object.entry) name.now }
+{
+    short_named(object, name)?
+        .xattr_above(name)
+        .ok_or(StoreError::NoAttr)
+}
+
 /// The least key of the omap above these bytes, which may be none. Refused: 6 Range past
 /// `NAME_LIMIT`, 1 Absent, 3 NoAttr.
 pub fn next_key<'a>(object: Option<&'a Object>, key: &[u8]) -> Result<&'a [u8], StoreError>
     ensures { behind result ≡ spec.next_key (option_copied object.entry) key.now }
 {
-    if key.len() > NAME_LIMIT {
-        return Err(StoreError::Range);
-    }
-    there(object)?.key_above(key).ok_or(StoreError::NoAttr)
+    short_named(object, key)?
+        .key_above(key)
+        .ok_or(StoreError::NoAttr)
 }
 
 /// Text written at a place; it creates an object that is absent. Zeros fill a gap, and no bytes
@@ -175,6 +184,17 @@ fn named<'a>(object: Option<&'a Object>, name: &[u8]) -> Result<&'a Object, Stor
     ensures { behind result ≡ (if spec.is_named name.now then spec.if_there (option_copied object.entry) (λ c. Ok c) else Err StoreError.Range) }
 {
     check_name(name)?;
+    there(object)
+}
+
+/// The object, for a call that names bytes below an xattr or a key, which may be none. Refused: 6
+/// Range, 1 Absent.
+fn short_named<'a>(object: Option<&'a Object>, name: &[u8]) -> Result<&'a Object, StoreError>
+    ensures { behind result ≡ (if nat_lt NAME_LIMIT (length name.now) then Err StoreError.Range else spec.if_there (option_copied object.entry) (λ c. Ok c)) }
+{
+    if name.len() > NAME_LIMIT {
+        return Err(StoreError::Range);
+    }
     there(object)
 }
 

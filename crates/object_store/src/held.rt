@@ -82,6 +82,13 @@ impl Held {
         value_in(&self.xattrs, name)
     }
 
+    /// The least name of an xattr above these bytes.
+    pub(crate) fn xattr_above(&self, name: &[u8]) -> Option<&[u8]>
+        ensures { option_copied result ≡ key_above self.now.xattrs name.now }
+    {
+        self.xattrs.key_above(name)
+    }
+
     /// The number of xattrs.
     pub(crate) fn xattr_count(&self) -> usize
         ensures value { result ≡ fin.len self.now.xattrs }

@@ -112,6 +112,16 @@ impl Object {
         }
     }
 
+    /// The least name of an xattr above these bytes.
+    pub fn xattr_above(&self, name: &[u8]) -> Option<&[u8]>
+        ensures { option_copied result ≡ key_above self.now.xattrs name.now }
+    {
+        match &self.held {
+            Some(held) => held.xattr_above(name),
+            None => None,
+        }
+    }
+
     /// The number of xattrs.
     pub fn xattr_count(&self) -> usize
         ensures value { result ≡ fin.len self.now.xattrs }
