@@ -43,8 +43,8 @@ impl ClassImage {
     ///
     /// Refusals, in the order of the image's fields, with the number of methods that are right
     /// before it: `Limit` for their count; of a method `Name`, `Order`, `Flags`, and `Limit` for a
-    /// capacity above the rule set's `capacity_limit`, or its slots. Such methods may have no image (a name of 300 bytes has no length
-    /// byte), so this order is a definition of its own.
+    /// capacity above the rule set's `capacity_limit`, or its slots. Such methods may have no image
+    /// (a name of 300 bytes has no length byte), so this order is a definition of its own.
     pub fn new(methods: Vec<Method>, rules: RuleSet) -> Result<ClassImage, ImageError>
         ensures exact { result ≡ class_of rules methods.items }
         ensures accepts { IsOk result ↔ (IsClass methods.items × AreWithinSet rules methods.items) }
