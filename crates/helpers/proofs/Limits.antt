@@ -3,24 +3,26 @@ use Rattle.std.proofs.Common.{◌≡◌, ℕ, zero, suc, ◌+◌, ◌≤◌, Lis
 use Rattle.std.specs.Prelude.{if◌then◌else◌, ◌==◌, slice_get, unwrap_or, drop}
 use Rattle.std.specs.List.{AllByRecursion}
 use Rattle.std.specs.Ordering.{nat_cmp, is_lt, eq_by_cmp}
+use Rattle.std.specs.declared.cmp.Ordering.{Ordering}
+use Rattle.std.specs.declared.cmp.Ordering.TheVariants.{Less, Equal, Greater}
 use Rattle.std.specs.Cmp.Lexicographic.{slice_cmp}
 use Rattle.std.specs.FinMap as fin
 use Rattle.std.specs.FinMap.{find}
 use Rattle.std.proofs.lemmas.List.{length-take}
-use Rattle.std.proofs.lemmas.Bool.{ltb-false, le-ltb}
+use Rattle.std.proofs.lemmas.Bool.{ltb-false}
 use Rattle.std.proofs.lemmas.Cmp.{nat_list_cmp_total, eq_by_cmp_equiv}
 use Rattle.shared_map.specs.Entries.{Entries, least_above, key_above}
-use Rattle.object_store.specs.Object.{Attributes, Content, PlainObject, AreBytes, AreWithin, IsValue, IsContent, IsObject, nothing, content_of, part, spliced, resized}
+use Rattle.object_store.specs.Object.{Attributes, Content, PlainObject, AreBytes, AreWithin, IsName, IsContent, IsObject, nothing, content_of, part, spliced, resized}
 use Rattle.object_store.specs.declared.limits.TheConstants.{DATA_LIMIT, VALUE_LIMIT, XATTR_LIMIT, KEY_LIMIT}
 use Rattle.object_store.specs.declared.store_error.StoreError.{StoreError}
 use Rattle.object_store.specs.declared.store_error.StoreError.TheVariants.{TooBig, TooMany, Range, NoAttr}
 use Rattle.object_store.specs.Calls as calls
 use Rattle.object_store.specs.Laws.{Keeps, Reads}
 use Rattle.helpers.specs.declared.helper.Helper.{Helper}
-use Rattle.helpers.specs.declared.helper.Helper.TheVariants.{Stat, Read, Write, Truncate, Remove, GetXattr, SetXattr, RmXattr, MapGet, MapSet, MapRm, MapNext, OutLen, Create, Caller}
+use Rattle.helpers.specs.declared.helper.Helper.TheVariants.{Stat, Read, Write, Truncate, Remove, GetXattr, SetXattr, RmXattr, MapGet, MapSet, MapRm, MapNext, OutLen, Create, Caller, Compare, Copy, XattrNext}
 use Rattle.helpers.specs.declared.errno.TheConstants.{EEXIST, EINVAL, EFBIG, ENOSPC, ERANGE, ENODATA}
 use Rattle.helpers.specs.Effect.{Given, number, text, Answer, refuses, copies, where_present, Effect, leaves, refused, changes, on_present, is_full}
-use Rattle.helpers.specs.Table.{found_answer, row, effect_of, helper_of, write_effect, truncate_effect, setxattr_effect, rmxattr_effect, map_set_effect, map_rm_effect, create_effect, read_answer}
+use Rattle.helpers.specs.Table.{found_answer, copy_answer, order_answer, row, effect_of, helper_of, write_effect, truncate_effect, setxattr_effect, rmxattr_effect, map_set_effect, map_rm_effect, create_effect, read_answer}
 use Rattle.helpers.specs.Laws.{IsWithinLimits, EffectsAreWithinLimits}
 
 -- ---- what is copied
@@ -39,16 +41,24 @@ copied_present : (room : ℕ) (object : PlainObject) (answer : Content → Answe
 copied_present room None answer h = none_copied room _
 copied_present room (Some o) answer h = h o refl
 
-le_from : (a b : ℕ) → nat_lt a b ≡ false → b ≤ a
+pub le_from : (a b : ℕ) → nat_lt a b ≡ false → b ≤ a
 le_from a b e = ltb-false a b e
 
-found_copied : (room : ℕ) (o : Option (List ℕ)) → ((v : List ℕ) → o ≡ Some v → AreBytes v) → IsCopied room (found_answer o room)
-found_copied room None h = none_copied room _
-found_copied room (Some v) h = by (nat_lt room (length v)) refl
+copy_copied : (room : ℕ) (v : List ℕ) → AreBytes v → IsCopied room (copy_answer v room)
+copy_copied room v h = by (nat_lt room (length v)) refl
   where
     by : (b : Bool) → nat_lt room (length v) ≡ b → IsCopied room (if b then refuses ERANGE else copies v)
     by true e = none_copied room _
-    by false e = record { bytes = h v refl; short = le_from room (length v) e }
+    by false e = record { bytes = h; short = le_from room (length v) e }
+
+found_copied : (room : ℕ) (o : Option (List ℕ)) → ((v : List ℕ) → o ≡ Some v → AreBytes v) → IsCopied room (found_answer o room)
+found_copied room None h = none_copied room _
+found_copied room (Some v) h = copy_copied room v (h v refl)
+
+order_copied : (room : ℕ) (o : Ordering) → IsCopied room (order_answer o)
+order_copied room Less = none_copied room _
+order_copied room Equal = none_copied room _
+order_copied room Greater = none_copied room _
 
 value_copied : (most room : ℕ) (m : Attributes) (name : List ℕ) → AreWithin most m → IsCopied room (found_answer (fin.get m name) room)
 value_copied most room m name w = found_copied room (fin.get m name) (λ v e. (w.each name v e).1.1)
@@ -76,9 +86,12 @@ above_found k x (p ∷ es) e = by (is_lt (slice_cmp nat_cmp k p.0)) (λ f. above
     by true later f = found_at x p.0 p.1 es (same_some p.0 x f)
     by false later f = found_later x p es (later f)
 
+pub key_is : (most : ℕ) (m : Attributes) (key x : List ℕ) → AreWithin most m → key_above m key ≡ Some x → IsName x
+key_is most m key x w e = let f = above_found key x (fin.entries m) e in (w.each x f.0 (fin.get-entries m x ∙ f.1)).0
+
 key_copied : (most room : ℕ) (m : Attributes) (key : List ℕ) → AreWithin most m → IsCopied room (found_answer (key_above m key) room)
 key_copied most room m key w =
-    found_copied room (key_above m key) (λ x e. let f = above_found key x (fin.entries m) e in (w.each x f.0 (fin.get-entries m x ∙ f.1)).0.2)
+    found_copied room (key_above m key) (λ x e. (key_is most m key x w e).2)
 
 -- ---- effects
 left : (room : ℕ) (object : PlainObject) (a : Answer) → IsObject object → IsCopied room a → IsWithinLimits room (leaves object a)
@@ -110,9 +123,6 @@ set_in_is limit m name value e = by (is_some (fin.get m name)) (nat_lt (fin.len 
         ∙ ap (λ c. if c then Ok (fin.insert m name value) else Err TooMany) q
     by false false p q f = absurd (cc)
 
-short_value : (value : List ℕ) → IsValue value → nat_lt VALUE_LIMIT (length value) ≡ false
-short_value value h = le-ltb VALUE_LIMIT (length value) h.0
-
 -- a change that passes two tests
 two_tests : (a b : Bool) (r : Result Content StoreError) → a ≡ true → b ≡ false → (if a then if b then Err TooBig else r else Err Range) ≡ r
 two_tests a b r p q = ap (λ x. if x then if b then Err TooBig else r else Err Range) p ∙ ap (λ x. if x then Err TooBig else r) q
@@ -141,23 +151,25 @@ module _ (laws : Laws) (room : ℕ) where
       let c : Content = record o { bytes = resized o.bytes size } in
       no_bytes room (Some c) 0 (laws.truncate size (Some o) c (subst IsObject s h) (ap (λ b. if b then Err TooBig else Ok c) e))))
 
-  setxattr_is : (object : PlainObject) (name value : List ℕ) → IsObject object → AreBytes name → IsValue value → IsWithinLimits room (setxattr_effect object name value)
+  setxattr_is : (object : PlainObject) (name value : List ℕ) → IsObject object → AreBytes name → AreBytes value → IsWithinLimits room (setxattr_effect object name value)
   setxattr_is object name value h n v =
       effect_if room EINVAL object (not (calls.is_named name)) _ h (λ e.
+      effect_if room EFBIG object (nat_lt VALUE_LIMIT (length value)) _ h (λ s.
       effect_if room ENOSPC object (is_full XATTR_LIMIT (content_of object).xattrs name) _ h (λ f.
       let c : Content = record (content_of object) { xattrs = fin.insert (content_of object).xattrs name value } in
-      no_bytes room (Some c) 0 (laws.set_xattr name value n v.1 object c h
-      (two_tests (calls.is_named name) (nat_lt VALUE_LIMIT (length value)) _ (not_not _ e) (short_value value v)
-      ∙ ap (calls.with_xattrs (content_of object)) (set_in_is XATTR_LIMIT (content_of object).xattrs name value f)))))
+      no_bytes room (Some c) 0 (laws.set_xattr name value n v object c h
+      (two_tests (calls.is_named name) (nat_lt VALUE_LIMIT (length value)) _ (not_not _ e) s
+      ∙ ap (calls.with_xattrs (content_of object)) (set_in_is XATTR_LIMIT (content_of object).xattrs name value f))))))
 
-  map_set_is : (object : PlainObject) (key value : List ℕ) → IsObject object → AreBytes key → IsValue value → IsWithinLimits room (map_set_effect object key value)
+  map_set_is : (object : PlainObject) (key value : List ℕ) → IsObject object → AreBytes key → AreBytes value → IsWithinLimits room (map_set_effect object key value)
   map_set_is object key value h n v =
       effect_if room EINVAL object (not (calls.is_named key)) _ h (λ e.
+      effect_if room EFBIG object (nat_lt VALUE_LIMIT (length value)) _ h (λ s.
       effect_if room ENOSPC object (is_full KEY_LIMIT (content_of object).omap key) _ h (λ f.
       let c : Content = record (content_of object) { omap = fin.insert (content_of object).omap key value } in
-      no_bytes room (Some c) 0 (laws.set_key key value n v.1 object c h
-      (two_tests (calls.is_named key) (nat_lt VALUE_LIMIT (length value)) _ (not_not _ e) (short_value value v)
-      ∙ ap (calls.with_omap (content_of object)) (set_in_is KEY_LIMIT (content_of object).omap key value f)))))
+      no_bytes room (Some c) 0 (laws.set_key key value n v object c h
+      (two_tests (calls.is_named key) (nat_lt VALUE_LIMIT (length value)) _ (not_not _ e) s
+      ∙ ap (calls.with_omap (content_of object)) (set_in_is KEY_LIMIT (content_of object).omap key value f))))))
 
   rmxattr_is : (object : PlainObject) (name : List ℕ) → IsObject object → IsWithinLimits room (rmxattr_effect object name)
   rmxattr_is object name h =
@@ -196,30 +208,34 @@ module _ (laws : Laws) (room : ℕ) where
         short = omega (arith, length-take room (drop at o.bytes));
       })
 
-text_is : (texts : List (List ℕ)) (k : ℕ) → AllByRecursion IsValue texts → IsValue (unwrap_or (slice_get texts k) [])
-text_is [] k h = (omega arith, tt)
+text_is : (texts : List (List ℕ)) (k : ℕ) → AllByRecursion AreBytes texts → AreBytes (unwrap_or (slice_get texts k) [])
+text_is [] k h = tt
 text_is (t ∷ texts) zero h = h.0
 text_is (t ∷ texts) (suc k) h = text_is texts k h.1
 
-row_is : Laws → (helper : Helper) (object : PlainObject) (g : Given) → IsObject object → AllByRecursion IsValue g.texts → IsWithinLimits g.room ((row helper).effect object g)
+row_is : Laws → (helper : Helper) (object : PlainObject) (g : Given) → IsObject object → AllByRecursion AreBytes g.texts → IsWithinLimits g.room ((row helper).effect object g)
 row_is laws Stat object g h t = left g.room object _ h (copied_present g.room object _ (λ o s. none_copied g.room _))
 row_is laws Read object g h t = left g.room object _ h (read_is laws g.room object (number g 0) h)
-row_is laws Write object g h t = write_is laws g.room object (number g 0) (text g 0) h (text_is g.texts 0 t).1
+row_is laws Write object g h t = write_is laws g.room object (number g 0) (text g 0) h (text_is g.texts 0 t)
 row_is laws Truncate object g h t = truncate_is laws g.room object (number g 0) h
 row_is laws Remove object g h t = effect_present g.room object _ (λ o s. no_bytes g.room None 0 tt)
 row_is laws GetXattr object g h t =
     left g.room object _ h (copied_if g.room EINVAL _ _ (λ _. copied_present g.room object _ (λ o s. value_copied XATTR_LIMIT g.room o.xattrs (text g 0) (subst IsObject s h).xattrs)))
-row_is laws SetXattr object g h t = setxattr_is laws g.room object (text g 0) (text g 1) h (text_is g.texts 0 t).1 (text_is g.texts 1 t)
+row_is laws SetXattr object g h t = setxattr_is laws g.room object (text g 0) (text g 1) h (text_is g.texts 0 t) (text_is g.texts 1 t)
 row_is laws RmXattr object g h t = rmxattr_is laws g.room object (text g 0) h
 row_is laws MapGet object g h t =
     left g.room object _ h (copied_if g.room EINVAL _ _ (λ _. copied_present g.room object _ (λ o s. value_copied KEY_LIMIT g.room o.omap (text g 0) (subst IsObject s h).omap)))
-row_is laws MapSet object g h t = map_set_is laws g.room object (text g 0) (text g 1) h (text_is g.texts 0 t).1 (text_is g.texts 1 t)
+row_is laws MapSet object g h t = map_set_is laws g.room object (text g 0) (text g 1) h (text_is g.texts 0 t) (text_is g.texts 1 t)
 row_is laws MapRm object g h t = map_rm_is laws g.room object (text g 0) h
 row_is laws MapNext object g h t =
     left g.room object _ h (copied_if g.room EINVAL _ _ (λ _. copied_present g.room object _ (λ o s. key_copied KEY_LIMIT g.room o.omap (text g 0) (subst IsObject s h).omap)))
 row_is laws OutLen object g h t = record { object = h; bytes = tt; short = omega arith }
 row_is laws Create object g h t = create_is laws g.room object (number g 0) h
 row_is laws Caller object g h t = left g.room object _ h (none_copied g.room _)
+row_is laws Compare object g h t = left g.room object _ h (order_copied g.room _)
+row_is laws Copy object g h t = left g.room object _ h (copy_copied g.room (text g 0) (text_is g.texts 0 t))
+row_is laws XattrNext object g h t =
+    left g.room object _ h (copied_if g.room EINVAL _ _ (λ _. copied_present g.room object _ (λ o s. key_copied XATTR_LIMIT g.room o.xattrs (text g 0) (subst IsObject s h).xattrs)))
 
 pub effects_are : Laws → EffectsAreWithinLimits
 effects_are laws id object g h t = by (helper_of id)

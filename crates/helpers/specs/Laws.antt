@@ -1,7 +1,7 @@
 -- What every helper keeps.
 use Rattle.std.specs.Prelude.{ℕ, ◌≤◌, length}
 use Rattle.std.specs.List.{AllByRecursion}
-use Rattle.object_store.specs.Object.{PlainObject, AreBytes, IsValue, IsObject}
+use Rattle.object_store.specs.Object.{PlainObject, AreBytes, IsObject}
 use Rattle.helpers.specs.Effect.{Given, Effect}
 use Rattle.helpers.specs.Table.{effect}
 
@@ -12,7 +12,7 @@ pub record IsWithinLimits (room : ℕ) (e : Effect) : Type 0 where
   pub short : length e.bytes ≤ room
 
 -- Of an object within the limits every helper leaves one within them, where each text that it is
--- given is as long as a value may be.
+-- given is bytes.
 abbrev pub EffectsAreWithinLimits : Type 0
 EffectsAreWithinLimits =
-    (id : ℕ) (object : PlainObject) (g : Given) → IsObject object → AllByRecursion IsValue g.texts → IsWithinLimits g.room (effect id object g)
+    (id : ℕ) (object : PlainObject) (g : Given) → IsObject object → AllByRecursion AreBytes g.texts → IsWithinLimits g.room (effect id object g)

@@ -1,15 +1,19 @@
 -- The helpers, one row each: what it takes and what it does. Where a row names several conditions
 -- they are tried in the order in which they stand. Numbers are whole numbers: nothing wraps.
-use Rattle.std.specs.Prelude.{ℕ, ◌+◌, ◌==◌, List, [], ◌∷◌, Option, Some, None, true, false, if◌then◌else◌, not, nat_lt, length}
+use Rattle.std.specs.Prelude.{ℕ, ◌+◌, ◌-◌, ◌^◌, ◌==◌, List, [], ◌∷◌, Option, Some, None, true, false, if◌then◌else◌, not, nat_lt, length}
 use Rattle.std.specs.Option.{option_map}
 use Rattle.std.specs.FinMap as fin
+use Rattle.std.specs.Ordering.{nat_cmp}
+use Rattle.std.specs.Cmp.Lexicographic.{slice_cmp}
+use Rattle.std.specs.declared.cmp.Ordering.{Ordering}
+use Rattle.std.specs.declared.cmp.Ordering.TheVariants.{Less, Equal, Greater}
 use Rattle.shared_map.specs.Entries.{key_above}
-use Rattle.object_store.specs.Object.{PlainObject, nothing, content_of, part, spliced, resized}
-use Rattle.object_store.specs.declared.limits.TheConstants.{DATA_LIMIT, NAME_LIMIT, XATTR_LIMIT, KEY_LIMIT}
+use Rattle.object_store.specs.Object.{Attributes, Content, PlainObject, nothing, content_of, part, spliced, resized}
+use Rattle.object_store.specs.declared.limits.TheConstants.{DATA_LIMIT, NAME_LIMIT, VALUE_LIMIT, XATTR_LIMIT, KEY_LIMIT}
 use Rattle.object_store.specs.Calls.{is_named}
 use Rattle.helpers.specs.declared.errno.TheConstants.{EEXIST, EINVAL, EFBIG, ENOSPC, ERANGE, ENODATA}
 use Rattle.helpers.specs.declared.helper.Helper.{Helper}
-use Rattle.helpers.specs.declared.helper.Helper.TheVariants.{Stat, Read, Write, Truncate, Remove, GetXattr, SetXattr, RmXattr, MapGet, MapSet, MapRm, MapNext, OutLen, Create, Caller}
+use Rattle.helpers.specs.declared.helper.Helper.TheVariants.{Stat, Read, Write, Truncate, Remove, GetXattr, SetXattr, RmXattr, MapGet, MapSet, MapRm, MapNext, OutLen, Create, Caller, Compare, Copy, XattrNext}
 use Rattle.helpers.specs.declared.argument.Argument.{Argument}
 use Rattle.helpers.specs.declared.argument.Argument.TheVariants.{Number, OutputLength, Readable, Writable}
 use Rattle.helpers.specs.Effect.{Takes, Given, number, text, Answer, gives, refuses, copies, where_present, Effect, leaves, refused, changes, on_present, is_full}
@@ -41,11 +45,14 @@ truncate_effect object size =
 abbrev pub remove_effect : PlainObject → Effect
 remove_effect object = on_present object (λ o. changes None 0)
 
--- a value or a key that is looked up: refused where there is none, then where there is too little
--- room for it; copies it and answers its length
+-- copy: refused where there is too little room; copies the bytes and answers their count
+abbrev pub copy_answer : List ℕ → ℕ → Answer
+copy_answer bytes room = if nat_lt room (length bytes) then refuses ERANGE else copies bytes
+
+-- a value or a key that is looked up: refused where there is none; copies it
 abbrev pub found_answer : Option (List ℕ) → ℕ → Answer
 found_answer None room = refuses ENODATA
-found_answer (Some bytes) room = if nat_lt room (length bytes) then refuses ERANGE else copies bytes
+found_answer (Some bytes) room = copy_answer bytes room
 
 -- getxattr: refused where the name is none, then where the object is absent
 abbrev pub getxattr_answer : PlainObject → List ℕ → ℕ → Answer
@@ -53,11 +60,12 @@ getxattr_answer object name room =
     if not (is_named name) then refuses EINVAL else
     where_present object (λ o. found_answer (fin.get o.xattrs name) room)
 
--- setxattr: refused where the name is none, then where it is new and past the limit; creates an
--- absent object
+-- setxattr: refused where the name is none, then where the value is too long, then where the name
+-- is new and past the limit; creates an absent object
 abbrev pub setxattr_effect : PlainObject → List ℕ → List ℕ → Effect
 setxattr_effect object name value =
     if not (is_named name) then refused EINVAL object else
+    if nat_lt VALUE_LIMIT (length value) then refused EFBIG object else
     if is_full XATTR_LIMIT (content_of object).xattrs name then refused ENOSPC object else
     changes (Some (record (content_of object) { xattrs = fin.insert (content_of object).xattrs name value })) 0
 
@@ -79,6 +87,7 @@ map_get_answer object key room =
 abbrev pub map_set_effect : PlainObject → List ℕ → List ℕ → Effect
 map_set_effect object key value =
     if not (is_named key) then refused EINVAL object else
+    if nat_lt VALUE_LIMIT (length value) then refused EFBIG object else
     if is_full KEY_LIMIT (content_of object).omap key then refused ENOSPC object else
     changes (Some (record (content_of object) { omap = fin.insert (content_of object).omap key value })) 0
 
@@ -89,12 +98,16 @@ map_rm_effect object key =
     on_present object (λ o. if not (fin.contains_key o.omap key) then refused ENODATA (Some o) else
     changes (Some (record o { omap = fin.remove o.omap key })) 0)
 
--- map_next: the least key above the given bytes, which are no key where they are none; refused
--- where these are too many, then where the object is absent
+-- the least name above the given bytes, which are no name where they are none; refused where these
+-- are too many, then where the object is absent
+abbrev pub next_answer : (Content → Attributes) → PlainObject → List ℕ → ℕ → Answer
+next_answer names object name room =
+    if nat_lt NAME_LIMIT (length name) then refuses EINVAL else
+    where_present object (λ o. found_answer (key_above (names o) name) room)
+
+-- map_next: the next key of the omap
 abbrev pub map_next_answer : PlainObject → List ℕ → ℕ → Answer
-map_next_answer object key room =
-    if nat_lt NAME_LIMIT (length key) then refuses EINVAL else
-    where_present object (λ o. found_answer (key_above o.omap key) room)
+map_next_answer object key room = next_answer (λ o. o.omap) object key room
 
 -- out_len: that many bytes of the output region are output
 abbrev pub out_len_effect : PlainObject → ℕ → Effect
@@ -104,6 +117,20 @@ out_len_effect object n = record { answer = 0; bytes = []; object = object; out_
 abbrev pub create_effect : PlainObject → ℕ → Effect
 create_effect None exclusive = changes (Some nothing) 0
 create_effect (Some o) exclusive = if exclusive == 0 then changes (Some o) 0 else refused EEXIST (Some o)
+
+-- compare: 1 less, as a register holds it, equal, or 1 more
+abbrev pub order_answer : Ordering → Answer
+order_answer Less = gives (2 ^ 64 - 1)
+order_answer Equal = gives 0
+order_answer Greater = gives 1
+
+-- by bytes, which are numbers from 0 to 255; a proper beginning is below
+abbrev pub compare_answer : List ℕ → List ℕ → Answer
+compare_answer left right = order_answer (slice_cmp nat_cmp left right)
+
+-- xattr_next: as map_next, on the xattrs
+abbrev pub xattr_next_answer : PlainObject → List ℕ → ℕ → Answer
+xattr_next_answer object name room = next_answer (λ o. o.xattrs) object name room
 
 -- what a helper takes, whether it may change the object, and what it does
 pub record Row : Type 0 where
@@ -134,6 +161,9 @@ row MapNext = reads (Readable ∷ Writable ∷ []) (λ object g. leaves object (
 row OutLen = reads (OutputLength ∷ []) (λ object g. out_len_effect object (number g 0))
 row Create = writes (Number ∷ []) (λ object g. create_effect object (number g 0))
 row Caller = reads [] (λ object g. leaves object (gives g.caller))
+row Compare = reads (Readable ∷ Readable ∷ []) (λ object g. leaves object (compare_answer (text g 0) (text g 1)))
+row Copy = reads (Writable ∷ Readable ∷ []) (λ object g. leaves object (copy_answer (text g 0) g.room))
+row XattrNext = reads (Readable ∷ Writable ∷ []) (λ object g. leaves object (xattr_next_answer object (text g 0) g.room))
 
 -- the helpers by id
 abbrev pub helper_of : ℕ → Option Helper
@@ -152,7 +182,10 @@ helper_of id =
     if id == 12 then Some MapNext else
     if id == 13 then Some OutLen else
     if id == 14 then Some Create else
-    if id == 15 then Some Caller else None
+    if id == 15 then Some Caller else
+    if id == 16 then Some Compare else
+    if id == 17 then Some Copy else
+    if id == 18 then Some XattrNext else None
 
 -- what the helper of an id takes; none where no helper has that id
 abbrev pub signature_of : ℕ → Option Takes

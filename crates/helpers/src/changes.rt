@@ -1,5 +1,4 @@
-ghost use Rattle.std.specs.Prelude.{◌≡◌, ◌≤◌, IfOk, OnErr, length};
-ghost use Rattle.object_store.specs.declared.limits.TheConstants.{VALUE_LIMIT};
+ghost use Rattle.std.specs.Prelude.{◌≡◌, IfOk, OnErr};
 ghost use Rattle.helpers.specs.Table.{write_effect, truncate_effect, remove_effect, setxattr_effect, rmxattr_effect, map_set_effect, map_rm_effect, create_effect};
 
 use crate::answer::{answered, negative};
@@ -44,15 +43,14 @@ pub fn remove(staged: &mut Staged) -> u64
 }
 
 /// Helper 7, `setxattr`: sets an xattr, of an absent object too, which it creates. It answers 0.
-/// Refused, in this order: EINVAL if the name is none, ENOSPC if it is new and the object has all
-/// xattrs that it may have.
+/// Refused, in this order: EINVAL if the name is none, EFBIG if the value is longer than a value
+/// may be, ENOSPC if the name is new and the object has all xattrs that it may have.
 pub fn setxattr(
     alloc: Global,
     staged: &mut Staged,
     name: &[u8],
     value: &[u8],
 ) -> Result<u64, NoMemory>
-    requires { length value.now ≤ VALUE_LIMIT }
     ensures answer { IfOk result (λ n. n ≡ (setxattr_effect staged.old.after name.now value.now).answer) }
     ensures object { IfOk result (λ _. staged.new.after ≡ (setxattr_effect staged.old.after name.now value.now).object) }
     ensures before { staged.new.before ≡ staged.old.before }
@@ -79,7 +77,6 @@ pub fn map_set(
     key: &[u8],
     value: &[u8],
 ) -> Result<u64, NoMemory>
-    requires { length value.now ≤ VALUE_LIMIT }
     ensures answer { IfOk result (λ n. n ≡ (map_set_effect staged.old.after key.now value.now).answer) }
     ensures object { IfOk result (λ _. staged.new.after ≡ (map_set_effect staged.old.after key.now value.now).object) }
     ensures before { staged.new.before ≡ staged.old.before }

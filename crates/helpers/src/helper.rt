@@ -22,7 +22,13 @@ pub enum Helper {
     OutLen,
     Create,
     Caller,
+    Compare,
+    Copy,
+    XattrNext,
 }
+
+/// The ids of the helpers are 1 to this.
+pub const LAST_HELPER: u32 = 18;
 
 impl Helper {
     /// The helper of an id, the immediate of the call as an unsigned number.
@@ -45,6 +51,9 @@ impl Helper {
             13 => Some(Helper::OutLen),
             14 => Some(Helper::Create),
             15 => Some(Helper::Caller),
+            16 => Some(Helper::Compare),
+            17 => Some(Helper::Copy),
+            18 => Some(Helper::XattrNext),
             _ => None,
         }
     }
@@ -69,20 +78,23 @@ fn takes(helper: Helper) -> Signature
     ensures short { length result.arguments.now ≤ 5 }
 {
     match helper {
-        Helper::Stat     => Signature { arguments: &[], writes: false },
-        Helper::Read     => Signature { arguments: &[Argument::Number, Argument::Writable], writes: false },
-        Helper::Write    => Signature { arguments: &[Argument::Number, Argument::Readable], writes: true },
-        Helper::Truncate => Signature { arguments: &[Argument::Number], writes: true },
-        Helper::Remove   => Signature { arguments: &[], writes: true },
-        Helper::GetXattr => Signature { arguments: &[Argument::Readable, Argument::Writable], writes: false },
-        Helper::SetXattr => Signature { arguments: &[Argument::Readable, Argument::Readable], writes: true },
-        Helper::RmXattr  => Signature { arguments: &[Argument::Readable], writes: true },
-        Helper::MapGet   => Signature { arguments: &[Argument::Readable, Argument::Writable], writes: false },
-        Helper::MapSet   => Signature { arguments: &[Argument::Readable, Argument::Readable], writes: true },
-        Helper::MapRm    => Signature { arguments: &[Argument::Readable], writes: true },
-        Helper::MapNext  => Signature { arguments: &[Argument::Readable, Argument::Writable], writes: false },
-        Helper::OutLen   => Signature { arguments: &[Argument::OutputLength], writes: false },
-        Helper::Create   => Signature { arguments: &[Argument::Number], writes: true },
-        Helper::Caller   => Signature { arguments: &[], writes: false },
+        Helper::Stat      => Signature { arguments: &[], writes: false },
+        Helper::Read      => Signature { arguments: &[Argument::Number, Argument::Writable], writes: false },
+        Helper::Write     => Signature { arguments: &[Argument::Number, Argument::Readable], writes: true },
+        Helper::Truncate  => Signature { arguments: &[Argument::Number], writes: true },
+        Helper::Remove    => Signature { arguments: &[], writes: true },
+        Helper::GetXattr  => Signature { arguments: &[Argument::Readable, Argument::Writable], writes: false },
+        Helper::SetXattr  => Signature { arguments: &[Argument::Readable, Argument::Readable], writes: true },
+        Helper::RmXattr   => Signature { arguments: &[Argument::Readable], writes: true },
+        Helper::MapGet    => Signature { arguments: &[Argument::Readable, Argument::Writable], writes: false },
+        Helper::MapSet    => Signature { arguments: &[Argument::Readable, Argument::Readable], writes: true },
+        Helper::MapRm     => Signature { arguments: &[Argument::Readable], writes: true },
+        Helper::MapNext   => Signature { arguments: &[Argument::Readable, Argument::Writable], writes: false },
+        Helper::OutLen    => Signature { arguments: &[Argument::OutputLength], writes: false },
+        Helper::Create    => Signature { arguments: &[Argument::Number], writes: true },
+        Helper::Caller    => Signature { arguments: &[], writes: false },
+        Helper::Compare   => Signature { arguments: &[Argument::Readable, Argument::Readable], writes: false },
+        Helper::Copy      => Signature { arguments: &[Argument::Writable, Argument::Readable], writes: false },
+        Helper::XattrNext => Signature { arguments: &[Argument::Readable, Argument::Writable], writes: false },
     }
 }

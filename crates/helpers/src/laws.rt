@@ -1,7 +1,8 @@
-//! The law of the table, for the proofs of the crates above, and the numbers of the errors.
+//! The laws of the table, for the proofs of the crates above, and the numbers of the errors.
 ghost use Rattle.std.specs.Prelude.{◌≡◌};
 ghost use Rattle.helpers.specs.declared.errno.TheConstants.{ENOENT, EIO, ENOMEM, EBUSY, EEXIST, EINVAL, EFBIG, ENOSPC, ERANGE, ENODATA};
 ghost use Rattle.helpers.specs.Laws.{EffectsAreWithinLimits};
+ghost use Rattle.helpers.specs.Ranges.{AnswersAreInRange};
 
 use object_store::{changes_keep_the_limits, reads_are_within};
 
@@ -15,6 +16,11 @@ pub fn effects_are_within_limits()
     // For the proof: a read of such an object gives bytes, or a value.
     reads_are_within();
 }
+
+/// Every helper answers a number of its range. The function does nothing.
+pub fn answers_are_in_range()
+    ensures { AnswersAreInRange }
+{}
 
 /// The errors by number, as Linux has them. The function does nothing.
 pub fn errors_by_number()

@@ -1,10 +1,12 @@
 //! The helpers, through which a method reads and changes its object. `Helper::of` is the one place
-//! that lists the ids; `signature` gives the arguments of the helper of an id; and each helper has
-//! one function, which does as its row of the table says (`specs/Table.antt`), over a staged object
-//! if it touches one. A refused helper changes nothing, nor does one whose memory was refused.
+//! that lists the ids; `signature` gives the arguments of the helper of an id, `answer_range` where
+//! its answers lie; and each helper has one function, which does as its row of the table says
+//! (`specs/Table.antt`), over a staged object if it touches one. A refused helper changes nothing,
+//! nor does one whose memory was refused.
 #![tactic(auto)]
 
 mod answer;
+mod answer_ranges;
 mod argument;
 mod changes;
 mod errno;
@@ -16,12 +18,13 @@ mod plain;
 mod span;
 
 pub use answer::HelperAnswer;
+pub use answer_ranges::{AnswerLimit, AnswerRange, answer_range};
 pub use argument::{Argument, Signature};
 pub use changes::{create, map_rm, map_set, remove, rmxattr, setxattr, truncate, write};
 pub use errno::{EBUSY, EEXIST, EFBIG, EINVAL, EIO, ENODATA, ENOENT, ENOMEM, ENOSPC, ERANGE};
-pub use helper::{Helper, signature};
-pub use laws::{effects_are_within_limits, errors_by_number};
-pub use lookups::{key_above, map_value, stat, xattr_value};
-pub use memory::{bytes_in, getxattr, map_get, map_next, read};
+pub use helper::{Helper, LAST_HELPER, signature};
+pub use laws::{answers_are_in_range, effects_are_within_limits, errors_by_number};
+pub use lookups::{key_above, map_value, stat, xattr_above, xattr_value};
+pub use memory::{bytes_in, compare, copy, getxattr, map_get, map_next, read, xattr_next};
 pub use plain::{caller, out_len};
 pub use span::Span;

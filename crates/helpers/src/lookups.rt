@@ -1,5 +1,5 @@
 ghost use Rattle.std.specs.Prelude.{◌≡◌, ◌≤◌, length};
-ghost use Rattle.helpers.specs.Table.{stat_answer, getxattr_answer, map_get_answer, map_next_answer};
+ghost use Rattle.helpers.specs.Table.{stat_answer, getxattr_answer, map_get_answer, map_next_answer, xattr_next_answer};
 
 use crate::answer::{HelperAnswer, looked_up, negative};
 use crate::errno::ENOENT;
@@ -43,4 +43,13 @@ pub fn key_above<'a>(staged: &'a Staged, key: &[u8], room: u64) -> HelperAnswer<
     ensures short { length result.bytes.now ≤ room }
 {
     looked_up(calls::next_key(staged.object(), key), room)
+}
+
+/// The answer of `xattr_next`: as of `map_next`, on the xattrs.
+pub fn xattr_above<'a>(staged: &'a Staged, name: &[u8], room: u64) -> HelperAnswer<'a>
+    ensures number { result.number ≡ (xattr_next_answer staged.entry.now.after name.now room).number }
+    ensures bytes { result.bytes.now ≡ (xattr_next_answer staged.entry.now.after name.now room).bytes }
+    ensures short { length result.bytes.now ≤ room }
+{
+    looked_up(calls::next_xattr(staged.object(), name), room)
 }

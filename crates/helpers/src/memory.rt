@@ -1,13 +1,14 @@
 ghost use Rattle.std.specs.Prelude.{◌≡◌, ◌+◌, ◌≤◌, length};
 ghost use Rattle.object_store.specs.Object.{part};
-ghost use Rattle.helpers.specs.Table.{read_answer, getxattr_answer, map_get_answer, map_next_answer};
+ghost use Rattle.helpers.specs.Table.{read_answer, getxattr_answer, map_get_answer, map_next_answer, compare_answer, copy_answer, xattr_next_answer};
 ghost use Rattle.helpers.specs.View.{IsWithin, bytes_in, filled, written};
 
 use crate::answer::negative;
-use crate::errno::ENOENT;
-use crate::lookups::{key_above, map_value, xattr_value};
+use crate::errno::{ENOENT, ERANGE};
+use crate::lookups::{key_above, map_value, xattr_above, xattr_value};
 use crate::span::Span;
 use object_store::Object;
+use std::cmp::Ordering;
 use txn::Staged;
 
 /// The bytes of a range. One of no bytes has no place: its address may be any number then.
@@ -104,6 +105,68 @@ pub fn map_next(staged: &Staged, memory: &mut [u8], key: Span, next: Span) -> u6
     ensures bytes { memory.new ≡ filled memory.old next (map_next_answer staged.entry.now.after (bytes_in memory.old key) next.len).bytes }
 {
     let answer = key_above(staged, bytes_in(memory, key), next.len);
+    fill(memory, next, answer.bytes);
+    answer.number
+}
+
+/// Helper 16, `compare`: the first bytes are below the second (-1), equal to them (0) or above them
+/// (1). Bytes are taken unsigned, and a proper beginning is below.
+pub fn compare(memory: &[u8], left: Span, right: Span) -> u64
+    requires left { IsWithin memory.now left }
+    requires right { IsWithin memory.now right }
+    ensures { result ≡ (compare_answer (bytes_in memory.now left) (bytes_in memory.now right)).number }
+{
+    match bytes_in(memory, left).cmp(bytes_in(memory, right)) {
+        Ordering::Less => negative(1),
+        Ordering::Equal => 0,
+        Ordering::Greater => 1,
+    }
+}
+
+/// Helper 17, `copy`: copies bytes to the beginning of a range. They are read whole before the
+/// first is written: the two ranges may overlap. It answers their number. Refused: ERANGE if they
+/// are more than the range has.
+pub fn copy(memory: &mut [u8], to: Span, from: Span) -> u64
+    requires to { IsWithin memory.old to }
+    requires from { IsWithin memory.old from }
+    ensures answer { result ≡ (copy_answer (bytes_in memory.old from) to.len).number }
+    ensures bytes { memory.new ≡ filled memory.old to (copy_answer (bytes_in memory.old from) to.len).bytes }
+{
+    if to.len < from.len {
+        // For the proof: a refusal copies no bytes, which leaves the memory as it is.
+        fill(memory, to, &[]);
+        return negative(ERANGE);
+    }
+    move_bytes(memory, to, from);
+    from.len
+}
+
+/// Writes the bytes of a range over those at the beginning of another, as they are before.
+fn move_bytes(memory: &mut [u8], to: Span, from: Span)
+    requires to { IsWithin memory.old to }
+    requires from { IsWithin memory.old from }
+    requires short { from.len ≤ to.len }
+    ensures { memory.new ≡ filled memory.old to (bytes_in memory.old from) }
+{
+    // A range of length 0 may have any address, so memory isn't indexed by it.
+    if from.len == 0 {
+        fill(memory, to, &[]);
+        return;
+    }
+    memory.copy_within(
+        from.at as usize..(from.at + from.len) as usize,
+        to.at as usize,
+    );
+}
+
+/// Helper 18, `xattr_next`: as `map_next`, on the xattrs.
+pub fn xattr_next(staged: &Staged, memory: &mut [u8], name: Span, next: Span) -> u64
+    requires name { IsWithin memory.old name }
+    requires next { IsWithin memory.old next }
+    ensures answer { result ≡ (xattr_next_answer staged.entry.now.after (bytes_in memory.old name) next.len).number }
+    ensures bytes { memory.new ≡ filled memory.old next (xattr_next_answer staged.entry.now.after (bytes_in memory.old name) next.len).bytes }
+{
+    let answer = xattr_above(staged, bytes_in(memory, name), next.len);
     fill(memory, next, answer.bytes);
     answer.number
 }
