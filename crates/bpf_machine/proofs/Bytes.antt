@@ -1,7 +1,6 @@
 -- Lists of bytes stay lists of bytes.
-use Rattle.std.proofs.Common.{ℕ, zero, suc, ◌+◌, ◌/◌, ◌≤◌, List, [], ◌∷◌, ◌++◌, arith, length, take, drop, length-drop}
+use Rattle.std.proofs.Common.{ℕ, zero, suc, ◌+◌, ◌/◌, List, [], ◌∷◌, ◌++◌, arith, length, take, drop}
 use Rattle.std.specs.Prelude.{replicate}
-use Rattle.std.proofs.lemmas.List.{length-take}
 use Rattle.object_store.specs.Object.{AreBytes, part}
 use Rattle.bpf_machine.specs.State.{le_bytes, written}
 
@@ -34,6 +33,3 @@ pub are_written : (xs : List ℕ) (place : ℕ) (bytes : List ℕ) → AreBytes 
 are_written xs place bytes h k =
     are_append (take place xs) (bytes ++ drop (place + length bytes) xs) (are_take place xs h)
     (are_append bytes (drop (place + length bytes) xs) k (are_drop (place + length bytes) xs h))
-
-pub part_within : (xs : List ℕ) (place n : ℕ) → length (part xs place n) ≤ length xs
-part_within xs place n = omega (arith, length-take n (drop place xs), length-drop place xs)

@@ -14,21 +14,20 @@ use Rattle.bpf_decode.specs.declared.operation.OpWidth.TheVariants.{Bits32, Bits
 use Rattle.bpf_machine.specs.declared.limits.TheConstants.{STACK_SIZE}
 use Rattle.bpf_decode.specs.declared.region.Region.{Region}
 use Rattle.bpf_decode.specs.declared.region.Region.TheVariants.{Input, Output, Stack}
-use Rattle.object_store.specs.declared.limits.TheConstants.{VALUE_LIMIT}
-use Rattle.object_store.specs.Object.{PlainObject, IsObject, IsValue, AreBytes, part}
+use Rattle.object_store.specs.Object.{PlainObject, IsObject, AreBytes, part}
 use Rattle.helpers.specs.declared.argument.Argument.{Argument}
 use Rattle.helpers.specs.declared.argument.Argument.TheVariants.{Number, OutputLength, Readable, Writable}
 use Rattle.helpers.specs.Table.{signature_of, effect}
 use Rattle.helpers.specs.Laws.{EffectsAreWithinLimits}
 use Rattle.bpf_machine.specs.declared.caps.Caps.{Caps}
-use Rattle.bpf_machine.specs.State.{◌>>=◌, only, le_value, le_bytes, cells, put, size, AreCapacities, State, reg, set_reg, go, opening, Outcome, outcome_of, Ending, Ended, Stuck, Unfinished, goes_on, ends}
+use Rattle.bpf_machine.specs.State.{◌>>=◌, only, le_value, le_bytes, cells, put, size, State, reg, set_reg, go, opening, Outcome, outcome_of, Ending, Ended, Stuck, Unfinished, goes_on, ends}
 use Rattle.bpf_machine.specs.Helper.{Given, asked, bytes_in, write_room}
 use Rattle.bpf_machine.specs.Flat.{Layout, base, operand, at_slot, at_base, signed16, signed32, width_of, signed_width_of, find, range, load, load_signed, store, arguments, help, flat_after, operation_row, neg_row, mov_row, end_row, alu_row, ldx_row, st_row, stx_row, wide_row, call_row, branch_row, act, step, exit_code, run, entry}
 use Rattle.bpf_decode.specs.Jump.{jump_target, branch_to}
 use Rattle.bpf_machine.specs.Safe.{caps_of, first_layout, outcome_or_none}
 use Rattle.bpf_machine.specs.Address.{IsMemory}
 use Rattle.bpf_machine.specs.Within.{IsWithinLimits, OutcomesAreWithinLimits, CallsAreWithinLimits}
-use Rattle.bpf_machine.proofs.Bytes.{are_append, are_take, are_zeros, are_part, are_le_bytes, are_written, part_within}
+use Rattle.bpf_machine.proofs.Bytes.{are_append, are_take, are_zeros, are_part, are_le_bytes, are_written}
 use Rattle.bpf_machine.proofs.Cells.{length-le_bytes}
 use Rattle.bpf_machine.proofs.OneMemory.{IsPlace, find_place, put_same, put_other, put_sized}
 use Rattle.bpf_machine.proofs.Counting.{one_less}
@@ -62,17 +61,12 @@ pub record IsGood (caps : Caps) (s : State ℕ) : Type 0 where
   pub bytes : (r : Region) → AreBytes (cells s.memory r)
   pub object : IsObject s.object
 
--- every text is one that a value may be, and the writable range is a region's
+-- every text is bytes, and the writable range is a region's
 pub record IsGiven (caps : Caps) (g : Given) : Type 0 where
-  pub texts : AllByRecursion IsValue g.texts
+  pub texts : AllByRecursion AreBytes g.texts
   pub room : (p : Region × ℕ) → g.target ≡ Some p → p.1 + g.room ≤ size caps p.0
 
-size_short : (caps : Caps) → AreCapacities caps → (r : Region) → size caps r ≤ VALUE_LIMIT
-size_short caps a Input = a.input
-size_short caps a Output = a.output
-size_short caps a Stack = omega arith
-
-module _ (caps : Caps) (law : EffectsAreWithinLimits) (within : AreCapacities caps) (lay : Layout) where
+module _ (caps : Caps) (law : EffectsAreWithinLimits) (lay : Layout) where
   -- bytes written at a place leave the state good
   put_good : (s : State ℕ) (r : Region) (place : ℕ) (bytes : List ℕ) → IsGood caps s → place + length bytes ≤ size caps r → AreBytes bytes → IsGood caps (record s { memory = put s.memory r place bytes })
   put_good s r place bytes g h k =
@@ -114,10 +108,9 @@ module _ (caps : Caps) (law : EffectsAreWithinLimits) (within : AreCapacities ca
       let one : Where (IsRange n) (Some (Some p)) = where_some (IsRange n) (Some p) (λ q f. subst (λ x. x.1 + n ≤ size caps x.0) (same_Some p q f) (find_place caps lay at n p e).inside) in
       where_if (IsRange n) writes _ _ (where_only (IsRange n) _ _ one) one))
 
-  text_is : (s : State ℕ) (p : Option (Region × ℕ)) (n : ℕ) → IsGood caps s → IsValue (bytes_in s.memory p n)
-  text_is s None n g = (omega arith, tt)
-  text_is s (Some p) n g =
-      (omega (arith, part_within (cells s.memory p.0) p.1 n, g.sized.lengths p.0, size_short caps within p.0), are_part (cells s.memory p.0) p.1 n (g.bytes p.0))
+  text_is : (s : State ℕ) (p : Option (Region × ℕ)) (n : ℕ) → IsGood caps s → AreBytes (bytes_in s.memory p n)
+  text_is s None n g = tt
+  text_is s (Some p) n g = are_part (cells s.memory p.0) p.1 n (g.bytes p.0)
 
   given : (s : State ℕ) → IsGood caps s → (takes : List Argument) (k : ℕ) → Where (IsGiven caps) (arguments caps lay s takes k)
   given s g [] k = where_some (IsGiven caps) _ (record { texts = tt; room = λ p e. absurd (none-some p e) })
@@ -280,7 +273,7 @@ module _ (caps : Caps) (law : EffectsAreWithinLimits) (within : AreCapacities ca
 
 pub outcomes_are_within_limits : EffectsAreWithinLimits → OutcomesAreWithinLimits
 outcomes_are_within_limits law caps lay code before caller input count o k within h bytes short e =
-    runs caps law within lay code before h count (entry caps lay before caller input) o k (entry_good caps law within lay before caller input h bytes short) e
+    runs caps law lay code before h count (entry caps lay before caller input) o k (entry_good caps law lay before caller input h bytes short) e
 
 pub calls_are_within_limits : EffectsAreWithinLimits → CallsAreWithinLimits
 calls_are_within_limits law m within object caller input call =
