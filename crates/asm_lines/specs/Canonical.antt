@@ -8,7 +8,7 @@ use Rattle.bpf_decode.specs.declared.insn.Operand.TheVariants.{Immediate, Regist
 use Rattle.bpf_decode.specs.declared.insn.Insn.{Insn}
 use Rattle.bpf_decode.specs.declared.insn.Insn.TheVariants.{Alu, Neg, Mov, MovSigned, End, LoadWide, Load, LoadSigned, Store, Jump, JumpLong, Branch, Call, CallLocal, Exit}
 use Rattle.bpf_decode.specs.declared.rule_set.RuleSet.{RuleSet}
-use Rattle.bpf_decode.specs.declared.rule_set.RuleSet.TheVariants.{One, Two}
+use Rattle.bpf_decode.specs.declared.rule_set.RuleSet.TheVariants.{One, Two, Three}
 use Rattle.bpf_decode.specs.Class.{ClassMethod, Class}
 use Rattle.bpf_decode.specs.Instruction.{slot_count}
 use Rattle.asm_lines.specs.declared.form.Form.TheVariants as forms
@@ -93,6 +93,7 @@ methods_text ms = flat_map method_text ms
 abbrev pub rules_text : RuleSet → List ℕ
 rules_text One = []
 rules_text Two = codes ".rules 2\n"
+rules_text Three = codes ".rules 3\n"
 
 -- the text of a class: its rule set, and its methods
 abbrev pub class_text : Class → List ℕ

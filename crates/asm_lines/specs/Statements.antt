@@ -11,7 +11,7 @@ use Rattle.asm_lines.specs.Texts.{content, first_word, after_word, is_label_name
 use Rattle.asm_lines.specs.Operands.{filled, both, unsigned_of}
 use Rattle.asm_lines.specs.Drafts.{instruction_of}
 use Rattle.bpf_decode.specs.declared.rule_set.RuleSet.{RuleSet}
-use Rattle.bpf_decode.specs.declared.rule_set.RuleSet.TheVariants.{Two}
+use Rattle.bpf_decode.specs.declared.rule_set.RuleSet.TheVariants.{Two, Three}
 use Rattle.bpf_decode.specs.Limits.{is_method_name}
 use Rattle.bpf_decode.specs.declared.limits.TheConstants.{CAPACITY_LIMIT}
 
@@ -19,7 +19,7 @@ use Rattle.bpf_decode.specs.declared.limits.TheConstants.{CAPACITY_LIMIT}
 unfoldable pub flags_of : List ℕ → Option ℕ
 flags_of text = if bytes_eq text (codes "r") then Some 1 else (if bytes_eq text (codes "w") then Some 2 else (if bytes_eq text (codes "rw") then Some 3 else None))
 
--- the numbers of a method's line, with the name and the flags before them
+-- the numbers of a method's line, by the limits that all rule sets have, with the name and the flags before them
 abbrev pub header_with : Bool → List ℕ → Option ℕ → List ℕ → Result MethodHeader AsmFault
 header_with named name None caps = Err faults.Operand
 header_with named name (Some flags) caps =
@@ -32,9 +32,9 @@ unfoldable pub header_of : List ℕ → Result MethodHeader AsmFault
 header_of text =
     header_with (is_method_name (first_word text)) (first_word text) (flags_of (first_word (after_word text))) (after_word (after_word text))
 
--- what stands after `.rules`: 2, since a class of rule set 1 has no such line
+-- what stands after `.rules`: 2 or 3, since a class of rule set 1 has no such line
 abbrev pub rules_of : List ℕ → Result RuleSet AsmFault
-rules_of text = if bytes_eq text (codes "2") then Ok Two else Err faults.Operand
+rules_of text = if bytes_eq text (codes "2") then Ok Two else (if bytes_eq text (codes "3") then Ok Three else Err faults.Operand)
 
 -- a label's line: its name and a colon
 unfoldable pub is_label_line : List ℕ → Bool

@@ -289,6 +289,7 @@ fn rules_line(rules: RuleSet) -> &'static str
     match rules {
         RuleSet::One => "",
         RuleSet::Two => ".rules 2\n",
+        RuleSet::Three => ".rules 3\n",
     }
 }
 

@@ -24,7 +24,7 @@ pub enum Statement<'a> {
     Instruction(Result<Draft<'a>, AsmFault>),
 }
 
-/// A capacity: 0 to `CAPACITY_LIMIT`.
+/// A capacity: 0 to `CAPACITY_LIMIT`, the greatest of any rule set.
 fn capacity(text: &[u8]) -> Result<u16, AsmFault>
     ensures read { result ≡ unsigned_of CAPACITY_LIMIT text.now }
     ensures within { IfOk result (λ n. n ≤ CAPACITY_LIMIT) }
@@ -35,7 +35,8 @@ fn capacity(text: &[u8]) -> Result<u16, AsmFault>
     }
 }
 
-/// Reads the text after `.method`: name, flags, capacity of input, capacity of output.
+/// Reads the text after `.method`: name, flags, capacity of input, capacity of output. The
+/// capacities are those of any rule set, since a line is read without the others.
 #[tactic(auto, unfolding(crate::specs::Statements::header_of))]
 fn read_header(text: &[u8]) -> Result<Header, AsmFault>
     ensures { result ≡ header_of text.now }
@@ -55,13 +56,15 @@ fn read_header(text: &[u8]) -> Result<Header, AsmFault>
     }
 }
 
-/// Reads the text after `.rules`, which is 2. A class of rule set 1 has no such line.
+/// Reads the text after `.rules`, which is 2 or 3. A class of rule set 1 has no such line.
 // So each class has one text, and `.rules 1` is refused.
 fn read_rules(text: &[u8]) -> Result<RuleSet, AsmFault>
     ensures { result ≡ rules_of text.now }
 {
     if text == b"2".as_slice() {
         Ok(RuleSet::Two)
+    } else if text == b"3".as_slice() {
+        Ok(RuleSet::Three)
     } else {
         Err(AsmFault::Operand)
     }
