@@ -9,8 +9,8 @@ use Rattle.std.proofs.lemmas.List.{append-nil, length-append}
 use Rattle.bpf_decode.specs.declared.insn.Insn.{Insn}
 use Rattle.bpf_decode.specs.Instruction.{AllFit, slot_total, slot_count}
 use Rattle.bpf_decode.specs.declared.rule_set.RuleSet.{RuleSet}
-use Rattle.bpf_decode.specs.declared.rule_set.RuleSet.TheVariants.{One, Two}
-use Rattle.bpf_decode.specs.Class.{ClassMethod, IsClass, IsNameByte, IsMethod, NamesRise}
+use Rattle.bpf_decode.specs.declared.rule_set.RuleSet.TheVariants.{One, Two, Three}
+use Rattle.bpf_decode.specs.Class.{ClassMethod, IsClass, IsWithinSet, AreWithinSet, IsNameByte, IsMethod, NamesRise}
 use Rattle.bpf_decode.specs.Limits.{between, is_name_byte, are_name_bytes}
 use Rattle.bpf_decode.specs.ImageReading.{is_above}
 use Rattle.asm_lines.specs.declared.fault.AsmFault.{AsmFault}
@@ -23,8 +23,9 @@ use Rattle.asm_lines.specs.Operands.{unsigned_of}
 use Rattle.asm_lines.specs.Statements.{flags_of, header_of, statement_of, statements_of}
 use Rattle.asm_lines.specs.Canonical.{flags_text, directive_line, canonical_text, methods_text, rules_text, line_of}
 use Rattle.bpf_asm.specs.Bodies.{body_from, body, has_instruction}
-use Rattle.bpf_asm.specs.Classes.{is_directive, last_name, method_at, class_from, with_rules, ruled_from, read_class_text}
+use Rattle.bpf_asm.specs.Classes.{is_directive, last_name, is_within_set, method_at, class_from, with_rules, ruled_from, read_class_text}
 use Rattle.bpf_asm.specs.Laws.{ClassTextsGiveBack}
+use Rattle.bpf_asm.proofs.ClassLemmas.{within_test}
 use Rattle.bpf_asm.proofs.PlainBytes.{is_plain, is_quiet, Free, and_left, plain_blank, before_at, before_none, drop_seam, trim_end_free, trim_end_behind, trim_start_stays, trim_start_space, blanks_free, quiet_where, all_append}
 use Rattle.bpf_asm.proofs.NumberTexts.{plain_decimal, decimal_plain}
 use Rattle.bpf_asm.proofs.OperandTexts.{length_some}
@@ -241,16 +242,17 @@ holds : (m : ClassMethod) (ms : List ClassMethod) → IsMethod m → Holds m (be
 holds m [] h = holds_end m h
 holds m (n ∷ ms) h = holds_before m (Ok (header n)) (said n.instructions ++ said_class ms) h
 
-method_reads : (done : List ClassMethod) (line : ℕ) (m : ClassMethod) (lines : List Statement) → length done < METHOD_LIMIT → is_above (last_name [] done) m.name ≡ true → Holds m lines → method_at done line (Ok (header m)) lines ≡ Ok m
-method_reads done line m lines room above h =
+method_reads : (rules : RuleSet) (done : List ClassMethod) (line : ℕ) (m : ClassMethod) (lines : List Statement) → length done < METHOD_LIMIT → IsWithinSet rules m → is_above (last_name [] done) m.name ≡ true → Holds m lines → method_at rules done line (Ok (header m)) lines ≡ Ok m
+method_reads rules done line m lines room within above h =
     let test : nat_le METHOD_LIMIT (length done) ≡ false = grind (arith, nat_tests) in
-    rw (test, h.some, above, h.reads (line + 1)) refl
+    let small : is_within_set rules (header m) ≡ true = within_test rules (header m) within.in_cap within.out_cap in
+    rw (test, h.some, small, above, h.reads (line + 1)) refl
 
 -- lines of a method that was read
-skip : (done : List ClassMethod) (r : Result (List ClassMethod) AsmError) (rest : List Statement) → (length done == 0) ≡ false → ((line : ℕ) → class_from done line rest ≡ r) → (is : List Insn) (line : ℕ) → class_from done line (said is ++ rest) ≡ r
+skip : (rules : RuleSet) (done : List ClassMethod) (r : Result (List ClassMethod) AsmError) (rest : List Statement) → (length done == 0) ≡ false → ((line : ℕ) → class_from rules done line rest ≡ r) → (is : List Insn) (line : ℕ) → class_from rules done line (said is ++ rest) ≡ r
 unfolding class_from
-skip done r rest n f [] line = f line
-skip done r rest n f (i ∷ is) line = rw n (skip done r rest n f is (line + 1))
+skip rules done r rest n f [] line = f line
+skip rules done r rest n f (i ∷ is) line = rw n (skip rules done r rest n f is (line + 1))
 
 -- each name is above the one before
 abbrev NamesAbove : List ℕ → List ClassMethod → Type 0
@@ -275,17 +277,17 @@ push_some done m =
     let some : 1 ≤ length (done ++ (m ∷ [])) = omega arith in
     grind (arith, nat_tests)
 
-class_reads : (done ms : List ClassMethod) → AllByRecursion IsMethod ms → length done + length ms ≤ METHOD_LIMIT → NamesAbove (last_name [] done) ms → 1 ≤ length done + length ms → (line : ℕ) → class_from done line (said_class ms) ≡ Ok (done ++ ms)
+class_reads : (rules : RuleSet) (done ms : List ClassMethod) → AllByRecursion IsMethod ms → AreWithinSet rules ms → length done + length ms ≤ METHOD_LIMIT → NamesAbove (last_name [] done) ms → 1 ≤ length done + length ms → (line : ℕ) → class_from rules done line (said_class ms) ≡ Ok (done ++ ms)
 unfolding class_from
-class_reads done [] h few above some line =
+class_reads rules done [] h w few above some line =
     let test : (length done == 0) ≡ false = grind (arith, nat_tests) in
     rw test (ap (λ r. Ok r) (sym (append-nil done)))
-class_reads done (m ∷ ms) h few above some line =
+class_reads rules done (m ∷ ms) h w few above some line =
     let pushed = length-append done (m ∷ []) in
     let next : NamesAbove (last_name [] (done ++ (m ∷ []))) ms = rw (last_push [] done m) above.1 in
-    rw (method_reads done line m (before_first is_directive (said m.instructions ++ said_class ms)) (omega arith) above.0 (holds m ms h.0))
-    (skip (done ++ (m ∷ [])) (Ok (done ++ (m ∷ ms))) (said_class ms) (push_some done m)
-    (λ l. class_reads (done ++ (m ∷ [])) ms h.1 (omega arith) next (omega arith) l ∙ ap (λ r. Ok r) (append_assoc done (m ∷ []) ms))
+    rw (method_reads rules done line m (before_first is_directive (said m.instructions ++ said_class ms)) (omega arith) w.0 above.0 (holds m ms h.0))
+    (skip rules (done ++ (m ∷ [])) (Ok (done ++ (m ∷ ms))) (said_class ms) (push_some done m)
+    (λ l. class_reads rules (done ++ (m ∷ [])) ms h.1 w.1 (omega arith) next (omega arith) l ∙ ap (λ r. Ok r) (append_assoc done (m ∷ []) ms))
     m.instructions (line + 1))
 
 directive_has : (d : Result MethodHeader AsmFault) (rest : List Statement) → has_instruction rest ≡ true → has_instruction (Directive d ∷ rest) ≡ true
@@ -301,55 +303,79 @@ names_from (m ∷ ms) h r = (above_none m.name h.0.named, names_above m ms r)
 
 -- ---- the rule set
 
-pub rules_quiet : list_all is_quiet (codes ".rules 2") ≡ true
-rules_quiet = refl
+-- the line of a rule set that has one
+abbrev pub rules_line : RuleSet → List ℕ
+rules_line One = []
+rules_line Two = codes ".rules 2"
+rules_line Three = codes ".rules 3"
 
-states_rules : statement_of (codes ".rules 2") ≡ Rules (Ok Two)
+pub rules_quiet : (rules : RuleSet) → list_all is_quiet (rules_line rules) ≡ true
+rules_quiet One = refl
+rules_quiet Two = refl
+rules_quiet Three = refl
+
+states_two : statement_of (codes ".rules 2") ≡ Rules (Ok Two)
 unfolding statement_of first_word after_word trim_start
-states_rules = rw (no_label_line (codes ".rules 2") rules_quiet) refl
+states_two = rw (no_label_line (codes ".rules 2") (rules_quiet Two)) refl
 
-rules_solid : trim_end (codes ".rules 2") ≡ codes ".rules 2"
+states_three : statement_of (codes ".rules 3") ≡ Rules (Ok Three)
+unfolding statement_of first_word after_word trim_start
+states_three = rw (no_label_line (codes ".rules 3") (rules_quiet Three)) refl
+
+solid_two : trim_end (codes ".rules 2") ≡ codes ".rules 2"
 unfolding trim_end
-rules_solid = refl
+solid_two = refl
 
-says_rules : statement_of (content (codes ".rules 2")) ≡ Rules (Ok Two)
-says_rules = ap statement_of (content_same 46 (codes "rules 2") rules_quiet refl rules_solid) ∙ states_rules
+solid_three : trim_end (codes ".rules 3") ≡ codes ".rules 3"
+unfolding trim_end
+solid_three = refl
+
+says_two : statement_of (content (codes ".rules 2")) ≡ Rules (Ok Two)
+says_two = ap statement_of (content_same 46 (codes "rules 2") (rules_quiet Two) refl solid_two) ∙ states_two
+
+says_three : statement_of (content (codes ".rules 3")) ≡ Rules (Ok Three)
+says_three = ap statement_of (content_same 46 (codes "rules 3") (rules_quiet Three) refl solid_three) ∙ states_three
 
 -- what the lines of a class say
 abbrev said_ruled : RuleSet → List ClassMethod → List Statement
 said_ruled One ms = said_class ms
 said_ruled Two ms = Rules (Ok Two) ∷ said_class ms
+said_ruled Three ms = Rules (Ok Three) ∷ said_class ms
 
 ruled_says : (rules : RuleSet) (ms : List ClassMethod) → AllByRecursion IsMethod ms → statements_of (rules_text rules ++ methods_text ms) ≡ said_ruled rules ms
 ruled_says One ms h = class_says ms h
-ruled_says Two ms h = one_line (codes ".rules 2") (methods_text ms) (Rules (Ok Two)) rules_quiet says_rules ∙ ap (λ r. Rules (Ok Two) ∷ r) (class_says ms h)
+ruled_says Two ms h = one_line (codes ".rules 2") (methods_text ms) (Rules (Ok Two)) (rules_quiet Two) says_two ∙ ap (λ r. Rules (Ok Two) ∷ r) (class_says ms h)
+ruled_says Three ms h = one_line (codes ".rules 3") (methods_text ms) (Rules (Ok Three)) (rules_quiet Three) says_three ∙ ap (λ r. Rules (Ok Three) ∷ r) (class_says ms h)
 
-rules_has : (rest : List Statement) → has_instruction rest ≡ true → has_instruction (Rules (Ok Two) ∷ rest) ≡ true
-rules_has rest h = h
+rules_has : (rules : RuleSet) (rest : List Statement) → has_instruction rest ≡ true → has_instruction (Rules (Ok rules) ∷ rest) ≡ true
+rules_has rules rest h = h
 
 ruled_has : (rules : RuleSet) (ms : List ClassMethod) → AllByRecursion IsMethod ms → 1 ≤ length ms → has_instruction (said_ruled rules ms) ≡ true
 ruled_has One ms h some = class_has ms h some
-ruled_has Two ms h some = rules_has (said_class ms) (class_has ms h some)
+ruled_has Two ms h some = rules_has Two (said_class ms) (class_has ms h some)
+ruled_has Three ms h some = rules_has Three (said_class ms) (class_has ms h some)
 
 -- methods alone are a class of rule set 1
-ruled_one : (ms : List ClassMethod) (line : ℕ) → 1 ≤ length ms → ruled_from line (said_class ms) ≡ with_rules One (class_from [] line (said_class ms))
+ruled_one : (ms : List ClassMethod) (line : ℕ) → 1 ≤ length ms → ruled_from line (said_class ms) ≡ with_rules One (class_from One [] line (said_class ms))
 unfolding ruled_from
 ruled_one [] line some = absurd (omega arith)
 ruled_one (m ∷ ms) line some = refl
 
-ruled_reads : (rules : RuleSet) (ms : List ClassMethod) → IsClass ms → ruled_from 1 (said_ruled rules ms) ≡ Ok (record { rules = rules; methods = ms })
+-- the methods of a class from a line on
+methods_read : (rules : RuleSet) (ms : List ClassMethod) → IsClass ms → AreWithinSet rules ms → (line : ℕ) → class_from rules [] line (said_class ms) ≡ Ok ms
+methods_read rules ms c w line =
+    let some = c.some in
+    let limit = c.limit in
+    class_reads rules [] ms c.methods w (omega arith) (names_from ms c.methods c.names) (omega arith) line
+
+ruled_reads : (rules : RuleSet) (ms : List ClassMethod) → IsClass ms → AreWithinSet rules ms → ruled_from 1 (said_ruled rules ms) ≡ Ok (record { rules = rules; methods = ms })
 unfolding ruled_from
-ruled_reads One ms c =
-    let some = c.some in
-    let limit = c.limit in
-    ruled_one ms 1 some ∙ ap (with_rules One) (class_reads [] ms c.methods (omega arith) (names_from ms c.methods c.names) (omega arith) 1)
-ruled_reads Two ms c =
-    let some = c.some in
-    let limit = c.limit in
-    ap (with_rules Two) (class_reads [] ms c.methods (omega arith) (names_from ms c.methods c.names) (omega arith) 2)
+ruled_reads One ms c w = ruled_one ms 1 c.some ∙ ap (with_rules One) (methods_read One ms c w 1)
+ruled_reads Two ms c w = ap (with_rules Two) (methods_read Two ms c w 2)
+ruled_reads Three ms c w = ap (with_rules Three) (methods_read Three ms c w 2)
 
 -- the canonical text gives the class back
 pub class_texts_give_back : ClassTextsGiveBack
 unfolding read_class_text
-class_texts_give_back c h =
-    rw (ruled_says c.rules c.methods h.methods, ruled_has c.rules c.methods h.methods h.some) (ruled_reads c.rules c.methods h)
+class_texts_give_back c h w =
+    rw (ruled_says c.rules c.methods h.methods, ruled_has c.rules c.methods h.methods h.some) (ruled_reads c.rules c.methods h w)

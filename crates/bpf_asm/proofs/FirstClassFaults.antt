@@ -19,11 +19,12 @@ use Rattle.asm_lines.specs.Fault.{fault_number, no_memory}
 use Rattle.asm_lines.specs.Headers.{MethodHeader}
 use Rattle.asm_lines.specs.Statements.{statements_of}
 use Rattle.bpf_asm.specs.Bodies.{body, has_instruction}
-use Rattle.bpf_asm.specs.Classes.{is_directive, last_name, method_with, with_body, unless_fault, next_method, class_from, with_rules, ruled_from, bare_class_fault, read_class_text}
-use Rattle.bpf_asm.specs.Faults.{LineFault, LinesHaveFault, slot_behind, Place, top, next_place, OpeningFault, RulesFault, EarlyFault, ClassLineFault, ClassLinesHaveFault, HasClassFault, IsFirstFault, RefusesClassText, IsFaultlessClass}
+use Rattle.bpf_asm.specs.Classes.{is_directive, last_name, is_within_set, method_with, with_body, unless_fault, next_method, class_from, with_rules, ruled_from, bare_class_fault, read_class_text}
+use Rattle.bpf_asm.specs.Faults.{LineFault, LinesHaveFault, slot_behind, Place, top, set_after, next_place, OpeningFault, RulesFault, EarlyFault, ClassLineFault, ClassLinesHaveFault, HasClassFault, IsFirstFault, RefusesClassText, IsFaultlessClass}
 use Rattle.bpf_asm.proofs.StatementRelations.{text_says}
 use Rattle.bpf_asm.proofs.BodyTexts.{some_instruction}
 use Rattle.bpf_asm.proofs.ClassGrammar.{last_push, before_other, some_methods}
+use Rattle.bpf_asm.proofs.ClassLemmas.{too_wide, not_too_wide}
 use Rattle.bpf_asm.proofs.FirstFaults.{Judged, judged}
 use Rattle.bpf_decode.specs.declared.limits.TheConstants.{METHOD_LIMIT}
 
@@ -129,14 +130,15 @@ record Knows (p : Place) (done : List ClassMethod) : Type 0 where
 
 -- what is answered about lines below a `.method`, of whose lines `br` was answered
 abbrev Below : ℕ → List Statement → Type 0
-Below line ss = (done : List ClassMethod) (p : Place) (br : Result (List Insn) AsmError) → Knows p done → 1 ≤ length done → Judged (LinesHaveFault p.lines p.above line p.slot (before_first is_directive ss)) br → Judged (ClassLinesHaveFault p line ss) (then_methods br (class_from done line ss))
+Below line ss = (done : List ClassMethod) (p : Place) (br : Result (List Insn) AsmError) → Knows p done → 1 ≤ length done → Judged (LinesHaveFault p.lines p.above line p.slot (before_first is_directive ss)) br → Judged (ClassLinesHaveFault p line ss) (then_methods br (class_from p.rules done line ss))
 
 late_opening : (p : Place) (h : MethodHeader) (ss : List Statement) (g : AsmFault) → OpeningFault p (Ok h) ss g → 3 ≤ fault_number g
 late_opening p h ss g (inl k) = rw k.1 (omega arith)
 late_opening p h ss g (inr (inl k)) = rw k.1 (omega arith)
-late_opening p h ss g (inr (inr k)) = rw k.1 (omega arith)
+late_opening p h ss g (inr (inr (inl k))) = rw k.1 (omega arith)
+late_opening p h ss g (inr (inr (inr k))) = rw k.1 (omega arith)
 
-opens : (done : List ClassMethod) (p : Place) (line : ℕ) (h : MethodHeader) (ss : List Statement) (br : Result (List Insn) AsmError) → Knows p done → ((g : AsmFault) → OpeningFault p (Ok h) ss g → ⊥) → Below (line + 1) ss → Judged (LinesHaveFault (before_first is_directive ss) [] (line + 1) 0 (before_first is_directive ss)) br → Judged (ClassLinesHaveFault p line (Directive (Ok h) ∷ ss)) (next_method (with_body h br) (λ m. class_from (done ++ (m ∷ [])) (line + 1) ss))
+opens : (done : List ClassMethod) (p : Place) (line : ℕ) (h : MethodHeader) (ss : List Statement) (br : Result (List Insn) AsmError) → Knows p done → ((g : AsmFault) → OpeningFault p (Ok h) ss g → ⊥) → Below (line + 1) ss → Judged (LinesHaveFault (before_first is_directive ss) [] (line + 1) 0 (before_first is_directive ss)) br → Judged (ClassLinesHaveFault p line (Directive (Ok h) ∷ ss)) (next_method (with_body h br) (λ m. class_from p.rules (done ++ (m ∷ [])) (line + 1) ss))
 opens done p line h ss br k fine below jb = goes_on p line (Directive (Ok h)) ss _ fine (by_body br jb)
   where
     next : Place
@@ -148,34 +150,37 @@ opens done p line h ss br k fine below jb = goes_on p line (Directive (Ok h)) ss
     some : (m : ClassMethod) → 1 ≤ length (done ++ (m ∷ []))
     some m = let pushed = length-append done (m ∷ []) in omega arith
 
-    by_body : (r : Result (List Insn) AsmError) → Judged (LinesHaveFault (before_first is_directive ss) [] (line + 1) 0 (before_first is_directive ss)) r → Judged (ClassLinesHaveFault (next_place p (Directive (Ok h)) ss) (line + 1) ss) (next_method (with_body h r) (λ m. class_from (done ++ (m ∷ [])) (line + 1) ss))
+    by_body : (r : Result (List Insn) AsmError) → Judged (LinesHaveFault (before_first is_directive ss) [] (line + 1) 0 (before_first is_directive ss)) r → Judged (ClassLinesHaveFault (next_place p (Directive (Ok h)) ss) (line + 1) ss) (next_method (with_body h r) (λ m. class_from p.rules (done ++ (m ∷ [])) (line + 1) ss))
     by_body (Ok is) j = below (done ++ (method_with h is ∷ [])) (next_place p (Directive (Ok h)) ss) (Ok is) (known (method_with h is) refl) (some (method_with h is)) j
     by_body (Err e) j = below (done ++ (method_with h [] ∷ [])) (next_place p (Directive (Ok h)) ss) (Err e) (known (method_with h []) refl) (some (method_with h [])) j
 
--- by the tests of a `.method` line: too many methods, an instruction among its lines, a name above
--- the last
-by_tests : (done : List ClassMethod) (p : Place) (line : ℕ) (h : MethodHeader) (ss : List Statement) (full has above : Bool) → full ≡ nat_le METHOD_LIMIT (length done) → has ≡ has_instruction (before_first is_directive ss) → above ≡ is_above (last_name [] done) h.name → Knows p done → Below (line + 1) ss → Judged (ClassLinesHaveFault p line (Directive (Ok h) ∷ ss)) (next_method (unless_fault (cond (full || not has) (Some faults.Range) (cond above None (Some faults.Label))) line (with_body h (body (line + 1) (before_first is_directive ss)))) (λ m. class_from (done ++ (m ∷ [])) (line + 1) ss))
-by_tests done p line h ss true has above a b c k below =
+-- by the tests of a `.method` line: too many methods, an instruction among its lines, capacities that
+-- the rule set allows, a name above the last
+by_tests : (done : List ClassMethod) (p : Place) (line : ℕ) (h : MethodHeader) (ss : List Statement) (full has fits above : Bool) → full ≡ nat_le METHOD_LIMIT (length done) → has ≡ has_instruction (before_first is_directive ss) → fits ≡ is_within_set p.rules h → above ≡ is_above (last_name [] done) h.name → Knows p done → Below (line + 1) ss → Judged (ClassLinesHaveFault p line (Directive (Ok h) ∷ ss)) (next_method (unless_fault (cond (full || not has || not fits) (Some faults.Range) (cond above None (Some faults.Label))) line (with_body h (body (line + 1) (before_first is_directive ss)))) (λ m. class_from p.rules (done ++ (m ∷ [])) (line + 1) ss))
+by_tests done p line h ss true has fits above a b w c k below =
     let count = k.count in
     stops p line (Directive (Ok h)) ss faults.Range (inl (grind (arith, nat_tests), refl)) (late_opening p h ss)
-by_tests done p line h ss false false above a b c k below = stops p line (Directive (Ok h)) ss faults.Range (inr (inl (sym b, refl))) (late_opening p h ss)
-by_tests done p line h ss false true false a b c k below = stops p line (Directive (Ok h)) ss faults.Label (inr (inr (ap (λ v. is_above v h.name) k.named ∙ sym c, refl))) low
+by_tests done p line h ss false false fits above a b w c k below = stops p line (Directive (Ok h)) ss faults.Range (inr (inl (sym b, refl))) (late_opening p h ss)
+by_tests done p line h ss false true false above a b w c k below = stops p line (Directive (Ok h)) ss faults.Range (inr (inr (inl (too_wide p.rules h (sym w), refl)))) (late_opening p h ss)
+by_tests done p line h ss false true true false a b w c k below = stops p line (Directive (Ok h)) ss faults.Label (inr (inr (inr (ap (λ v. is_above v h.name) k.named ∙ sym c, refl)))) low
   where
     low : (g : AsmFault) → OpeningFault p (Ok h) ss g → fault_number faults.Label ≤ fault_number g
     low g (inl x) = let many = x.0 in let count = k.count in let few : length done < METHOD_LIMIT = grind (arith, nat_tests) in absurd (omega arith)
     low g (inr (inl x)) = let none = x.0 in absurd cc
-    low g (inr (inr x)) = rw x.1 (omega arith)
-by_tests done p line h ss false true true a b c k below = opens done p line h ss (body (line + 1) (before_first is_directive ss)) k fine below (judged (before_first is_directive ss) [] (line + 1) 0 [] (before_first is_directive ss))
+    low g (inr (inr (inl x))) = absurd (not_too_wide p.rules h (sym w) x.0)
+    low g (inr (inr (inr x))) = rw x.1 (omega arith)
+by_tests done p line h ss false true true true a b w c k below = opens done p line h ss (body (line + 1) (before_first is_directive ss)) k fine below (judged (before_first is_directive ss) [] (line + 1) 0 [] (before_first is_directive ss))
   where
     fine : (g : AsmFault) → OpeningFault p (Ok h) ss g → ⊥
     fine g (inl x) = let many = x.0 in let count = k.count in let few : length done < METHOD_LIMIT = grind (arith, nat_tests) in omega arith
     fine g (inr (inl x)) = let none = x.0 in absurd cc
-    fine g (inr (inr x)) = let low = sym (ap (λ v. is_above v h.name) k.named) ∙ x.0 in absurd cc
+    fine g (inr (inr (inl x))) = not_too_wide p.rules h (sym w) x.0
+    fine g (inr (inr (inr x))) = let low = sym (ap (λ v. is_above v h.name) k.named) ∙ x.0 in absurd cc
 
-directive : (done : List ClassMethod) (p : Place) (line : ℕ) (h : Result MethodHeader AsmFault) (ss : List Statement) → Knows p done → Below (line + 1) ss → Judged (ClassLinesHaveFault p line (Directive h ∷ ss)) (class_from done line (Directive h ∷ ss))
+directive : (done : List ClassMethod) (p : Place) (line : ℕ) (h : Result MethodHeader AsmFault) (ss : List Statement) → Knows p done → Below (line + 1) ss → Judged (ClassLinesHaveFault p line (Directive h ∷ ss)) (class_from p.rules done line (Directive h ∷ ss))
 unfolding class_from
 directive done p line (Err f) ss k below = stops p line (Directive (Err f)) ss f refl (λ g x. rw x (omega arith))
-directive done p line (Ok h) ss k below = by_tests done p line h ss (nat_le METHOD_LIMIT (length done)) (has_instruction (before_first is_directive ss)) (is_above (last_name [] done) h.name) refl refl refl k below
+directive done p line (Ok h) ss k below = by_tests done p line h ss (nat_le METHOD_LIMIT (length done)) (has_instruction (before_first is_directive ss)) (is_within_set p.rules h) (is_above (last_name [] done) h.name) refl refl refl refl k below
 
 -- ---- lines of a class
 
@@ -201,12 +206,12 @@ below line (Label name ∷ ss) (d ∷ ds) p br k some jb =
     (inside p line (Label name) ss (before_first is_directive ss) br _ (label_inside p name ss (omega arith))
     (rw (before_other (Label name) ss refl) at jb)
     (below (line + 1) ss (d ∷ ds) (next_place p (Label name) ss) br (record { count = k.count; named = k.named }) some))
-below line (Rules r ∷ ss) (d ∷ ds) p br k some jb =
+below line (Rules r ∷ ss) (d ∷ ds) p (Ok is) k some jb = let none = (rw (before_other (Rules r) ss refl) at jb) line faults.Word (inl (refl, refl)) in absurd none
+below line (Rules r ∷ ss) (d ∷ ds) p (Err e) k some jb =
     let count = k.count in
-    rw (some_methods d ds)
-    (inside p line (Rules r) ss (before_first is_directive ss) br _ (rules_inside p r ss (omega arith))
+    inside p line (Rules r) ss (before_first is_directive ss) (Err e) (class_from (set_after p.rules r) (d ∷ ds) (line + 1) ss) (rules_inside p r ss (omega arith))
     (rw (before_other (Rules r) ss refl) at jb)
-    (below (line + 1) ss (d ∷ ds) (next_place p (Rules r) ss) br (record { count = k.count; named = k.named }) some))
+    (below (line + 1) ss (d ∷ ds) (next_place p (Rules r) ss) (Err e) (record { count = k.count; named = k.named }) some)
 below line (Instruction i ∷ ss) (d ∷ ds) p br k some jb =
     let count = k.count in
     rw (some_methods d ds)
@@ -215,22 +220,22 @@ below line (Instruction i ∷ ss) (d ∷ ds) p br k some jb =
     (below (line + 1) ss (d ∷ ds) (next_place p (Instruction i) ss) br (record { count = k.count; named = k.named }) some))
 
 -- before the first `.method`
-early_label : (p : Place) (line : ℕ) (name : List ℕ) (ss : List Statement) → Knows p [] → Judged (ClassLinesHaveFault p line (Label name ∷ ss)) (class_from [] line (Label name ∷ ss))
+early_label : (rules : RuleSet) (p : Place) (line : ℕ) (name : List ℕ) (ss : List Statement) → Knows p [] → Judged (ClassLinesHaveFault p line (Label name ∷ ss)) (class_from rules [] line (Label name ∷ ss))
 unfolding class_from
-early_label p line name ss k = stops p line (Label name) ss faults.Word (inl (k.count, refl)) (λ g h. some_number g)
+early_label rules p line name ss k = stops p line (Label name) ss faults.Word (inl (k.count, refl)) (λ g h. some_number g)
 
-early_instruction : (p : Place) (line : ℕ) (d : Result Draft AsmFault) (ss : List Statement) → Knows p [] → Judged (ClassLinesHaveFault p line (Instruction d ∷ ss)) (class_from [] line (Instruction d ∷ ss))
+early_instruction : (rules : RuleSet) (p : Place) (line : ℕ) (d : Result Draft AsmFault) (ss : List Statement) → Knows p [] → Judged (ClassLinesHaveFault p line (Instruction d ∷ ss)) (class_from rules [] line (Instruction d ∷ ss))
 unfolding class_from
-early_instruction p line d ss k = stops p line (Instruction d) ss faults.Word (inl (k.count, refl)) (λ g h. some_number g)
+early_instruction rules p line d ss k = stops p line (Instruction d) ss faults.Word (inl (k.count, refl)) (λ g h. some_number g)
 
 -- and after a `.rules`
-early : (p : Place) (line : ℕ) (ss : List Statement) → Knows p [] → p.ruled ≡ true → has_instruction ss ≡ true → Judged (ClassLinesHaveFault p line ss) (class_from [] line ss)
+early : (p : Place) (line : ℕ) (ss : List Statement) → Knows p [] → p.ruled ≡ true → has_instruction ss ≡ true → Judged (ClassLinesHaveFault p line ss) (class_from p.rules [] line ss)
 unfolding class_from
 early p line [] k ruled some = absurd cc
 early p line (Empty ∷ ss) k ruled some = goes_on p line Empty ss _ (λ g h. h) (early (next_place p Empty ss) (line + 1) ss (record { count = k.count; named = k.named }) ruled some)
-early p line (Label name ∷ ss) k ruled some = early_label p line name ss k
+early p line (Label name ∷ ss) k ruled some = early_label p.rules p line name ss k
 early p line (Rules r ∷ ss) k ruled some = stops p line (Rules r) ss faults.Word (inl (inl ruled, refl)) (λ g h. some_number g)
-early p line (Instruction d ∷ ss) k ruled some = early_instruction p line d ss k
+early p line (Instruction d ∷ ss) k ruled some = early_instruction p.rules p line d ss k
 early p line (Directive h ∷ ss) k ruled some = directive [] p line h ss k (below (line + 1) ss)
 
 -- the same answer with a rule set
@@ -250,17 +255,19 @@ fine_rules p rules ss k none g (inl (inl h, w)) = absurd cc
 fine_rules p rules ss k none g (inl (inr h, w)) = let count = k.count in absurd (omega arith)
 fine_rules p rules ss k none g (inr h) = h.1
 
-first : (p : Place) (line : ℕ) (ss : List Statement) → Knows p [] → p.ruled ≡ false → has_instruction ss ≡ true → Judged (ClassLinesHaveFault p line ss) (ruled_from line ss)
+first : (p : Place) (line : ℕ) (ss : List Statement) → Knows p [] → p.ruled ≡ false → p.rules ≡ One → has_instruction ss ≡ true → Judged (ClassLinesHaveFault p line ss) (ruled_from line ss)
 unfolding ruled_from
-first p line [] k none some = absurd cc
-first p line (Empty ∷ ss) k none some = goes_on p line Empty ss _ (λ g h. h) (first (next_place p Empty ss) (line + 1) ss (record { count = k.count; named = k.named }) none some)
-first p line (Label name ∷ ss) k none some = ruled One (ClassLinesHaveFault p line (Label name ∷ ss)) _ (early_label p line name ss k)
-first p line (Rules (Ok rules) ∷ ss) k none some =
+first p line [] k none set some = absurd cc
+first p line (Empty ∷ ss) k none set some = goes_on p line Empty ss _ (λ g h. h) (first (next_place p Empty ss) (line + 1) ss (record { count = k.count; named = k.named }) none set some)
+first p line (Label name ∷ ss) k none set some = ruled One (ClassLinesHaveFault p line (Label name ∷ ss)) _ (early_label One p line name ss k)
+first p line (Rules (Ok rules) ∷ ss) k none set some =
     goes_on p line (Rules (Ok rules)) ss _ (fine_rules p rules ss k none)
     (ruled rules (ClassLinesHaveFault (next_place p (Rules (Ok rules)) ss) (line + 1) ss) _ (early (next_place p (Rules (Ok rules)) ss) (line + 1) ss (record { count = k.count; named = k.named }) refl some))
-first p line (Rules (Err f) ∷ ss) k none some = stops p line (Rules (Err f)) ss f (inr (k.count, refl)) (λ g h. rw (unruled p (Err f) g k none h f refl) (omega arith))
-first p line (Instruction d ∷ ss) k none some = ruled One (ClassLinesHaveFault p line (Instruction d ∷ ss)) _ (early_instruction p line d ss k)
-first p line (Directive h ∷ ss) k none some = ruled One (ClassLinesHaveFault p line (Directive h ∷ ss)) _ (directive [] p line h ss k (below (line + 1) ss))
+first p line (Rules (Err f) ∷ ss) k none set some = stops p line (Rules (Err f)) ss f (inr (k.count, refl)) (λ g h. rw (unruled p (Err f) g k none h f refl) (omega arith))
+first p line (Instruction d ∷ ss) k none set some = ruled One (ClassLinesHaveFault p line (Instruction d ∷ ss)) _ (early_instruction One p line d ss k)
+first p line (Directive h ∷ ss) k none set some =
+    ruled One (ClassLinesHaveFault p line (Directive h ∷ ss)) (class_from One [] line (Directive h ∷ ss))
+    (subst (λ (r : RuleSet). Judged (ClassLinesHaveFault p line (Directive h ∷ ss)) (class_from r [] line (Directive h ∷ ss))) set (directive [] p line h ss k (below (line + 1) ss)))
 
 -- ---- texts
 
@@ -321,7 +328,7 @@ bare_among (s ∷ ss) f low n g (inl h) = inr (sym h.0, low g h.1)
 bare_among (s ∷ ss) f low n g (inr h) = let more = numbers_rise (next_place top s ss) 2 ss n g h in inl (omega arith)
 
 by_lines : (ss : List Statement) (b : Bool) → b ≡ has_instruction ss → Judged (HasClassFault ss) (cond b (ruled_from 1 ss) (Err (record { line = 1; fault = bare_class_fault ss })))
-by_lines ss true e = add_bare ss (ruled_from 1 ss) (sym e) (first top 1 ss (record { count = refl; named = refl }) refl (sym e))
+by_lines ss true e = add_bare ss (ruled_from 1 ss) (sym e) (first top 1 ss (record { count = refl; named = refl }) refl refl (sym e))
 by_lines ss false e = record { has = bare.has; least = among }
   where
     bare : IsBareFault ss (bare_class_fault ss)

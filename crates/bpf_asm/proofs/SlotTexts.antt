@@ -4,7 +4,7 @@ use Rattle.std.specs.List.{list_all, before_first, AllByRecursion}
 use Rattle.std.specs.Fmt.{decimal}
 use Rattle.bpf_decode.specs.declared.insn.Insn.{Insn}
 use Rattle.bpf_decode.specs.declared.rule_set.RuleSet.{RuleSet}
-use Rattle.bpf_decode.specs.declared.rule_set.RuleSet.TheVariants.{One, Two}
+use Rattle.bpf_decode.specs.declared.rule_set.RuleSet.TheVariants.{One, Two, Three}
 use Rattle.bpf_decode.specs.Instruction.{Fits, AllFit, slot_total, slot_count}
 use Rattle.bpf_decode.specs.Class.{ClassMethod, IsMethod}
 use Rattle.asm_lines.specs.Texts.{is_blank, onto_trimmed, trim_start, trim_end, trim, content}
@@ -108,11 +108,12 @@ methods_same (m ∷ ms) h =
 
 class_same : (rules : RuleSet) (ms : List ClassMethod) → AllByRecursion IsMethod ms → statements_of (rules_text rules ++ methods_with_slots ms) ≡ statements_of (rules_text rules ++ methods_text ms)
 class_same One ms h = methods_same ms h
-class_same Two ms h = below_line (codes ".rules 2") (methods_with_slots ms) (methods_text ms) rules_quiet (methods_same ms h)
+class_same Two ms h = below_line (codes ".rules 2") (methods_with_slots ms) (methods_text ms) (rules_quiet Two) (methods_same ms h)
+class_same Three ms h = below_line (codes ".rules 3") (methods_with_slots ms) (methods_text ms) (rules_quiet Three) (methods_same ms h)
 
 pub slot_texts_give_back : SlotTextsGiveBack
 unfolding read_class_text
-slot_texts_give_back c h = ap class_assembled (class_same c.rules c.methods h.methods) ∙ class_texts_give_back c h
+slot_texts_give_back c h w = ap class_assembled (class_same c.rules c.methods h.methods) ∙ class_texts_give_back c h w
 
 pub slot_texts_in_grammar : SlotTextsAreInGrammar
-slot_texts_in_grammar c h = read_is_class_text (class_with_slots c) c (slot_texts_give_back c h)
+slot_texts_in_grammar c h w = read_is_class_text (class_with_slots c) c (slot_texts_give_back c h w)

@@ -21,9 +21,10 @@ use Rattle.asm_lines.specs.Words.{word_of, form_of}
 use Rattle.asm_lines.specs.Texts.{is_blank, content, first_word, after_word, is_label_name}
 use Rattle.asm_lines.specs.Operands.{both, unsigned_of}
 use Rattle.asm_lines.specs.Drafts.{draft_of, instruction_of}
-use Rattle.bpf_decode.specs.declared.rule_set.RuleSet.TheVariants.{Two}
+use Rattle.bpf_decode.specs.declared.rule_set.RuleSet.{RuleSet}
+use Rattle.bpf_decode.specs.declared.rule_set.RuleSet.TheVariants.{One, Two, Three}
 use Rattle.asm_lines.specs.Statements.{flags_of, header_with, header_of, rules_of, is_label_line, statement_of, lines_of, statements_of}
-use Rattle.bpf_asm.specs.Syntax.{Without, HasWord, IsDraftText, IsPlainText, AreFlags, IsDirectiveText}
+use Rattle.bpf_asm.specs.Syntax.{Without, HasWord, IsDraftText, IsPlainText, AreFlags, IsRuleSet, IsDirectiveText}
 use Rattle.bpf_asm.specs.Lines.{TextSays, IsStatementText, IsLine, AreLines}
 use Rattle.bpf_asm.specs.Shapes.{AnyNumber, IsLabelText, AnyDirective, DirectiveFault, IsFaultyInstruction}
 use Rattle.asm_lines.specs.declared.fault.AsmFault.TheVariants as faults
@@ -247,24 +248,39 @@ fault_header text rest faults.NoMemory w h = absurd h
 
 -- ---- `.rules`
 
-says_rules_at : (text : List ℕ) (b : Bool) → b ≡ bytes_eq (after_word text) (codes "2") → first_word text ≡ codes ".rules" → IsStatementText text (statements.Rules (cond b (Ok Two) (Err faults.Operand)))
-says_rules_at text true e w =
+says_rules_at : (text : List ℕ) (two three : Bool) → two ≡ bytes_eq (after_word text) (codes "2") → three ≡ bytes_eq (after_word text) (codes "3") → first_word text ≡ codes ".rules"
+    → IsStatementText text (statements.Rules (cond two (Ok Two) (cond three (Ok Three) (Err faults.Operand))))
+says_rules_at text true three e g w =
     let rest : after_word text ≡ codes "2" = (bytes_eq-Decides (after_word text) (codes "2")).0 (sym e) in
-    record { rest = after_word text; word = subst (λ (v : List ℕ). HasWord text v (after_word text)) w (has_word text); says = rest; is_set = refl }
-says_rules_at text false e w =
+    record { rest = after_word text; word = subst (λ (v : List ℕ). HasWord text v (after_word text)) w (has_word text); says = rest }
+says_rules_at text false true e g w =
+    let rest : after_word text ≡ codes "3" = (bytes_eq-Decides (after_word text) (codes "3")).0 (sym g) in
+    record { rest = after_word text; word = subst (λ (v : List ℕ). HasWord text v (after_word text)) w (has_word text); says = rest }
+says_rules_at text false false e g w =
     record {
       rest = after_word text;
       word = subst (λ (v : List ℕ). HasWord text v (after_word text)) w (has_word text);
-      other = λ h. true_false (sym ((bytes_eq-Decides (after_word text) (codes "2")).1 h) ∙ sym e);
+      other = none;
       is_fault = refl;
     }
+  where
+    none : (rules : RuleSet) → ¬ IsRuleSet (after_word text) rules
+    none One h = h
+    none Two h = true_false (sym ((bytes_eq-Decides (after_word text) (codes "2")).1 h) ∙ sym e)
+    none Three h = true_false (sym ((bytes_eq-Decides (after_word text) (codes "3")).1 h) ∙ sym g)
 
-other_rules : (rest : List ℕ) (b : Bool) → b ≡ bytes_eq rest (codes "2") → ¬ (rest ≡ codes "2") → b ≡ false
-other_rules rest false e h = refl
-other_rules rest true e h = absurd (h ((bytes_eq-Decides rest (codes "2")).0 (sym e)))
+other_rules : (rest number : List ℕ) (b : Bool) → b ≡ bytes_eq rest number → ¬ (rest ≡ number) → b ≡ false
+other_rules rest number false e h = refl
+other_rules rest number true e h = absurd (h ((bytes_eq-Decides rest number).0 (sym e)))
 
-faulty_rules : (rest : List ℕ) (f : AsmFault) → ¬ (rest ≡ codes "2") → f ≡ faults.Operand → rules_of rest ≡ Err f
-faulty_rules rest f h e = rw (other_rules rest (bytes_eq rest (codes "2")) refl h) (ap (λ (v : AsmFault). Err v) (sym e))
+faulty_rules : (rest : List ℕ) (f : AsmFault) → ((rules : RuleSet) → ¬ IsRuleSet rest rules) → f ≡ faults.Operand → rules_of rest ≡ Err f
+faulty_rules rest f h e =
+    rw (other_rules rest (codes "2") (bytes_eq rest (codes "2")) refl (h Two), other_rules rest (codes "3") (bytes_eq rest (codes "3")) refl (h Three)) (ap (λ (v : AsmFault). Err v) (sym e))
+
+right_rules : (rest : List ℕ) (rules : RuleSet) → IsRuleSet rest rules → rules_of rest ≡ Ok rules
+right_rules rest One h = absurd h
+right_rules rest Two h = rw h refl
+right_rules rest Three h = rw h refl
 
 some_rules : (text rest : List ℕ) → HasWord text (codes ".rules") rest → (length text == 0) ≡ false
 some_rules text rest h = ap (λ t. length t == 0) h.whole ∙ length_some 46 (codes "rules" ++ (h.gap ++ rest))
@@ -308,7 +324,7 @@ says_at text false true r c e f i g =
     (l.whole, l.name)
 says_at text false false true c e f i g =
     let word : first_word text ≡ codes ".rules" = (bytes_eq-Decides (first_word text) (codes ".rules")).0 (sym i) in
-    says_rules_at text (bytes_eq (after_word text) (codes "2")) refl word
+    says_rules_at text (bytes_eq (after_word text) (codes "2")) (bytes_eq (after_word text) (codes "3")) refl refl word
 says_at text false false false true e f i g =
     let word : first_word text ≡ codes ".method" = (bytes_eq-Decides (first_word text) (codes ".method")).0 (sym g) in
     says_directive text (header_of (after_word text)) word refl
@@ -390,7 +406,7 @@ is_statement text (statements.Rules (Err fault)) h =
     rw (some_rules text h.rest h.word, label, is_first text (codes ".rules") h.rest h.word, is_rest text (codes ".rules") h.rest h.word, faulty_rules h.rest fault h.other h.is_fault) refl
 is_statement text (statements.Rules (Ok rules)) h =
     let label = no_label text (codes ".rules") h.rest h.word (no_label_line (codes ".rules") refl) in
-    rw (some_rules text h.rest h.word, label, is_first text (codes ".rules") h.rest h.word, is_rest text (codes ".rules") h.rest h.word, h.says, h.is_set) refl
+    rw (some_rules text h.rest h.word, label, is_first text (codes ".rules") h.rest h.word, is_rest text (codes ".rules") h.rest h.word, right_rules h.rest rules h.says) refl
 is_statement text (statements.Directive (Err fault)) h =
     let label = no_label text (codes ".method") h.rest h.word (no_label_line (codes ".method") refl) in
     rw (some_directive text h.rest h.word, label, is_first text (codes ".method") h.rest h.word, is_rest text (codes ".method") h.rest h.word, fault_header text h.rest fault h.word h.faulty) refl

@@ -1,11 +1,12 @@
 -- Classes: the rule set, and methods read one after the other, up to the first line that is
 -- refused.
-use Rattle.std.specs.Prelude.{ℕ, ◌+◌, ◌==◌, ◌||◌, not, nat_le, Bool, true, false, List, [], ◌∷◌, ◌++◌, length, if◌then◌else◌, Option, Some, None, Result, Ok, Err}
+use Rattle.std.specs.Prelude.{ℕ, ◌+◌, ◌==◌, ◌&&◌, ◌||◌, not, nat_le, Bool, true, false, List, [], ◌∷◌, ◌++◌, length, if◌then◌else◌, Option, Some, None, Result, Ok, Err}
 use Rattle.std.specs.List.{before_first}
 use Rattle.bpf_decode.specs.declared.insn.Insn.{Insn}
 use Rattle.bpf_decode.specs.declared.rule_set.RuleSet.{RuleSet}
 use Rattle.bpf_decode.specs.declared.rule_set.RuleSet.TheVariants.{One}
 use Rattle.bpf_decode.specs.Class.{ClassMethod, Class}
+use Rattle.bpf_decode.specs.Limits.{is_capacity}
 use Rattle.bpf_decode.specs.ImageReading.{is_above}
 use Rattle.asm_lines.specs.declared.fault.AsmFault.{AsmFault}
 use Rattle.asm_lines.specs.declared.fault.AsmFault.TheVariants as faults
@@ -30,10 +31,17 @@ abbrev pub last_name : List ℕ → List ClassMethod → List ℕ
 last_name before [] = before
 last_name before (m ∷ ms) = last_name m.name ms
 
--- the fault of a method's first line after other methods: 3 Range for a 33rd or one without
--- instruction, 4 Label for a name that isn't above the one before
-abbrev pub opening_fault : List ClassMethod → Bool → MethodHeader → Option AsmFault
-opening_fault done bare h = if nat_le METHOD_LIMIT (length done) || bare then Some faults.Range else (if is_above (last_name [] done) h.name then None else Some faults.Label)
+-- whether a rule set allows the capacities of a header
+abbrev pub is_within_set : RuleSet → MethodHeader → Bool
+is_within_set rules h = is_capacity rules h.in_cap && is_capacity rules h.out_cap
+
+-- the fault of a method's first line after other methods: 3 Range for a 33rd, one without
+-- instruction or one with a capacity above the rule set's, 4 Label for a name that isn't above the
+-- one before
+abbrev pub opening_fault : RuleSet → List ClassMethod → Bool → MethodHeader → Option AsmFault
+opening_fault rules done bare h =
+    if nat_le METHOD_LIMIT (length done) || bare || not (is_within_set rules h) then Some faults.Range
+    else (if is_above (last_name [] done) h.name then None else Some faults.Label)
 
 -- a method of that header and those instructions
 abbrev pub method_with : MethodHeader → List Insn → ClassMethod
@@ -48,25 +56,25 @@ unless_fault None line m = m
 unless_fault (Some fault) line m = Err (record { line = line; fault = fault })
 
 -- the method that begins at a line, with its lines below
-abbrev pub method_at : List ClassMethod → ℕ → Result MethodHeader AsmFault → List Statement → Result ClassMethod AsmError
-method_at done line (Err fault) lines = Err (record { line = line; fault = fault })
-method_at done line (Ok h) lines = unless_fault (opening_fault done (not (has_instruction lines)) h) line (with_body h (body (line + 1) lines))
+abbrev pub method_at : RuleSet → List ClassMethod → ℕ → Result MethodHeader AsmFault → List Statement → Result ClassMethod AsmError
+method_at rules done line (Err fault) lines = Err (record { line = line; fault = fault })
+method_at rules done line (Ok h) lines = unless_fault (opening_fault rules done (not (has_instruction lines)) h) line (with_body h (body (line + 1) lines))
 
 abbrev pub next_method : Result ClassMethod AsmError → (ClassMethod → Result (List ClassMethod) AsmError) → Result (List ClassMethod) AsmError
 next_method (Err e) others = Err e
 next_method (Ok m) others = others m
 
--- The methods of lines in order: `line` is the number of the next, `done` the methods above it. A
+-- The methods of lines in order, by a rule set: `line` is the number of the next, `done` the methods above it. A
 -- method's lines reach to the next `.method`, and are read with it. Before the first one nothing
 -- may stand.
-unfoldable pub class_from : List ClassMethod → ℕ → List Statement → Result (List ClassMethod) AsmError
-class_from done line [] = if length done == 0 then Err (record { line = 1; fault = faults.Range }) else Ok done
-class_from done line (Directive header ∷ rest) =
-    next_method (method_at done line header (before_first is_directive rest)) (λ m. class_from (done ++ (m ∷ [])) (line + 1) rest)
-class_from done line (Empty ∷ rest) = class_from done (line + 1) rest
-class_from done line (Label name ∷ rest) = if length done == 0 then Err (record { line = line; fault = faults.Word }) else class_from done (line + 1) rest
-class_from done line (Rules rules ∷ rest) = if length done == 0 then Err (record { line = line; fault = faults.Word }) else class_from done (line + 1) rest
-class_from done line (Instruction d ∷ rest) = if length done == 0 then Err (record { line = line; fault = faults.Word }) else class_from done (line + 1) rest
+unfoldable pub class_from : RuleSet → List ClassMethod → ℕ → List Statement → Result (List ClassMethod) AsmError
+class_from rules done line [] = if length done == 0 then Err (record { line = 1; fault = faults.Range }) else Ok done
+class_from rules done line (Directive header ∷ rest) =
+    next_method (method_at rules done line header (before_first is_directive rest)) (λ m. class_from rules (done ++ (m ∷ [])) (line + 1) rest)
+class_from rules done line (Empty ∷ rest) = class_from rules done (line + 1) rest
+class_from rules done line (Label name ∷ rest) = if length done == 0 then Err (record { line = line; fault = faults.Word }) else class_from rules done (line + 1) rest
+class_from rules done line (Rules other ∷ rest) = if length done == 0 then Err (record { line = line; fault = faults.Word }) else class_from rules done (line + 1) rest
+class_from rules done line (Instruction d ∷ rest) = if length done == 0 then Err (record { line = line; fault = faults.Word }) else class_from rules done (line + 1) rest
 
 abbrev pub with_rules : RuleSet → Result (List ClassMethod) AsmError → Result Class AsmError
 with_rules rules (Ok ms) = Ok (record { rules = rules; methods = ms })
@@ -75,13 +83,13 @@ with_rules rules (Err e) = Err e
 -- The class of lines in order: its rule set is 1, or what the first line that isn't empty says by
 -- `.rules`. After it stand the methods, with no `.rules` among them.
 unfoldable pub ruled_from : ℕ → List Statement → Result Class AsmError
-ruled_from line [] = with_rules One (class_from [] line [])
+ruled_from line [] = with_rules One (class_from One [] line [])
 ruled_from line (Empty ∷ rest) = ruled_from (line + 1) rest
-ruled_from line (Rules (Ok rules) ∷ rest) = with_rules rules (class_from [] (line + 1) rest)
+ruled_from line (Rules (Ok rules) ∷ rest) = with_rules rules (class_from rules [] (line + 1) rest)
 ruled_from line (Rules (Err fault) ∷ rest) = Err (record { line = line; fault = fault })
-ruled_from line (Label name ∷ rest) = with_rules One (class_from [] line (Label name ∷ rest))
-ruled_from line (Directive header ∷ rest) = with_rules One (class_from [] line (Directive header ∷ rest))
-ruled_from line (Instruction d ∷ rest) = with_rules One (class_from [] line (Instruction d ∷ rest))
+ruled_from line (Label name ∷ rest) = with_rules One (class_from One [] line (Label name ∷ rest))
+ruled_from line (Directive header ∷ rest) = with_rules One (class_from One [] line (Directive header ∷ rest))
+ruled_from line (Instruction d ∷ rest) = with_rules One (class_from One [] line (Instruction d ∷ rest))
 
 -- the fault on the first line of a text without instructions: a label before the first `.method` is
 -- 1 Word, and a `.rules` or `.method` of the wrong form 2 Operand

@@ -6,6 +6,8 @@ use Rattle.std.specs.Int.{w16, w32}
 use Rattle.std.specs.List.{before_first}
 use Rattle.bpf_decode.specs.declared.limits.TheConstants.{METHOD_LIMIT, SLOT_LIMIT}
 use Rattle.bpf_decode.specs.declared.rule_set.RuleSet.{RuleSet}
+use Rattle.bpf_decode.specs.declared.rule_set.RuleSet.TheVariants.{One}
+use Rattle.bpf_decode.specs.Limits.{capacity_limit}
 use Rattle.bpf_decode.specs.ImageReading.{is_above}
 use Rattle.asm_lines.specs.declared.fault.AsmFault.{AsmFault}
 use Rattle.asm_lines.specs.declared.fault.AsmFault.TheVariants as faults
@@ -76,10 +78,12 @@ HasFault lines n f = IsBare lines n f ⊎ LinesHaveFault lines [] 1 0 lines n f
 
 -- ---- the lines of a class
 
--- where a line of a class stands: whether a `.rules` stands above it, how many methods begin above
--- it and the last one's name, all lines of that method, those above the line, and the line's slot
+-- where a line of a class stands: whether a `.rules` stands above it and the rule set that the last
+-- one says, how many methods begin above it and the last one's name, all lines of that method, those
+-- above the line, and the line's slot
 pub record Place : Type 0 where
   pub ruled : Bool
+  pub rules : RuleSet
   pub methods : ℕ
   pub name : List ℕ
   pub lines : List Statement
@@ -88,24 +92,34 @@ pub record Place : Type 0 where
 
 -- above the first line
 abbrev pub top : Place
-top = record { ruled = false; methods = 0; name = []; lines = []; above = []; slot = 0 }
+top = record { ruled = false; rules = One; methods = 0; name = []; lines = []; above = []; slot = 0 }
+
+-- the rule set below a `.rules`
+abbrev pub set_after : RuleSet → Result RuleSet AsmFault → RuleSet
+set_after before (Ok rules) = rules
+set_after before (Err f) = before
 
 -- the place of the next line; `below` are all of them
 abbrev pub next_place : Place → Statement → List Statement → Place
-next_place p (Directive (Ok h)) below = record { ruled = p.ruled; methods = p.methods + 1; name = h.name; lines = before_first is_directive below; above = []; slot = 0 }
-next_place p (Directive (Err f)) below = record { ruled = p.ruled; methods = p.methods + 1; name = p.name; lines = before_first is_directive below; above = []; slot = 0 }
+next_place p (Directive (Ok h)) below = record { ruled = p.ruled; rules = p.rules; methods = p.methods + 1; name = h.name; lines = before_first is_directive below; above = []; slot = 0 }
+next_place p (Directive (Err f)) below = record { ruled = p.ruled; rules = p.rules; methods = p.methods + 1; name = p.name; lines = before_first is_directive below; above = []; slot = 0 }
 next_place p Empty below = record p { above = p.above ++ (Empty ∷ []) }
 next_place p (Label name) below = record p { above = p.above ++ (Label name ∷ []) }
-next_place p (Rules rules) below = record p { ruled = true; above = p.above ++ (Rules rules ∷ []) }
+next_place p (Rules rules) below = record p { ruled = true; rules = set_after p.rules rules; above = p.above ++ (Rules rules ∷ []) }
 next_place p (Instruction d) below = record p { above = p.above ++ (Instruction d ∷ []); slot = p.slot + draft_slots d }
 
--- a `.method` line: its own fault where it isn't of the form; a method too many, or one without
--- instruction; a name that isn't above the last
+-- a header with a capacity that the rule set doesn't allow
+abbrev pub IsTooWide : RuleSet → MethodHeader → Type 0
+IsTooWide rules h = (capacity_limit rules < h.in_cap) ⊎ (capacity_limit rules < h.out_cap)
+
+-- a `.method` line: its own fault where it isn't of the form; a method too many, one without
+-- instruction, or one whose capacities the rule set doesn't allow; a name that isn't above the last
 abbrev pub OpeningFault : Place → Result MethodHeader AsmFault → List Statement → AsmFault → Type 0
 OpeningFault p (Err g) below f = f ≡ g
 OpeningFault p (Ok h) below f =
     ((METHOD_LIMIT ≤ p.methods) × (f ≡ faults.Range))
-    ⊎ (((has_instruction (before_first is_directive below) ≡ false) × (f ≡ faults.Range)) ⊎ ((is_above p.name h.name ≡ false) × (f ≡ faults.Label)))
+    ⊎ (((has_instruction (before_first is_directive below) ≡ false) × (f ≡ faults.Range))
+    ⊎ ((IsTooWide p.rules h × (f ≡ faults.Range)) ⊎ ((is_above p.name h.name ≡ false) × (f ≡ faults.Label))))
 
 -- a `.rules` of the wrong form
 abbrev pub RulesOperand : Result RuleSet AsmFault → AsmFault → Type 0

@@ -15,7 +15,7 @@ use Rattle.asm_lines.specs.declared.statement.Statement.TheVariants.{Empty, Labe
 use Rattle.std.specs.List.{before_first}
 use Rattle.bpf_decode.specs.declared.rule_set.RuleSet.{RuleSet}
 use Rattle.bpf_decode.specs.declared.rule_set.RuleSet.TheVariants.{One}
-use Rattle.bpf_decode.specs.Class.{ClassMethod, Class}
+use Rattle.bpf_decode.specs.Class.{ClassMethod, Class, AreWithinSet}
 use Rattle.bpf_decode.specs.ImageReading.{is_above}
 use Rattle.asm_lines.specs.Headers.{MethodHeader}
 use Rattle.bpf_asm.specs.Classes.{is_directive, method_with}
@@ -130,6 +130,7 @@ NamesAbove before (m ∷ ms) = (is_above before m.name ≡ true) × NamesAbove m
 pub record AreClassLines (lines : List Statement) (c : Class) : Type 0 where
   pub begins : BeginsWith c.rules lines
   pub methods : SayMethods lines c.methods
+  pub within : AreWithinSet c.rules c.methods
   pub names : NamesAbove [] c.methods
   pub some : 1 ≤ length c.methods
   pub limit : length c.methods ≤ METHOD_LIMIT

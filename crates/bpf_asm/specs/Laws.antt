@@ -8,7 +8,7 @@ use Rattle.asm_lines.specs.declared.statement.Statement.{Statement}
 use Rattle.bpf_asm.specs.Lines.{TextSays}
 use Rattle.bpf_asm.specs.Bodies.{read_text}
 use Rattle.bpf_asm.specs.Classes.{read_class_text}
-use Rattle.bpf_decode.specs.Class.{Class, IsClass}
+use Rattle.bpf_decode.specs.Class.{Class, IsClass, AreWithinSet}
 use Rattle.bpf_decode.specs.declared.limits.TheConstants.{SLOT_LIMIT}
 
 -- the canonical text of instructions is read as those instructions
@@ -21,19 +21,19 @@ TextsAreInGrammar = (is : List Insn) → AllFit is → 1 ≤ slot_total is → s
 
 -- the canonical text of a class is read as that class
 abbrev pub ClassTextsGiveBack : Type 0
-ClassTextsGiveBack = (c : Class) → IsClass c.methods → read_class_text (class_text c) ≡ Ok c
+ClassTextsGiveBack = (c : Class) → IsClass c.methods → AreWithinSet c.rules c.methods → read_class_text (class_text c) ≡ Ok c
 
 -- and is in the grammar
 abbrev pub ClassTextsAreInGrammar : Type 0
-ClassTextsAreInGrammar = (c : Class) → IsClass c.methods → IsClassText (class_text c) c
+ClassTextsAreInGrammar = (c : Class) → IsClass c.methods → AreWithinSet c.rules c.methods → IsClassText (class_text c) c
 
 -- the text of a class with slots is read as that class
 abbrev pub SlotTextsGiveBack : Type 0
-SlotTextsGiveBack = (c : Class) → IsClass c.methods → read_class_text (class_with_slots c) ≡ Ok c
+SlotTextsGiveBack = (c : Class) → IsClass c.methods → AreWithinSet c.rules c.methods → read_class_text (class_with_slots c) ≡ Ok c
 
 -- and is in the grammar
 abbrev pub SlotTextsAreInGrammar : Type 0
-SlotTextsAreInGrammar = (c : Class) → IsClass c.methods → IsClassText (class_with_slots c) c
+SlotTextsAreInGrammar = (c : Class) → IsClass c.methods → AreWithinSet c.rules c.methods → IsClassText (class_with_slots c) c
 
 -- Each text says one list of lines, and only one.
 pub record SaysOnce (text : List ℕ) : Type 0 where

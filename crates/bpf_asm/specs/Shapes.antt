@@ -2,6 +2,7 @@
 -- tells 1 Word, 2 Operand and 3 Range apart.
 use Rattle.std.specs.Prelude.{◌≡◌, ◌⊎◌, ℕ, ℤ, ◌≤◌, true, List, [], ◌++◌, length, codes}
 use Rattle.bpf_decode.specs.Limits.{is_method_name}
+use Rattle.bpf_decode.specs.declared.rule_set.RuleSet.{RuleSet}
 use Rattle.asm_lines.specs.declared.draft.Draft.{Draft}
 use Rattle.asm_lines.specs.declared.fault.AsmFault.{AsmFault}
 use Rattle.asm_lines.specs.declared.fault.AsmFault.TheVariants as faults
@@ -10,7 +11,7 @@ use Rattle.asm_lines.specs.declared.form.Form.TheVariants.{Alu, Neg, Mov, MovSig
 use Rattle.asm_lines.specs.Headers.{MethodHeader}
 use Rattle.asm_lines.specs.Texts.{is_label_name}
 use Rattle.asm_lines.specs.Words.{word_of}
-use Rattle.bpf_asm.specs.Syntax.{HasWord, IsDecimal, IsInteger, IsSigned, One, Two, Three, AreFlags, IsDraftText, IsDirectiveText}
+use Rattle.bpf_asm.specs.Syntax.{HasWord, IsDecimal, IsInteger, IsSigned, One, Two, Three, AreFlags, IsDraftText, IsRuleSet, IsDirectiveText}
 
 -- ---- operands, whatever their numbers
 
@@ -120,11 +121,11 @@ pub record IsFaultyInstruction (text : List ℕ) (fault : AsmFault) : Type 0 whe
   pub no_method : ¬ (word ≡ codes ".method")
   pub faulty : InstructionFault word rest fault
 
--- 2 Operand: what stands after `.rules` is no 2
+-- 2 Operand: what stands after `.rules` is the number of no rule set
 pub record IsFaultyRules (text : List ℕ) (fault : AsmFault) : Type 0 where
   pub rest : List ℕ
   pub word : HasWord text (codes ".rules") rest
-  pub other : ¬ (rest ≡ codes "2")
+  pub other : (rules : RuleSet) → ¬ IsRuleSet rest rules
   pub is_fault : fault ≡ faults.Operand
 
 -- `.method`, a name, flags and two numbers, whatever they are

@@ -220,18 +220,24 @@ pub record IsInstructionText (text : List ℕ) (draft : Draft) : Type 0 where
   pub parts : HasWord text word rest
   pub says : IsDraftText draft word rest
 
--- `.rules` and a 2, for rule set 2
+-- the number of a rule set, as it stands after `.rules`: rule set 1 has no such line
+abbrev pub IsRuleSet : List ℕ → RuleSet → Type 0
+IsRuleSet text rule_sets.One = ⊥
+IsRuleSet text rule_sets.Two = text ≡ codes "2"
+IsRuleSet text rule_sets.Three = text ≡ codes "3"
+
+-- `.rules` and the number of a rule set
 pub record IsRulesText (text : List ℕ) (rules : RuleSet) : Type 0 where
   pub rest : List ℕ
   pub word : HasWord text (codes ".rules") rest
-  pub says : rest ≡ codes "2"
-  pub is_set : rules ≡ rule_sets.Two
+  pub says : IsRuleSet rest rules
 
 -- 1 reads, 2 writes, 3 both
 abbrev pub AreFlags : List ℕ → ℕ → Type 0
 AreFlags text flags = (1 ≤ flags) × (flags ≤ 3) × (text ≡ flags_text flags)
 
--- `.method`, a name, flags, and the capacities of input and output
+-- `.method`, a name, flags, and the capacities of input and output, by the limits that all rule sets
+-- have
 pub record IsDirectiveText (text : List ℕ) (header : MethodHeader) : Type 0 where
   pub behind_word : List ℕ
   pub behind_name : List ℕ

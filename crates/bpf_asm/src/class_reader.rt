@@ -2,15 +2,16 @@ ghost use Rattle.std.specs.Prelude.{◌≡◌, ◌⊎◌, ◌+◌, ◌<◌, ◌�
 ghost use Rattle.std.specs.List.{position_or_len};
 ghost use Rattle.bpf_decode.specs.ImageReading.{is_above, method_after, methods_after};
 ghost use Rattle.bpf_decode.specs.Class.{Class};
+ghost use Rattle.bpf_decode.specs.declared.rule_set.RuleSet.{RuleSet};
 ghost use Rattle.bpf_asm.specs.Grammar.{IsClassText};
 ghost use Rattle.asm_lines.specs.Fault.{no_memory};
 ghost use Rattle.bpf_asm.specs.Faults.{RefusesClassText, IsFaultlessClass};
 ghost use Rattle.bpf_asm.specs.Bodies.{body, has_instruction};
-ghost use Rattle.bpf_asm.specs.Classes.{is_directive, last_name, opening_fault, with_body, method_at, class_from, with_rules, ruled_from, bare_class_fault, class_assembled, read_class_text};
+ghost use Rattle.bpf_asm.specs.Classes.{is_directive, last_name, is_within_set, opening_fault, with_body, method_at, class_from, with_rules, ruled_from, bare_class_fault, class_assembled, read_class_text};
 
 use crate::body::{has_instruction, read_body};
 use asm_lines::{AsmError, AsmFault, Header, Statement, statements};
-use bpf_decode::{ClassImage, METHOD_LIMIT, Method, RuleSet, name_text};
+use bpf_decode::{ClassImage, METHOD_LIMIT, Method, RuleSet, capacity_limit, name_text};
 use std::alloc::Global;
 
 /// True if a line begins a method.
@@ -42,14 +43,29 @@ fn last_name(methods: &[Method]) -> &[u8]
     name
 }
 
-/// The fault of a method's first line after other methods.
-fn opening_fault(done: &[Method], bare: bool, header: &Header) -> Option<AsmFault>
-    ensures { result ≡ opening_fault done.now bare header.now }
+/// What stands above a line of a class: its rule set, and the methods so far.
+#[derive(Clone, Copy)]
+struct Above<'a> {
+    rules: RuleSet,
+    done: &'a [Method],
+}
+
+/// True if the rule set allows the capacities of a header.
+fn is_within_set(rules: RuleSet, header: &Header) -> bool
+    ensures { result ≡ is_within_set rules header.now }
 {
-    if METHOD_LIMIT <= done.len() || bare {
+    let limit = capacity_limit(rules);
+    header.in_cap() <= limit && header.out_cap() <= limit
+}
+
+/// The fault of a method's first line after other methods.
+fn opening_fault(above: Above, bare: bool, header: &Header) -> Option<AsmFault>
+    ensures { result ≡ opening_fault above.entry.rules above.entry.done.now bare header.now }
+{
+    if METHOD_LIMIT <= above.done.len() || bare || !is_within_set(above.rules, header) {
         return Some(AsmFault::Range);
     }
-    if last_name(done).cmp(&header.name()).is_lt() {
+    if last_name(above.done).cmp(&header.name()).is_lt() {
         None
     } else {
         Some(AsmFault::Label)
@@ -68,7 +84,7 @@ fn with_body(
     requires room { first + length lines.now < 2 ^ 64 }
     requires some { has_instruction lines.now ≡ true }
     ensures read { MatchResult result (λ m. with_body header.now (body first lines.now) ≡ Ok m) (λ e. (e ≡ no_memory) ⊎ (with_body header.now (body first lines.now) ≡ Err e)) }
-    ensures right { IfOk result (λ m. (before : List ℕ) → is_above before header.now.name ≡ true → method_after before m ≡ Ok m) }
+    ensures right { IfOk result (λ m. (rules : RuleSet) (before : List ℕ) → is_within_set rules header.now ≡ true → is_above before header.now.name ≡ true → method_after rules before m ≡ Ok m) }
 {
     let insns = match read_body(alloc, first, lines) {
         Ok(insns) => insns,
@@ -87,20 +103,20 @@ fn with_body(
 /// The method that begins at a line, with its lines below, after other methods.
 fn method_at(
     alloc: Global,
-    done: &[Method],
+    above: Above,
     line: usize,
     header: &Result<Header, AsmFault>,
     lines: &[Statement],
 ) -> Result<Method, AsmError>
     requires { line + 1 + length lines.now < 2 ^ 64 }
-    ensures read { MatchResult result (λ m. method_at done.now line header.now lines.now ≡ Ok m) (λ e. (e ≡ no_memory) ⊎ (method_at done.now line header.now lines.now ≡ Err e)) }
-    ensures right { IfOk result (λ m. method_after (last_name [] done.now) m ≡ Ok m) }
-    ensures room { IfOk result (λ _. length done.now < METHOD_LIMIT) }
+    ensures read { MatchResult result (λ m. method_at above.entry.rules above.entry.done.now line header.now lines.now ≡ Ok m) (λ e. (e ≡ no_memory) ⊎ (method_at above.entry.rules above.entry.done.now line header.now lines.now ≡ Err e)) }
+    ensures right { IfOk result (λ m. method_after above.entry.rules (last_name [] above.entry.done.now) m ≡ Ok m) }
+    ensures room { IfOk result (λ _. length above.entry.done.now < METHOD_LIMIT) }
 {
     match header {
         Ok(header) => {
             let bare = !has_instruction(lines);
-            if let Some(fault) = opening_fault(done, bare, header) {
+            if let Some(fault) = opening_fault(above, bare, header) {
                 return Err(AsmError { line, fault });
             }
             with_body(alloc, line + 1, header, lines)
@@ -134,14 +150,15 @@ fn push_line(
     alloc: Global,
     lines: &[Statement],
     index: usize,
+    rules: RuleSet,
     methods: &mut Vec<Method>,
 ) -> Result<(), AsmError>
     requires room { length lines.now + 2 < 2 ^ 64 }
     requires inside { index < length lines.now }
-    requires right { methods_after 0 [] methods.old.items ≡ Ok methods.old.items }
+    requires right { methods_after rules 0 [] methods.old.items ≡ Ok methods.old.items }
     requires few { length methods.old.items ≤ METHOD_LIMIT }
-    ensures read { MatchResult result (λ _. class_from methods.old.items (index + 1) (drop index lines.now) ≡ class_from methods.new.items (index + 1 + 1) (drop (index + 1) lines.now)) (λ e. (e ≡ no_memory) ⊎ (class_from methods.old.items (index + 1) (drop index lines.now) ≡ Err e)) }
-    ensures right { OnOk result (methods_after 0 [] methods.new.items ≡ Ok methods.new.items) }
+    ensures read { MatchResult result (λ _. class_from rules methods.old.items (index + 1) (drop index lines.now) ≡ class_from rules methods.new.items (index + 1 + 1) (drop (index + 1) lines.now)) (λ e. (e ≡ no_memory) ⊎ (class_from rules methods.old.items (index + 1) (drop index lines.now) ≡ Err e)) }
+    ensures right { OnOk result (methods_after rules 0 [] methods.new.items ≡ Ok methods.new.items) }
     ensures few { OnOk result (length methods.new.items ≤ METHOD_LIMIT) }
 {
     let line = index + 1;
@@ -151,7 +168,10 @@ fn push_line(
             let below = &lines[line..];
             let method = method_at(
                 alloc,
-                methods,
+                Above {
+                    rules,
+                    done: methods,
+                },
                 line,
                 header,
                 &below[..lines_of_method(below)],
@@ -177,7 +197,7 @@ fn push_line(
 #[tactic(auto, unfolding(crate::specs::Classes::ruled_from))]
 fn rules_of(lines: &[Statement]) -> Result<(RuleSet, usize), AsmError>
     requires { length lines.now + 2 < 2 ^ 64 }
-    ensures read { MatchResult result (λ r. ruled_from 1 lines.now ≡ with_rules r.0 (class_from [] (r.1 + 1) (drop r.1 lines.now))) (λ e. ruled_from 1 lines.now ≡ Err e) }
+    ensures read { MatchResult result (λ r. ruled_from 1 lines.now ≡ with_rules r.0 (class_from r.0 [] (r.1 + 1) (drop r.1 lines.now))) (λ e. ruled_from 1 lines.now ≡ Err e) }
     ensures inside { IfOk result (λ r. r.1 ≤ length lines.now) }
 {
     let mut index = 0;
@@ -199,20 +219,25 @@ fn rules_of(lines: &[Statement]) -> Result<(RuleSet, usize), AsmError>
     Ok((RuleSet::One, index))
 }
 
-/// The methods of the lines from a place on, as `class_from` reads them.
+/// The methods of the lines from a place on by a rule set, as `class_from` reads them.
 #[tactic(auto, unfolding(crate::specs::Classes::class_from, bpf_decode::specs::ImageReading::methods_after))]
-fn methods_of(alloc: Global, lines: &[Statement], first: usize) -> Result<Vec<Method>, AsmError>
+fn methods_of(
+    alloc: Global,
+    rules: RuleSet,
+    lines: &[Statement],
+    first: usize,
+) -> Result<Vec<Method>, AsmError>
     requires room { length lines.now + 2 < 2 ^ 64 }
     requires inside { first ≤ length lines.now }
-    ensures read { MatchResult result (λ v. class_from [] (first + 1) (drop first lines.now) ≡ Ok v.items) (λ e. (e ≡ no_memory) ⊎ (class_from [] (first + 1) (drop first lines.now) ≡ Err e)) }
-    ensures right { IfOk result (λ v. methods_after 0 [] v.items ≡ Ok v.items) }
+    ensures read { MatchResult result (λ v. class_from rules [] (first + 1) (drop first lines.now) ≡ Ok v.items) (λ e. (e ≡ no_memory) ⊎ (class_from rules [] (first + 1) (drop first lines.now) ≡ Err e)) }
+    ensures right { IfOk result (λ v. methods_after rules 0 [] v.items ≡ Ok v.items) }
     ensures some { IfOk result (λ v. 1 ≤ length v.items) }
     ensures few { IfOk result (λ v. length v.items ≤ METHOD_LIMIT) }
 {
     let mut methods = Vec::new(alloc);
     let mut index = first;
     while index < lines.len() {
-        push_line(alloc, lines, index, &mut methods)?;
+        push_line(alloc, lines, index, rules, &mut methods)?;
         index += 1;
     }
     if methods.is_empty() {
@@ -240,7 +265,7 @@ fn class_assembled(alloc: Global, lines: &[Statement]) -> Result<ClassImage, Asm
         Ok(found) => found,
         Err(error) => return Err(error),
     };
-    match methods_of(alloc, lines, first) {
+    match methods_of(alloc, rules, lines, first) {
         // Each method was tested as it was read (`right` of `methods_of`), so nothing is tested
         // twice.
         Ok(methods) => Ok(ClassImage::tested(methods, rules)),

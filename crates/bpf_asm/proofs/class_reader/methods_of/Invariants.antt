@@ -9,9 +9,9 @@ abbrev pub invariant-loop-index : goal.invariant-loop-index
 invariant-loop-index l =
     record {
       inside : l.index ≤ length l.lines;
-      right : methods_after 0 [] l.methods.items ≡ Ok l.methods.items;
+      right : methods_after l.rules 0 [] l.methods.items ≡ Ok l.methods.items;
       few : length l.methods.items ≤ METHOD_LIMIT;
-      same : class_from l.methods.items (l.index + 1) (drop l.index l.lines) ≡ class_from [] (l.first + 1) (drop l.first l.lines);
+      same : class_from l.rules l.methods.items (l.index + 1) (drop l.index l.lines) ≡ class_from l.rules [] (l.first + 1) (drop l.first l.lines);
     }
 
 abbrev pub decreases-loop-index : goal.decreases-loop-index
