@@ -1,10 +1,11 @@
 -- The store's refusals as a helper's answers: what the code's own contracts name.
-use Rattle.std.specs.Prelude.{◌≡◌, ℕ, ◌-◌, ◌^◌, List, Some, Result, Ok, Err, if◌then◌else◌, nat_lt, length}
+use Rattle.std.specs.Prelude.{◌≡◌, ℕ, ◌-◌, ◌^◌, List, Some, Result, Ok, Err}
 use Rattle.object_store.specs.Object.{Content, PlainObject}
 use Rattle.object_store.specs.declared.store_error.StoreError.{StoreError}
 use Rattle.object_store.specs.declared.store_error.StoreError.TheVariants.{Absent, Exists, NoAttr, TooBig, TooMany, Range, NoMemory}
-use Rattle.helpers.specs.declared.errno.TheConstants.{ENOENT, ENOMEM, EEXIST, EINVAL, EFBIG, ENOSPC, ERANGE, ENODATA}
-use Rattle.helpers.specs.Effect.{Answer, refuses, copies, Effect, refused, changes}
+use Rattle.helpers.specs.declared.errno.TheConstants.{ENOENT, ENOMEM, EEXIST, EINVAL, EFBIG, ENOSPC, ENODATA}
+use Rattle.helpers.specs.Effect.{Answer, refuses, Effect, refused, changes}
+use Rattle.helpers.specs.Table.{copy_answer}
 
 abbrev pub errno_of : StoreError → ℕ
 errno_of Absent = ENOENT
@@ -32,5 +33,5 @@ answered object (Err e) n = refused (errno_of e) object
 
 -- what is answered where a value was looked up
 abbrev pub looked_up : ℕ → Result (List ℕ) StoreError → Answer
-looked_up room (Ok bytes) = if nat_lt room (length bytes) then refuses ERANGE else copies bytes
+looked_up room (Ok bytes) = copy_answer bytes room
 looked_up room (Err e) = refuses (errno_of e)

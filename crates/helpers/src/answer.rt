@@ -1,6 +1,7 @@
 ghost use Rattle.std.specs.Prelude.{◌≡◌, ◌-◌, ◌^◌, ◌<◌, ◌≤◌, IfOk, OnErr, Err, length};
 ghost use Rattle.object_store.specs.Returned.{behind};
 ghost use Rattle.helpers.specs.Effect.{refuses};
+ghost use Rattle.helpers.specs.Table.{copy_answer};
 ghost use Rattle.helpers.specs.Refusals.{errno_of, number_of, looked_up, IsAnswer};
 
 use crate::errno::{EEXIST, EFBIG, EINVAL, ENODATA, ENOENT, ENOMEM, ENOSPC, ERANGE};
@@ -64,16 +65,24 @@ pub fn looked_up(value: Result<&[u8], StoreError>, room: u64) -> HelperAnswer<'_
 {
     match value {
         Err(error) => refused(errno_of(error)),
-        Ok(bytes) => {
-            let count = bytes.len() as u64;
-            if room < count {
-                refused(ERANGE)
-            } else {
-                HelperAnswer {
-                    number: count,
-                    bytes,
-                }
-            }
+        Ok(bytes) => copied(bytes, room),
+    }
+}
+
+/// The answer of `copy`, with a range of `room` bytes for what is copied: their number. Refused:
+/// ERANGE.
+pub fn copied(bytes: &[u8], room: u64) -> HelperAnswer<'_>
+    ensures number { result.number ≡ (copy_answer bytes.now room).number }
+    ensures bytes { result.bytes.now ≡ (copy_answer bytes.now room).bytes }
+    ensures short { length result.bytes.now ≤ room }
+{
+    let count = bytes.len() as u64;
+    if room < count {
+        refused(ERANGE)
+    } else {
+        HelperAnswer {
+            number: count,
+            bytes,
         }
     }
 }

@@ -17,7 +17,7 @@ mod memory;
 mod plain;
 mod span;
 
-pub use answer::HelperAnswer;
+pub use answer::{HelperAnswer, copied};
 pub use answer_ranges::{AnswerLimit, AnswerRange, answer_range};
 pub use argument::{Argument, Signature};
 pub use changes::{create, map_rm, map_set, remove, rmxattr, setxattr, truncate, write};
@@ -26,5 +26,5 @@ pub use helper::{Helper, LAST_HELPER, signature};
 pub use laws::{answers_are_in_range, effects_are_within_limits, errors_by_number};
 pub use lookups::{key_above, map_value, stat, xattr_above, xattr_value};
 pub use memory::{bytes_in, compare, copy, getxattr, map_get, map_next, read, xattr_next};
-pub use plain::{caller, out_len};
+pub use plain::{caller, compared, out_len};
 pub use span::Span;

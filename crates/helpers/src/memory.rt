@@ -6,9 +6,9 @@ ghost use Rattle.helpers.specs.View.{IsWithin, bytes_in, filled, written};
 use crate::answer::negative;
 use crate::errno::{ENOENT, ERANGE};
 use crate::lookups::{key_above, map_value, xattr_above, xattr_value};
+use crate::plain::compared;
 use crate::span::Span;
 use object_store::Object;
-use std::cmp::Ordering;
 use txn::Staged;
 
 /// The bytes of a range. One of no bytes has no place: its address may be any number then.
@@ -109,18 +109,13 @@ pub fn map_next(staged: &Staged, memory: &mut [u8], key: Span, next: Span) -> u6
     answer.number
 }
 
-/// Helper 16, `compare`: the first bytes are below the second (-1), equal to them (0) or above them
-/// (1). Bytes are taken unsigned, and a proper beginning is below.
+/// Helper 16, `compare`: compares the bytes of two ranges, as `compared` does.
 pub fn compare(memory: &[u8], left: Span, right: Span) -> u64
     requires left { IsWithin memory.now left }
     requires right { IsWithin memory.now right }
     ensures { result ≡ (compare_answer (bytes_in memory.now left) (bytes_in memory.now right)).number }
 {
-    match bytes_in(memory, left).cmp(bytes_in(memory, right)) {
-        Ordering::Less => negative(1),
-        Ordering::Equal => 0,
-        Ordering::Greater => 1,
-    }
+    compared(bytes_in(memory, left), bytes_in(memory, right))
 }
 
 /// Helper 17, `copy`: copies bytes to the beginning of a range. They are read whole before the

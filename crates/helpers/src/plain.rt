@@ -1,6 +1,9 @@
 ghost use Rattle.std.specs.Prelude.{◌≡◌, None, Some};
 ghost use Rattle.helpers.specs.Effect.{gives};
-ghost use Rattle.helpers.specs.Table.{out_len_effect};
+ghost use Rattle.helpers.specs.Table.{out_len_effect, compare_answer};
+
+use crate::answer::negative;
+use std::cmp::Ordering;
 
 /// Helper 13, `out_len`: the first `n` bytes of the output region are the output; by its signature
 /// they are at most out_cap. It answers 0 and touches no object.
@@ -17,4 +20,16 @@ pub fn caller(client: u32) -> u64
     ensures { result ≡ (gives client).number }
 {
     u64::from(client)
+}
+
+/// The answer of `compare`: the first bytes are below the second (-1), equal to them (0) or above
+/// them (1). Bytes are taken unsigned, and a proper beginning is below.
+pub fn compared(left: &[u8], right: &[u8]) -> u64
+    ensures { result ≡ (compare_answer left.now right.now).number }
+{
+    match left.cmp(&right) {
+        Ordering::Less => negative(1),
+        Ordering::Equal => 0,
+        Ordering::Greater => 1,
+    }
 }
