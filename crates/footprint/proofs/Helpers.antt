@@ -3,14 +3,14 @@
 use Rattle.std.proofs.Common.{◌≡◌, ◌∙◌, ℕ, ◌+◌, Bool, true, false, List, [], Some, None, refl, ap, sym, subst, length}
 use Rattle.std.specs.Prelude.{if◌then◌else◌, nat_lt, not, ◌==◌}
 use Rattle.std.specs.FinMap as fin
-use Rattle.object_store.specs.declared.limits.TheConstants.{DATA_LIMIT, XATTR_LIMIT, KEY_LIMIT}
+use Rattle.object_store.specs.declared.limits.TheConstants.{DATA_LIMIT, VALUE_LIMIT, XATTR_LIMIT, KEY_LIMIT}
 use Rattle.object_store.specs.Calls.{is_named}
 use Rattle.object_store.specs.Object.{Attributes, Content, PlainObject, nothing, spliced, resized}
 use Rattle.helpers.specs.declared.errno.TheConstants.{ENOENT, EEXIST, EINVAL, EFBIG, ENOSPC, ENODATA}
 use Rattle.helpers.specs.declared.helper.Helper.{Helper}
-use Rattle.helpers.specs.declared.helper.Helper.TheVariants.{Stat, Read, Write, Truncate, Remove, GetXattr, SetXattr, RmXattr, MapGet, MapSet, MapRm, MapNext, OutLen, Create, Caller}
+use Rattle.helpers.specs.declared.helper.Helper.TheVariants.{Stat, Read, Write, Truncate, Remove, GetXattr, SetXattr, RmXattr, MapGet, MapSet, MapRm, MapNext, OutLen, Create, Caller, Compare, Copy, XattrNext}
 use Rattle.helpers.specs.Effect.{Given, Answer, Effect, leaves, refused, changes, is_full, number, text}
-use Rattle.helpers.specs.Table.{row, stat_answer, read_answer, write_effect, truncate_effect, remove_effect, getxattr_answer, setxattr_effect, rmxattr_effect, map_get_answer, map_set_effect, map_rm_effect, map_next_answer, create_effect}
+use Rattle.helpers.specs.Table.{row, stat_answer, read_answer, write_effect, truncate_effect, remove_effect, getxattr_answer, setxattr_effect, rmxattr_effect, map_get_answer, map_set_effect, map_rm_effect, map_next_answer, create_effect, xattr_next_answer}
 use Rattle.footprint.specs.declared.parts.Parts.{Parts}
 use Rattle.footprint.specs.declared.scan.Deed.TheVariants.{Bytes, Xattrs, Keys, Removal, Creation}
 use Rattle.footprint.specs.Parts.{restored}
@@ -122,22 +122,30 @@ module _ (kb ko : Bool) (whole : PlainObject) (creates : Bool) where
   getxattr_matches None name room g = m_leaves X whole creates None _ _ g refl
   getxattr_matches (Some c) name room g = m_leaves X whole creates (Some c) _ _ g refl
 
+  xattr_next_matches : (x : PlainObject) (name : List ℕ) (room : ℕ) → IsReduced X whole creates x → Matches X whole creates (leaves x (xattr_next_answer x name room)) (leaves (restored X whole x) (xattr_next_answer (restored X whole x) name room))
+  xattr_next_matches None name room g = m_leaves X whole creates None _ _ g refl
+  xattr_next_matches (Some c) name room g = m_leaves X whole creates (Some c) _ _ g refl
+
   setxattr_matches : creates ≡ true → (x : PlainObject) (name value : List ℕ) → IsReduced X whole creates x → Matches X whole creates (setxattr_effect x name value) (setxattr_effect (restored X whole x) name value)
   setxattr_matches made None name value g =
       let c : Content = record nothing { xattrs = fin.insert nothing.xattrs name value } in
       let e : IsEmpty X whole creates c = with_xattrs nothing (fin.insert nothing.xattrs name value) (nothing_empty X whole creates) in
-      m_if X whole creates (not (is_named name)) (refused EINVAL None) (if is_full XATTR_LIMIT nothing.xattrs name then refused ENOSPC None else changes (Some c) 0) _ _
+      m_if X whole creates (not (is_named name)) (refused EINVAL None) (if nat_lt VALUE_LIMIT (length value) then refused EFBIG None else if is_full XATTR_LIMIT nothing.xattrs name then refused ENOSPC None else changes (Some c) 0) _ _
       (m_refused X whole creates EINVAL None g)
+      (m_if X whole creates (nat_lt VALUE_LIMIT (length value)) (refused EFBIG None) (if is_full XATTR_LIMIT nothing.xattrs name then refused ENOSPC None else changes (Some c) 0) _ _
+      (m_refused X whole creates EFBIG None g)
       (m_if X whole creates (is_full XATTR_LIMIT nothing.xattrs name) (refused ENOSPC None) (changes (Some c) 0) _ _
       (m_refused X whole creates ENOSPC None g)
-      (m_changes X whole creates (Some c) (Some c) 0 e (created X whole creates c e (g made))))
+      (m_changes X whole creates (Some c) (Some c) 0 e (created X whole creates c e (g made)))))
   setxattr_matches made (Some c) name value g =
       let d : Content = record c { xattrs = fin.insert c.xattrs name value } in
-      m_if X whole creates (not (is_named name)) (refused EINVAL (Some c)) (if is_full XATTR_LIMIT c.xattrs name then refused ENOSPC (Some c) else changes (Some d) 0) _ _
+      m_if X whole creates (not (is_named name)) (refused EINVAL (Some c)) (if nat_lt VALUE_LIMIT (length value) then refused EFBIG (Some c) else if is_full XATTR_LIMIT c.xattrs name then refused ENOSPC (Some c) else changes (Some d) 0) _ _
       (m_refused X whole creates EINVAL (Some c) g)
+      (m_if X whole creates (nat_lt VALUE_LIMIT (length value)) (refused EFBIG (Some c)) (if is_full XATTR_LIMIT c.xattrs name then refused ENOSPC (Some c) else changes (Some d) 0) _ _
+      (m_refused X whole creates EFBIG (Some c) g)
       (m_if X whole creates (is_full XATTR_LIMIT c.xattrs name) (refused ENOSPC (Some c)) (changes (Some d) 0) _ _
       (m_refused X whole creates ENOSPC (Some c) g)
-      (m_changes X whole creates (Some d) _ 0 (with_xattrs c (fin.insert c.xattrs name value) g) refl))
+      (m_changes X whole creates (Some d) _ 0 (with_xattrs c (fin.insert c.xattrs name value) g) refl)))
 
   rmxattr_matches : (x : PlainObject) (name : List ℕ) → IsReduced X whole creates x → Matches X whole creates (rmxattr_effect x name) (rmxattr_effect (restored X whole x) name)
   rmxattr_matches None name g =
@@ -170,18 +178,22 @@ module _ (kb kx : Bool) (whole : PlainObject) (creates : Bool) where
   map_set_matches made None key value g =
       let c : Content = record nothing { omap = fin.insert nothing.omap key value } in
       let e : IsEmpty O whole creates c = with_omap nothing (fin.insert nothing.omap key value) (nothing_empty O whole creates) in
-      m_if O whole creates (not (is_named key)) (refused EINVAL None) (if is_full KEY_LIMIT nothing.omap key then refused ENOSPC None else changes (Some c) 0) _ _
+      m_if O whole creates (not (is_named key)) (refused EINVAL None) (if nat_lt VALUE_LIMIT (length value) then refused EFBIG None else if is_full KEY_LIMIT nothing.omap key then refused ENOSPC None else changes (Some c) 0) _ _
       (m_refused O whole creates EINVAL None g)
+      (m_if O whole creates (nat_lt VALUE_LIMIT (length value)) (refused EFBIG None) (if is_full KEY_LIMIT nothing.omap key then refused ENOSPC None else changes (Some c) 0) _ _
+      (m_refused O whole creates EFBIG None g)
       (m_if O whole creates (is_full KEY_LIMIT nothing.omap key) (refused ENOSPC None) (changes (Some c) 0) _ _
       (m_refused O whole creates ENOSPC None g)
-      (m_changes O whole creates (Some c) (Some c) 0 e (created O whole creates c e (g made))))
+      (m_changes O whole creates (Some c) (Some c) 0 e (created O whole creates c e (g made)))))
   map_set_matches made (Some c) key value g =
       let d : Content = record c { omap = fin.insert c.omap key value } in
-      m_if O whole creates (not (is_named key)) (refused EINVAL (Some c)) (if is_full KEY_LIMIT c.omap key then refused ENOSPC (Some c) else changes (Some d) 0) _ _
+      m_if O whole creates (not (is_named key)) (refused EINVAL (Some c)) (if nat_lt VALUE_LIMIT (length value) then refused EFBIG (Some c) else if is_full KEY_LIMIT c.omap key then refused ENOSPC (Some c) else changes (Some d) 0) _ _
       (m_refused O whole creates EINVAL (Some c) g)
+      (m_if O whole creates (nat_lt VALUE_LIMIT (length value)) (refused EFBIG (Some c)) (if is_full KEY_LIMIT c.omap key then refused ENOSPC (Some c) else changes (Some d) 0) _ _
+      (m_refused O whole creates EFBIG (Some c) g)
       (m_if O whole creates (is_full KEY_LIMIT c.omap key) (refused ENOSPC (Some c)) (changes (Some d) 0) _ _
       (m_refused O whole creates ENOSPC (Some c) g)
-      (m_changes O whole creates (Some d) _ 0 (with_omap c (fin.insert c.omap key value) g) refl))
+      (m_changes O whole creates (Some d) _ 0 (with_omap c (fin.insert c.omap key value) g) refl)))
 
   map_rm_matches : (x : PlainObject) (key : List ℕ) → IsReduced O whole creates x → Matches O whole creates (map_rm_effect x key) (map_rm_effect (restored O whole x) key)
   map_rm_matches None key g =
@@ -234,3 +246,6 @@ module _ (kept : Parts) (whole : PlainObject) (creates : Bool) where
   matches OutLen x g may = λ r. record { good = r; same = refl }
   matches Create x g may = create_matches kept whole creates (may.creation refl) x (number g 0)
   matches Caller x g may = λ r. m_leaves kept whole creates x _ _ r refl
+  matches Compare x g may = λ r. m_leaves kept whole creates x _ _ r refl
+  matches Copy x g may = λ r. m_leaves kept whole creates x _ _ r refl
+  matches XattrNext x g may = of_xattrs (Match XattrNext x g) kept (may.xattrs refl) (xattr_next_matches kept.bytes kept.keys whole creates x (text g 0) g.room)

@@ -1,10 +1,11 @@
 -- Which parts of an object code needs. A helper reads or changes one part at most, besides whether
 -- the object is there:
 --
---     1 stat, 2 read, 3 write, 4 truncate              the data
---     6 getxattr, 7 setxattr, 8 rmxattr                the xattrs
---     9 map_get, 10 map_set, 11 map_rm, 12 map_next    the keys
---     5 remove, 13 out_len, 14 create, 15 caller       none
+--     1 stat, 2 read, 3 write, 4 truncate               the data
+--     6 getxattr, 7 setxattr, 8 rmxattr, 18 xattr_next  the xattrs
+--     9 map_get, 10 map_set, 11 map_rm, 12 map_next     the keys
+--     5 remove, 13 out_len, 14 create, 15 caller        none
+--     16 compare, 17 copy                               none
 --
 -- 5 removes the object, and 3, 7, 10 and 14 create one where there is none. Code that calls 5 and
 -- one of these can empty every part of an object that was there and is there: so it needs all. Else
@@ -14,7 +15,7 @@ use Rattle.std.specs.Prelude.{Bool, true, false, if◌then◌else◌, List, [], 
 use Rattle.bpf_decode.specs.declared.insn.Insn.{Insn}
 use Rattle.bpf_decode.specs.declared.insn.Insn.TheVariants.{Call}
 use Rattle.helpers.specs.declared.helper.Helper.{Helper}
-use Rattle.helpers.specs.declared.helper.Helper.TheVariants.{Stat, Read, Write, Truncate, Remove, GetXattr, SetXattr, RmXattr, MapGet, MapSet, MapRm, MapNext, Create}
+use Rattle.helpers.specs.declared.helper.Helper.TheVariants.{Stat, Read, Write, Truncate, Remove, GetXattr, SetXattr, RmXattr, MapGet, MapSet, MapRm, MapNext, Create, XattrNext}
 use Rattle.helpers.specs.Table.{helper_of}
 use Rattle.footprint.specs.declared.parts.Parts.{Parts}
 use Rattle.footprint.specs.declared.scan.Deed.{Deed}
@@ -30,6 +31,7 @@ does Bytes h = false
 does Xattrs GetXattr = true
 does Xattrs SetXattr = true
 does Xattrs RmXattr = true
+does Xattrs XattrNext = true
 does Xattrs h = false
 does Keys MapGet = true
 does Keys MapSet = true

@@ -28,7 +28,7 @@ fn does(helper: Helper, deed: Deed) -> bool
         ),
         Deed::Xattrs => matches!(
             helper,
-            Helper::GetXattr | Helper::SetXattr | Helper::RmXattr
+            Helper::GetXattr | Helper::SetXattr | Helper::RmXattr | Helper::XattrNext
         ),
         Deed::Keys => matches!(
             helper,
