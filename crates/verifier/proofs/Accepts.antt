@@ -78,7 +78,7 @@ ends_always laws rules m ok sound clear object caller input call =
     let sizes : AreCapacities (caps_of m) = record { input = ok.in_cap; output = ok.out_cap } in
     let first = first_begins m.instructions ok.some_slot in
     let s = typed_entry (caps_of m) object caller input in
-    ends_at_exit laws (caps_of m) sizes rules m.instructions sound ok.fit (slots_small m ok) clear object s first.0 refl first.1
+    ends_at_exit laws (caps_of m) rules m.instructions sound ok.fit (slots_small m ok) clear object s first.0 refl first.1
     (entry_is_held laws rules (caps_of m) sizes object caller input call.within_limits call.client call.short call.bytes)
 
 pub accept : EndsAlwaysIsSafe → Laws → (rules : RuleSet) (m : ClassMethod) → IsMethod m → AllSound rules (caps_of m) (slots m.instructions) → method_verdict rules m ≡ None → IsVerified m

@@ -23,8 +23,9 @@ use Rattle.bpf_decode.specs.Instruction.{byte_count, signed_byte_count, Fits}
 use Rattle.bpf_decode.specs.Arithmetic.{neg_value, signed_move_value, end_value, signed_load_value, is_taken}
 use Rattle.bpf_decode.specs.Jump.{branch_to}
 use Rattle.bpf_decode.specs.Values.{may_store, extended}
+use Rattle.bpf_decode.specs.declared.rule_set.RuleSet.{RuleSet}
 use Rattle.bpf_machine.specs.declared.caps.Caps.{Caps}
-use Rattle.bpf_machine.specs.State.{le_value, size, AreCapacities, set_reg, go}
+use Rattle.bpf_machine.specs.State.{le_value, size, set_reg, go}
 use Rattle.bpf_machine.specs.Typed.{Typed, operand_value, locate, typed_after, typed_act, typed_exit_of}
 use Rattle.bpf_machine.specs.Slots.{slot_values}
 use Rattle.abstract_regs.specs.Kind.{PlainKind, Unset, Num, Ptr, is_unset, is_ptr}
@@ -35,6 +36,7 @@ use Rattle.abstract_regs.specs.Laws.{AccessesFit}
 use Rattle.verifier.specs.Kind.{stays, is_read_only}
 use Rattle.verifier.specs.Frame.{IsWithin, Holds}
 use Rattle.verifier.specs.Rules.{load_meets, operand_is_unset, room_of}
+use Rattle.verifier.specs.Answers.{answer_of}
 use Rattle.verifier.proofs.Allowed.{when_left, allowed}
 use Rattle.verifier.proofs.Holding.{HoldsValue, read, value_is, operand_is, not_ptr_is_num, numbered, form_of, number_of, operand_read, operand_is_set, computes, copies, extended_small16, not_false}
 use Rattle.verifier.proofs.Passed.{neither, Passed}
@@ -42,10 +44,10 @@ use Rattle.verifier.proofs.Calls.{one_more, call_made, fits_in}
 use Rattle.verifier.proofs.Memory.{Laws, Stored, length-values, placed, reads_bytes, number_loads, loaded, number_stored, place_stored}
 
 -- the step is made, and takes the registers on
-pub record Steps (known : ℕ) (caps : Caps) (i : Insn) (s : Typed) : Type 0 where
+pub record Steps (rules : RuleSet) (known : ℕ) (caps : Caps) (f : PlainFrame) (i : Insn) (s : Typed) : Type 0 where
   pub to : Typed
   pub act : typed_act caps i s ≡ Some to
-  pub moves : Moves (room_of i) i s.slot s.regs (slot_values known s.memory.stack) to.slot to.regs (slot_values known to.memory.stack)
+  pub moves : Moves (room_of i) (answer_of rules f i) i s.slot s.regs (slot_values known s.memory.stack) to.slot to.regs (slot_values known to.memory.stack)
   pub within : IsWithin known to
 
 below_ten : (d : ℕ) → d ≤ 10 → (d == 10) ≡ false → nat_lt d 10 ≡ true
@@ -95,7 +97,7 @@ extended_small32 (negsuc n) h = omega arith
 kept_if : {A : Type 0} (b : Bool) (o : Option A) → (b && not (is_some o)) ≡ false → b ≡ true → is_some o ≡ true
 kept_if b o e t = not_false _ (when_left b (not (is_some o)) e t)
 
-module _ (laws : Laws) (caps : Caps) (sizes : AreCapacities caps) (code : List (Option Insn)) (p known : ℕ) (few : known ≤ 64) (f : PlainFrame) (s : Typed) (h : Holds known f s) (fits : EachFits f.registers) where
+module _ (laws : Laws) (rules : RuleSet) (caps : Caps) (code : List (Option Insn)) (p known : ℕ) (few : known ≤ 64) (f : PlainFrame) (s : Typed) (h : Holds known f s) (fits : EachFits f.registers) where
   -- the values of the slots of which the frame speaks
   abbrev vs : List (Option Value)
   vs = slot_values known s.memory.stack
@@ -103,10 +105,10 @@ module _ (laws : Laws) (caps : Caps) (sizes : AreCapacities caps) (code : List (
   long_vs : length f.slots ≡ length vs
   long_vs = h.long ∙ sym (length-values known s.memory.stack)
 
-  computed_step : (i : Insn) (d : ℕ) (v : Value) (q : ℕ) → typed_act caps i s ≡ Some (go q (record s { regs = slice_set s.regs d (Some v) })) → Moves (room_of i) i s.slot s.regs vs q (slice_set s.regs d (Some v)) vs → Steps known caps i s
+  computed_step : (i : Insn) (d : ℕ) (v : Value) (q : ℕ) → typed_act caps i s ≡ Some (go q (record s { regs = slice_set s.regs d (Some v) })) → Moves (room_of i) (answer_of rules f i) i s.slot s.regs vs q (slice_set s.regs d (Some v)) vs → Steps rules known caps f i s
   computed_step i d v q e m = record { to = go q (record s { regs = slice_set s.regs d (Some v) }); act = e; moves = m; within = within_regs s q (slice_set s.regs d (Some v)) h.within }
 
-  alu_steps : (bits : OpWidth) (operation : Arithmetic) (d : ℕ) (x : Operand) → Fits (Alu bits operation d x) → Passed caps code p (Alu bits operation d x) f → Steps known caps (Alu bits operation d x) s
+  alu_steps : (bits : OpWidth) (operation : Arithmetic) (d : ℕ) (x : Operand) → Fits (Alu bits operation d x) → Passed rules caps code p (Alu bits operation d x) f → Steps rules known caps f (Alu bits operation d x) s
   alu_steps bits operation d x fit ok =
       let unset = neither (is_unset (kind_at f d)) (operand_is_unset f x) ok.unset in
       let y = operand_read f s x h unset.1 in
@@ -116,7 +118,7 @@ module _ (laws : Laws) (caps : Caps) (sizes : AreCapacities caps) (code : List (
       (one_more _ _ _ _ y.1 (one_more _ _ _ _ v.there (ap (typed_after s) (one_more _ _ _ _ w.1 (set_to s d w.0 fit.0 ok.r10)))))
       (v.value, y.0, w.0, value_is s d v.value v.there, operand_is s x y.0 y.1, w.1, refl, refl, refl)
 
-  neg_steps : (bits : OpWidth) (d : ℕ) → Fits (Neg bits d) → Passed caps code p (Neg bits d) f → Steps known caps (Neg bits d) s
+  neg_steps : (bits : OpWidth) (d : ℕ) → Fits (Neg bits d) → Passed rules caps code p (Neg bits d) f → Steps rules known caps f (Neg bits d) s
   neg_steps bits d fit ok =
       let v = read f s d h ok.unset in
       let n = number_of (kind_at f d) v.value (form_of (kind_at f d) v.value v.holds) ok.unset ok.computed in
@@ -124,7 +126,7 @@ module _ (laws : Laws) (caps : Caps) (sizes : AreCapacities caps) (code : List (
       (one_more _ _ _ _ v.there (one_more _ _ _ _ n.1 (ap (typed_after s) (set_to s d _ fit ok.r10))))
       (n.0, value_is s d v.value v.there ∙ ap Some n.2, refl, refl, refl)
 
-  mov_steps : (bits : OpWidth) (d : ℕ) (x : Operand) → Fits (Mov bits d x) → Passed caps code p (Mov bits d x) f → Steps known caps (Mov bits d x) s
+  mov_steps : (bits : OpWidth) (d : ℕ) (x : Operand) → Fits (Mov bits d x) → Passed rules caps code p (Mov bits d x) f → Steps rules known caps f (Mov bits d x) s
   mov_steps bits d x fit ok =
       let y = operand_read f s x h ok.unset in
       let w = copies bits (operand_kind f x) y.0 y.2 (operand_is_set f x ok.unset) ok.computed in
@@ -132,7 +134,7 @@ module _ (laws : Laws) (caps : Caps) (sizes : AreCapacities caps) (code : List (
       (one_more _ _ _ _ y.1 (ap (typed_after s) (one_more _ _ _ _ w.1 (set_to s d w.0 fit.0 ok.r10))))
       (y.0, w.0, operand_is s x y.0 y.1, w.1, refl, refl, refl)
 
-  signed_move_steps : (extension : SignedMove) (d src : ℕ) → Fits (MovSigned extension d src) → Passed caps code p (MovSigned extension d src) f → Steps known caps (MovSigned extension d src) s
+  signed_move_steps : (extension : SignedMove) (d src : ℕ) → Fits (MovSigned extension d src) → Passed rules caps code p (MovSigned extension d src) f → Steps rules known caps f (MovSigned extension d src) s
   signed_move_steps extension d src fit ok =
       let v = read f s src h ok.unset in
       let n = number_of (kind_at f src) v.value (form_of (kind_at f src) v.value v.holds) ok.unset ok.computed in
@@ -140,7 +142,7 @@ module _ (laws : Laws) (caps : Caps) (sizes : AreCapacities caps) (code : List (
       (one_more _ _ _ _ v.there (one_more _ _ _ _ n.1 (ap (typed_after s) (set_to s d _ fit.0 ok.r10))))
       (n.0, value_is s src v.value v.there ∙ ap Some n.2, refl, refl, refl)
 
-  end_steps : (order : ByteOrder) (width : EndWidth) (d : ℕ) → Fits (End order width d) → Passed caps code p (End order width d) f → Steps known caps (End order width d) s
+  end_steps : (order : ByteOrder) (width : EndWidth) (d : ℕ) → Fits (End order width d) → Passed rules caps code p (End order width d) f → Steps rules known caps f (End order width d) s
   end_steps order width d fit ok =
       let v = read f s d h ok.unset in
       let n = number_of (kind_at f d) v.value (form_of (kind_at f d) v.value v.holds) ok.unset ok.computed in
@@ -148,19 +150,19 @@ module _ (laws : Laws) (caps : Caps) (sizes : AreCapacities caps) (code : List (
       (one_more _ _ _ _ v.there (one_more _ _ _ _ n.1 (ap (typed_after s) (set_to s d _ fit ok.r10))))
       (n.0, value_is s d v.value v.there ∙ ap Some n.2, refl, refl, refl)
 
-  wide_steps : (d value : ℕ) → Fits (LoadWide d value) → Passed caps code p (LoadWide d value) f → Steps known caps (LoadWide d value) s
+  wide_steps : (d value : ℕ) → Fits (LoadWide d value) → Passed rules caps code p (LoadWide d value) f → Steps rules known caps f (LoadWide d value) s
   wide_steps d value fit ok =
       computed_step (LoadWide d value) d (values.Num value) (s.slot + 2) (one_more _ _ _ _ (set_to s d (values.Num value) fit.0 ok.r10) refl) (refl, refl, refl)
 
-  load_steps : (width : Width) (d base : ℕ) (offset : ℤ) → Fits (Load width d base offset) → Passed caps code p (Load width d base offset) f → Steps known caps (Load width d base offset) s
+  load_steps : (width : Width) (d base : ℕ) (offset : ℤ) → Fits (Load width d base offset) → Passed rules caps code p (Load width d base offset) f → Steps rules known caps f (Load width d base offset) s
   load_steps width d base offset fit ok =
       let x = kind_at f base in
       let w = byte_count width in
       let small = extended_small16 offset fit.2 in
       let v = read f s base h ok.unset in
       let at = found laws.accesses caps x v.value (extended offset) w small (fits_in f.registers base fits) v.holds (not_false _ ok.bounds) in
-      let reads = laws.loads f x (extended offset) w (fits_in f.registers base fits) small (allowed caps code p f (Load width d base offset) ok) vs long_vs h.slots at.region at.offset at.holds in
-      let l = loaded laws.slots caps sizes known few s.memory (h.within).memory (placed at.region ((at.offset + extended offset) % 2 ^ 64)) w at.inside reads in
+      let reads = laws.loads f x (extended offset) w (fits_in f.registers base fits) small (allowed rules caps code p f (Load width d base offset) ok) vs long_vs h.slots at.region at.offset at.holds in
+      let l = loaded laws.slots caps known few s.memory (h.within).memory (placed at.region ((at.offset + extended offset) % 2 ^ 64)) w at.inside reads in
       computed_step (Load width d base offset) d l.value (s.slot + 1)
       (one_more _ _ _ _ v.there (ap (typed_after s) (one_more _ _ _ _ at.is (one_more _ _ _ _ l.is (set_to s d l.value fit.0 ok.r10)))))
       (at.region, at.offset, l.value, value_is s base v.value v.there ∙ ap Some at.points, l.loads, refl, refl, refl)
@@ -173,39 +175,39 @@ module _ (laws : Laws) (caps : Caps) (sizes : AreCapacities caps) (code : List (
       width_of : {j : ℕ} → IsSlot vs r at (signed_byte_count width) j → signed_byte_count width ≡ 8
       width_of is = is.width
 
-  signed_load_steps : (width : SignedWidth) (d base : ℕ) (offset : ℤ) → Fits (LoadSigned width d base offset) → Passed caps code p (LoadSigned width d base offset) f → Steps known caps (LoadSigned width d base offset) s
+  signed_load_steps : (width : SignedWidth) (d base : ℕ) (offset : ℤ) → Fits (LoadSigned width d base offset) → Passed rules caps code p (LoadSigned width d base offset) f → Steps rules known caps f (LoadSigned width d base offset) s
   signed_load_steps width d base offset fit ok =
       let x = kind_at f base in
       let w = signed_byte_count width in
       let small = extended_small16 offset fit.2 in
       let v = read f s base h ok.unset in
       let at = found laws.accesses caps x v.value (extended offset) w small (fits_in f.registers base fits) v.holds (not_false _ ok.bounds) in
-      let allows = allowed caps code p f (LoadSigned width d base offset) ok in
+      let allows = allowed rules caps code p f (LoadSigned width d base offset) ok in
       let reads = laws.loads f x (extended offset) w (fits_in f.registers base fits) small allows.0 vs long_vs h.slots at.region at.offset at.holds in
       let place = (at.offset + extended offset) % 2 ^ 64 in
-      let b = reads_bytes laws.slots caps sizes known few s.memory (h.within).memory at.region place w at.inside (numbers_of width at.region place reads) in
+      let b = reads_bytes laws.slots caps known few s.memory (h.within).memory at.region place w at.inside (numbers_of width at.region place reads) in
       let n = le_value b.bytes in
       computed_step (LoadSigned width d base offset) d (values.Num (signed_load_value width n)) (s.slot + 1)
       (one_more _ _ _ _ v.there (ap (typed_after s) (one_more _ _ _ _ at.is (one_more _ _ _ _ b.are (set_to s d (values.Num (signed_load_value width n)) fit.0 ok.r10)))))
-      (at.region, at.offset, n, value_is s base v.value v.there ∙ ap Some at.points, number_loads laws.slots caps sizes known few s.memory (h.within).memory at.region place w b, refl, refl, refl)
+      (at.region, at.offset, n, value_is s base v.value v.there ∙ ap Some at.points, number_loads laws.slots caps known few s.memory (h.within).memory at.region place w b, refl, refl, refl)
 
   -- what a store stores: a number; or a place, in a slot
   stored_value : (k : PlainKind) (v : Value) (q : Region × ℕ) (w : ℕ) → HoldsValue k v → is_unset k ≡ false → q.1 + w ≤ size caps q.0 → (is_ptr k ≡ true → (j : ℕ) × IsSlot vs q.0 q.1 w j) → Stored known s.memory q w v
   stored_value Unset v q w holds set inside slot = absurd (false≢true (sym set))
-  stored_value (Num k) (values.Num n) q w holds set inside slot = number_stored laws.slots caps sizes known few s.memory (h.within).memory q w n inside holds.fits
+  stored_value (Num k) (values.Num n) q w holds set inside slot = number_stored laws.slots caps known few s.memory (h.within).memory q w n inside holds.fits
   stored_value (Num k) (values.Ptr r at) q w holds set inside slot = absurd holds
   stored_value (Ptr r k) (values.Num n) q w holds set inside slot = absurd holds
   stored_value (Ptr r k) (values.Ptr o at) q w holds set inside slot =
-      let t = slot refl in place_stored laws.slots caps sizes known few s.memory (h.within).memory q w t.0 t.1 o at
+      let t = slot refl in place_stored laws.slots caps known few s.memory (h.within).memory q w t.0 t.1 o at
 
   pub record Storing (x : Operand) (q : Region × ℕ) (w : ℕ) : Type 0 where
     value : Value
     read : operand_value s x ≡ Some value
     stored : Stored known s.memory q w value
 
-  storing : (width : Width) (base : ℕ) (offset : ℤ) (x : Operand) → Fits (Store width base offset x) → Passed caps code p (Store width base offset x) f → operand_is_unset f x ≡ false → (r : Region) (at : ℕ) → HoldsValue (kind_at f base) (values.Ptr r at) → (at + extended offset) % 2 ^ 64 + byte_count width ≤ size caps r → Storing x (placed r ((at + extended offset) % 2 ^ 64)) (byte_count width)
+  storing : (width : Width) (base : ℕ) (offset : ℤ) (x : Operand) → Fits (Store width base offset x) → Passed rules caps code p (Store width base offset x) f → operand_is_unset f x ≡ false → (r : Region) (at : ℕ) → HoldsValue (kind_at f base) (values.Ptr r at) → (at + extended offset) % 2 ^ 64 + byte_count width ≤ size caps r → Storing x (placed r ((at + extended offset) % 2 ^ 64)) (byte_count width)
   storing width base offset (Immediate imm) fit ok set r at holds inside =
-      record { value = values.Num (extended imm); read = refl; stored = number_stored laws.slots caps sizes known few s.memory (h.within).memory (placed r ((at + extended offset) % 2 ^ 64)) (byte_count width) (extended imm) inside (extended_small32 imm fit.2) }
+      record { value = values.Num (extended imm); read = refl; stored = number_stored laws.slots caps known few s.memory (h.within).memory (placed r ((at + extended offset) % 2 ^ 64)) (byte_count width) (extended imm) inside (extended_small32 imm fit.2) }
   storing width base offset (Register o) fit ok set r at holds inside =
       let v = read f s o h set in
       record {
@@ -215,7 +217,7 @@ module _ (laws : Laws) (caps : Caps) (sizes : AreCapacities caps) (code : List (
             laws.places f (kind_at f base) (extended offset) (byte_count width) (fits_in f.registers base fits) (extended_small16 offset fit.1) (kept_if (is_ptr (kind_at f o)) (kept_kind f (kind_at f base) (extended offset) (byte_count width)) ok.stored pointer) vs long_vs r at holds);
       }
 
-  store_steps : (width : Width) (base : ℕ) (offset : ℤ) (x : Operand) → Fits (Store width base offset x) → Passed caps code p (Store width base offset x) f → Steps known caps (Store width base offset x) s
+  store_steps : (width : Width) (base : ℕ) (offset : ℤ) (x : Operand) → Fits (Store width base offset x) → Passed rules caps code p (Store width base offset x) f → Steps rules known caps f (Store width base offset x) s
   store_steps width base offset x fit ok =
       let unset = neither (is_unset (kind_at f base)) (operand_is_unset f x) ok.unset in
       let v = read f s base h unset.0 in
@@ -231,7 +233,7 @@ module _ (laws : Laws) (caps : Caps) (sizes : AreCapacities caps) (code : List (
         within = record { memory = kept.memory; object = (h.within).object; client = (h.within).client };
       }
 
-  branch_steps : (bits : OpWidth) (comparison : Comparison) (d : ℕ) (x : Operand) (offset : ℤ) → Passed caps code p (Branch bits comparison d x offset) f → Steps known caps (Branch bits comparison d x offset) s
+  branch_steps : (bits : OpWidth) (comparison : Comparison) (d : ℕ) (x : Operand) (offset : ℤ) → Passed rules caps code p (Branch bits comparison d x offset) f → Steps rules known caps f (Branch bits comparison d x offset) s
   branch_steps bits comparison d x offset ok =
       let unset = neither (is_unset (kind_at f d)) (operand_is_unset f x) ok.unset in
       let pointers = neither (is_ptr (kind_at f d)) (is_ptr (operand_kind f x)) ok.compared in
@@ -246,12 +248,12 @@ module _ (laws : Laws) (caps : Caps) (sizes : AreCapacities caps) (code : List (
         within = within_slot s (branch_to (is_taken bits comparison m.0 n.0) s.slot (extended offset)) h.within;
       }
 
-  call_steps : (helper : ℕ) → Passed caps code p (Call helper) f → Steps known caps (Call helper) s
+  call_steps : (helper : ℕ) → Passed rules caps code p (Call helper) f → Steps rules known caps f (Call helper) s
   call_steps helper ok =
-      let t = call_made laws.slots laws.ranges laws.effects caps sizes known few helper f s h ok.unknown ok.asks_set ok.asks_bounds ok.asks_read_only ok.kinds ok.asks_parts ok.writes in
-      record { to = go (s.slot + 1) t.to; act = ap (typed_after s) t.made; moves = (t.answer, t.small, refl, t.regs, t.slots); within = within_slot t.to (s.slot + 1) t.within }
+      let t = call_made laws rules caps known few helper f s h ok.unknown ok.asks_set ok.asks_bounds ok.asks_read_only ok.kinds ok.asks_parts ok.writes in
+      record { to = go (s.slot + 1) t.to; act = ap (typed_after s) t.made; moves = (t.answer, t.holds, refl, t.regs, t.slots); within = within_slot t.to (s.slot + 1) t.within }
 
-  pub steps : (i : Insn) → Fits i → Passed caps code p i f → i ≢ Exit → Steps known caps i s
+  pub steps : (i : Insn) → Fits i → Passed rules caps code p i f → i ≢ Exit → Steps rules known caps f i s
   steps (Alu bits operation d x) fit ok go_on = alu_steps bits operation d x fit ok
   steps (Neg bits d) fit ok go_on = neg_steps bits d fit ok
   steps (Mov bits d x) fit ok go_on = mov_steps bits d x fit ok
@@ -269,8 +271,8 @@ module _ (laws : Laws) (caps : Caps) (sizes : AreCapacities caps) (code : List (
   steps Exit fit ok go_on = absurd (go_on refl)
 
 -- at an exit register 0 has a number
-pub exits : {known : ℕ} (caps : Caps) (code : List (Option Insn)) (p : ℕ) (f : PlainFrame) (s : Typed) → Holds known f s → Passed caps code p Exit f → (n : ℕ) × (typed_exit_of Exit s ≡ Some n)
-exits caps code p f s h ok =
+pub exits : {known : ℕ} (rules : RuleSet) (caps : Caps) (code : List (Option Insn)) (p : ℕ) (f : PlainFrame) (s : Typed) → Holds known f s → Passed rules caps code p Exit f → (n : ℕ) × (typed_exit_of Exit s ≡ Some n)
+exits rules caps code p f s h ok =
     let v = read f s 0 h ok.unset in
     let n = numbered (kind_at f 0) v.value v.holds (not_ptr_is_num _ ok.unset ok.returns) in
     (n.0, one_more _ _ _ _ v.there n.1)

@@ -1,6 +1,6 @@
 -- What the rules leave of loads, stores and helpers' ranges.
-use Rattle.std.proofs.Common.{◌≡◌, ℕ, ◌+◌, List, [], ◌∷◌, Option, Some, None, Bool, true, false, refl, sym}
-use Rattle.std.specs.Prelude.{◌&&◌, not, is_some}
+use Rattle.std.proofs.Common.{◌≡◌, ℕ, ◌+◌, List, [], ◌∷◌, Option, Some, None, Bool, true, false, refl, ap, ◌∙◌, sym}
+use Rattle.std.specs.Prelude.{◌&&◌, not, nat_le, is_some, if◌then◌else◌}
 use Rattle.std.proofs.lemmas.Bool.{false≢true}
 use Rattle.bpf_decode.specs.declared.access.SignedWidth.{SignedWidth}
 use Rattle.bpf_decode.specs.declared.access.SignedWidth.TheVariants as signed
@@ -9,6 +9,7 @@ use Rattle.bpf_decode.specs.declared.insn.Insn.{Insn}
 use Rattle.bpf_decode.specs.declared.insn.Insn.TheVariants.{Alu, Neg, Mov, MovSigned, End, LoadWide, Load, LoadSigned, Store, Jump, JumpLong, Branch, Call, CallLocal, Exit}
 use Rattle.bpf_decode.specs.Instruction.{byte_count, signed_byte_count}
 use Rattle.bpf_decode.specs.Values.{extended}
+use Rattle.bpf_decode.specs.declared.rule_set.RuleSet.{RuleSet}
 use Rattle.bpf_machine.specs.declared.caps.Caps.{Caps}
 use Rattle.helpers.specs.declared.argument.Argument.{Argument}
 use Rattle.helpers.specs.declared.argument.Argument.TheVariants.{Number, OutputLength, Readable, Writable}
@@ -23,7 +24,7 @@ use Rattle.abstract_regs.specs.Frame.{PlainFrame, kind_at, kept_kind}
 use Rattle.abstract_regs.specs.Moves.{AllowsRoom, Allows}
 use Rattle.verifier.specs.declared.fault.Fault.TheVariants.{WrongKind}
 use Rattle.verifier.specs.Kind.{stays}
-use Rattle.verifier.specs.Rules.{has_fault, some_fault, taken_fault, load_meets, room_in, room_of_takes, room_of}
+use Rattle.verifier.specs.Rules.{has_fault, some_fault, taken_fault, load_meets, last_helper, takes_of, room_in, room_of_takes, room_of}
 use Rattle.verifier.proofs.Holding.{not_false}
 use Rattle.verifier.proofs.Passed.{neither, Passed}
 
@@ -35,6 +36,14 @@ when_right false b e f = refl
 pub when_left : (a b : Bool) → (a && b) ≡ false → a ≡ true → b ≡ false
 when_left true b e f = e
 when_left false b e f = absurd (false≢true f)
+
+known_takes : (b : Bool) (o : Option Takes) → not (is_some (if b then o else None)) ≡ false → (if b then o else None) ≡ o
+known_takes true o e = refl
+known_takes false o e = absurd (false≢true (sym e))
+
+-- a helper of the rule set takes what the helper of that id does
+pub takes_known : (rules : RuleSet) (helper : ℕ) → not (is_some (takes_of rules helper)) ≡ false → takes_of rules helper ≡ signature_of helper
+takes_known rules helper e = known_takes (nat_le helper (last_helper rules)) (signature_of helper) e
 
 pub stays_by_pointer : (caps : Caps) (x : PlainKind) (distance w : ℕ) → stays caps x distance w ≡ true → is_ptr x ≡ true
 stays_by_pointer caps Unset distance w e = e
@@ -56,7 +65,7 @@ never_whole signed.Byte slots (Some place) = refl
 never_whole signed.Half slots (Some place) = refl
 never_whole signed.Word slots (Some place) = refl
 
-module _ (caps : Caps) (code : List (Option Insn)) (p : ℕ) (f : PlainFrame) where
+module _ (rules : RuleSet) (caps : Caps) (code : List (Option Insn)) (p : ℕ) (f : PlainFrame) where
   -- a load's bytes meet nothing that isn't to be read
   unmet : (content : Content) (x : PlainKind) (distance w : ℕ) → stays caps x distance w ≡ true → load_meets content caps f x distance w ≡ false → meets content (access_span (stack_place x distance) w) 0 f.slots ≡ false
   unmet content x distance w inside e = when_right _ _ e inside
@@ -75,7 +84,7 @@ module _ (caps : Caps) (code : List (Option Insn)) (p : ℕ) (f : PlainFrame) wh
   room_allowed None e = tt
   room_allowed (Some takes) e = room_kinds takes.arguments 1 e
 
-  pub allowed : (i : Insn) → Passed caps code p i f → Allows (room_of i) i f
+  pub allowed : (i : Insn) → Passed rules caps code p i f → Allows (room_of i) i f
   allowed (Alu bits operation d x) ok = tt
   allowed (Neg bits d) ok = tt
   allowed (Mov bits d x) ok = tt
@@ -106,6 +115,7 @@ module _ (caps : Caps) (code : List (Option Insn)) (p : ℕ) (f : PlainFrame) wh
   allowed (Jump offset) ok = tt
   allowed (JumpLong distance) ok = tt
   allowed (Branch bits comparison d x offset) ok = tt
-  allowed (Call helper) ok = room_allowed (signature_of helper) ok.kinds
+  allowed (Call helper) ok =
+      room_allowed (signature_of helper) (ap (taken_fault caps f WrongKind) (sym (takes_known rules helper ok.unknown)) ∙ ok.kinds)
   allowed (CallLocal distance) ok = tt
   allowed Exit ok = tt

@@ -1,10 +1,8 @@
 -- Lists of bytes stay lists of bytes.
-use Rattle.std.proofs.Common.{◌≡◌, ℕ, zero, suc, ◌+◌, ◌/◌, ◌^◌, ◌<◌, ◌≤◌, List, [], ◌∷◌, ◌++◌, Option, Some, refl, ap, arith, length, take, drop, length-append, length-take}
+use Rattle.std.proofs.Common.{◌≡◌, ℕ, zero, suc, ◌+◌, ◌/◌, ◌^◌, ◌<◌, ◌≤◌, List, [], ◌∷◌, ◌++◌, Option, Some, refl, ap, arith, length, take, drop, length-take}
 use Rattle.std.specs.Prelude.{replicate}
 use Rattle.std.proofs.Math.Nat.{pow-succ', pow-le-pow_right}
-use Rattle.std.proofs.lemmas.List.{length-drop}
-use Rattle.object_store.specs.declared.limits.TheConstants.{VALUE_LIMIT}
-use Rattle.object_store.specs.Object.{AreBytes, IsValue}
+use Rattle.object_store.specs.Object.{AreBytes}
 use Rattle.bpf_machine.specs.State.{◌>>=◌, le_value, le_bytes, written}
 use Rattle.bpf_machine.specs.Typed.{as_cells, plain_bytes}
 
@@ -45,14 +43,9 @@ value_in w xs a =
     let le : 256 ^ length (take w xs) ≤ 256 ^ w = pow-le-pow_right {n = 256} (omega arith) short in
     omega (arith, small, le)
 
--- what is written within that many bytes leaves no more
-written_short : (xs : List ℕ) (at : ℕ) (bytes : List ℕ) (most : ℕ) → length xs ≤ most → at + length bytes ≤ most → length (written xs at bytes) ≤ most
-written_short xs at bytes most h i =
-    omega (arith, h, i, length-append (take at xs) (bytes ++ drop (at + length bytes) xs), length-append bytes (drop (at + length bytes) xs), length-take at xs, length-drop (at + length bytes) xs)
-
-pub written_is : (xs : List ℕ) (at : ℕ) (bytes : List ℕ) → IsValue xs → AreBytes bytes → at + length bytes ≤ VALUE_LIMIT → IsValue (written xs at bytes)
-written_is xs at bytes h b le =
-    (written_short xs at bytes VALUE_LIMIT h.0 le, bytes_append (take at xs) _ (bytes_take at xs h.1) (bytes_append bytes _ b (bytes_drop (at + length bytes) xs h.1)))
+pub bytes_written : (xs : List ℕ) (at : ℕ) (bytes : List ℕ) → AreBytes xs → AreBytes bytes → AreBytes (written xs at bytes)
+bytes_written xs at bytes a b =
+    bytes_append (take at xs) _ (bytes_take at xs a) (bytes_append bytes _ b (bytes_drop (at + length bytes) xs a))
 
 -- bytes alone, as cells
 pub as_plain : (bytes : List ℕ) → plain_bytes (as_cells bytes) ≡ Some bytes

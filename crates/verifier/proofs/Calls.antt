@@ -1,25 +1,33 @@
 -- A helper's call that no rule refuses has its arguments, and what it leaves is what its frame
 -- says.
-use Rattle.std.proofs.Common.{◌≡◌, ℕ, zero, suc, ◌+◌, ◌%◌, ◌^◌, ◌<◌, ◌≤◌, List, [], ◌∷◌, Option, Some, None, Bool, true, false, refl, ap, ◌∙◌, sym, subst, arith, length}
-use Rattle.std.specs.Prelude.{◌==◌, ◌&&◌, ◌||◌, not, nat_le, if◌then◌else◌, is_some, slice_get, unwrap_or}
+use Rattle.std.proofs.Common.{◌≡◌, ℕ, zero, suc, ◌+◌, ◌%◌, ◌^◌, ◌<◌, ◌≤◌, List, [], ◌∷◌, Option, Some, None, Bool, true, false, refl, ap, ◌∙◌, sym, subst, arith, length, inl, inr, ⊎_elim}
+use Rattle.std.specs.Prelude.{◌-◌, ◌⊎◌, min, ◌==◌, ◌&&◌, ◌||◌, not, nat_le, if◌then◌else◌, is_some, slice_get, unwrap_or}
 use Rattle.std.specs.List.{AllByRecursion}
 use Rattle.std.proofs.lemmas.Bool.{eqb-false, leb-true, le-leb, false≢true, cond-true}
-use Rattle.std.proofs.lemmas.Option.{same_Some}
+use Rattle.std.specs.Option.{option_map}
+use Rattle.std.proofs.lemmas.Option.{none-some, same_Some}
 use Rattle.bpf_decode.specs.declared.region.Region.{Region}
 use Rattle.bpf_decode.specs.declared.insn.Insn.TheVariants.{Call}
+use Rattle.bpf_decode.specs.declared.rule_set.RuleSet.{RuleSet}
+use Rattle.bpf_decode.specs.declared.rule_set.RuleSet.TheVariants.{One, Two, Three}
 use Rattle.bpf_decode.specs.declared.value.Value.{Value}
 use Rattle.bpf_decode.specs.declared.value.Value.TheVariants as values
 use Rattle.bpf_machine.specs.declared.caps.Caps.{Caps}
-use Rattle.object_store.specs.Object.{AreBytes, IsValue}
+use Rattle.object_store.specs.Object.{AreBytes}
 use Rattle.helpers.specs.declared.argument.Argument.{Argument}
 use Rattle.helpers.specs.declared.argument.Argument.TheVariants.{Number, OutputLength, Readable, Writable}
-use Rattle.helpers.specs.Effect.{Takes}
-use Rattle.helpers.specs.Laws.{EffectsAreWithinLimits}
+use Rattle.helpers.specs.Effect.{Takes, Effect, text}
 use Rattle.helpers.specs.Table.{signature_of, effect}
-use Rattle.bpf_machine.specs.State.{◌>>=◌, only, may_store, size, AreCapacities, reg}
+use Rattle.helpers.specs.declared.answer_ranges.AnswerLimit.{AnswerLimit}
+use Rattle.helpers.specs.declared.answer_ranges.AnswerLimit.TheVariants as limit
+use Rattle.helpers.specs.declared.answer_ranges.AnswerRange.{AnswerRange}
+use Rattle.helpers.specs.Ranges.{answer_range_of, limit_of}
+use Rattle.bpf_machine.specs.State.{◌>>=◌, only, may_store, size, reg}
 use Rattle.bpf_machine.specs.Helper.{Given, nothing_given, with_number, with_text, with_room, asked, answered}
 use Rattle.bpf_machine.specs.Typed.{Typed, TypedMemory, number, plain_bytes, cells_at, typed_range, typed_text, typed_room, typed_arguments, typed_help}
 use Rattle.bpf_machine.specs.Slots.{slot_values}
+use Rattle.abstract_num.specs.Plain as numbers
+use Rattle.abstract_num.specs.Plain.{any}
 use Rattle.abstract_regs.specs.Kind.{PlainKind, Unset, Num, Ptr}
 use Rattle.verifier.specs.declared.fault.Fault.TheVariants.{NotSet, OutOfRegion, ReadOnly, WrongKind, HasPointer}
 use Rattle.abstract_regs.specs.declared.content.Content.TheVariants.{Nothing, Pointer}
@@ -30,11 +38,12 @@ use Rattle.abstract_regs.specs.Frame.{PlainFrame, or_unset, kind_at}
 use Rattle.abstract_regs.specs.Moves.{value_at, Reached, IsNumber, Overwritten, KindFits, EachFits}
 use Rattle.abstract_regs.specs.Laws.{RangesAreKnown}
 use Rattle.verifier.specs.Frame.{IsMemory, IsWithin, Holds}
-use Rattle.verifier.specs.Rules.{range_meets, has_fault, some_fault, taken_fault, call_fault, room_in, room_of_takes, room_of, writes_object}
+use Rattle.verifier.specs.Rules.{range_meets, has_fault, some_fault, takes_of, taken_fault, call_fault, room_in, room_of_takes, room_of, writes_object}
+use Rattle.verifier.specs.Answers.{greatest_of, longest, text_in, most_of, ranged_answer, helper_answer, answer_of}
 use Rattle.verifier.proofs.Holding.{not_false, HoldsValue, Read, read, value_is, num_is_set, ptr_is_set, numbered}
-use Rattle.verifier.proofs.Numbers.{answer_small}
-use Rattle.verifier.proofs.Memory.{SlotLaws, Wrote, length-values, placed, reads_bytes, room_written, no_room_written}
-use Rattle.verifier.proofs.Allowed.{when_right}
+use Rattle.verifier.proofs.Numbers.{answer_small, errno_is_small, answers_hold}
+use Rattle.verifier.proofs.Memory.{Laws, SlotLaws, Wrote, length-values, placed, reads_bytes, room_written, no_room_written}
+use Rattle.verifier.proofs.Allowed.{when_right, takes_known}
 use Rattle.verifier.proofs.Passed.{neither}
 
 pub one_more : {A B : Type 0} (o : Option A) (x : A) (g : A → Option B) (y : B) → o ≡ Some x → g x ≡ Some y → (o >>= g) ≡ Some y
@@ -126,6 +135,18 @@ ranged caps writes (Ptr r k) (Num l) (values.Ptr q at) (values.Num m) n h i e a 
       room = t.2;
     }
 
+-- a number is at most the greatest length of the range that begins at a register
+abbrev IsShort : PlainFrame → Option ℕ → ℕ → Type 0
+IsShort f o n = (most : ℕ) → longest f o ≡ Some most → n ≤ most
+
+kind_short : (x : PlainKind) (n most : ℕ) → HoldsValue x (values.Num n) → greatest_of x ≡ Some most → n ≤ most
+kind_short Unset n most h e = absurd (none-some most e)
+kind_short (Num k) n most h e = omega (arith, h.below, same_Some k.high most e)
+kind_short (Ptr r k) n most h e = absurd h
+
+counted_short : (f : PlainFrame) (s : Typed) (k : ℕ) (n : Counted f s k) (most : ℕ) → greatest_of (kind_at f k) ≡ Some most → n.n ≤ most
+counted_short f s k n most e = kind_short (kind_at f k) n.n most (subst (HoldsValue (kind_at f k)) n.same n.holds) e
+
 -- where a helper writes: in the range that begins at a register, if there is one
 pub record RoomAt (caps : Caps) (s : Typed) (k room : ℕ) (target : Option (Region × ℕ)) : Type 0 where
   region : Region
@@ -139,22 +160,25 @@ Targets caps s None room target = target ≡ None
 Targets caps s (Some k) room target = RoomAt caps s k room target
 
 -- the arguments of a helper that was not refused
-record Gets (caps : Caps) (s : Typed) (arguments : List Argument) (k : ℕ) : Type 0 where
+record Gets (caps : Caps) (f : PlainFrame) (s : Typed) (arguments : List Argument) (k : ℕ) : Type 0 where
   given : Given
   is : typed_arguments caps s arguments k ≡ Some given
   small : given.room < 2 ^ 64
   targets : Targets caps s (room_in arguments k) given.room given.target
-  texts : AllByRecursion IsValue given.texts
+  texts : AllByRecursion AreBytes given.texts
   caller : given.caller ≡ s.caller
+  room_short : IsShort f (room_in arguments k) given.room
+  text_short : IsShort f (text_in arguments k) (length (text (asked given) 0))
 
 -- a text that a helper reads
 record Texted (m : TypedMemory) (place : Option (Region × ℕ)) (n : ℕ) : Type 0 where
   text : List ℕ
   is : typed_text m place n ≡ Some text
-  value : IsValue text
+  small : AreBytes text
+  short : length text ≤ n
 
-module _ (laws : SlotLaws) (ranges : RangesAreKnown) (caps : Caps) (sizes : AreCapacities caps) (known : ℕ) (few : known ≤ 64) (f : PlainFrame) (s : Typed) (h : Holds known f s) where
-  number_gets : (more : List Argument) (k : ℕ) → Counted f s k → Gets caps s more (k + 1) → Gets caps s (Number ∷ more) k
+module _ (laws : SlotLaws) (ranges : RangesAreKnown) (caps : Caps) (known : ℕ) (few : known ≤ 64) (f : PlainFrame) (s : Typed) (h : Holds known f s) where
+  number_gets : (more : List Argument) (k : ℕ) → Counted f s k → Gets caps f s more (k + 1) → Gets caps f s (Number ∷ more) k
   number_gets more k n g = record {
     given = with_number n.n g.given;
     is = one_more _ _ _ _ n.there (one_more _ _ _ _ n.is (one_more _ _ _ _ g.is refl));
@@ -162,9 +186,11 @@ module _ (laws : SlotLaws) (ranges : RangesAreKnown) (caps : Caps) (sizes : AreC
     targets = g.targets;
     texts = g.texts;
     caller = g.caller;
+    room_short = g.room_short;
+    text_short = g.text_short;
   }
 
-  length_gets : (more : List Argument) (k : ℕ) (n : Counted f s k) → nat_le n.n caps.out_cap ≡ true → Gets caps s more (k + 1) → Gets caps s (OutputLength ∷ more) k
+  length_gets : (more : List Argument) (k : ℕ) (n : Counted f s k) → nat_le n.n caps.out_cap ≡ true → Gets caps f s more (k + 1) → Gets caps f s (OutputLength ∷ more) k
   length_gets more k n le g = record {
     given = with_number n.n g.given;
     is = one_more _ _ _ _ n.there (one_more _ _ _ _ n.is (cond-true _ _ _ le ∙ one_more _ _ _ _ g.is refl));
@@ -172,6 +198,8 @@ module _ (laws : SlotLaws) (ranges : RangesAreKnown) (caps : Caps) (sizes : AreC
     targets = g.targets;
     texts = g.texts;
     caller = g.caller;
+    room_short = g.room_short;
+    text_short = g.text_short;
   }
 
   long_values : length f.slots ≡ length (slot_values known s.memory.stack)
@@ -179,26 +207,29 @@ module _ (laws : SlotLaws) (ranges : RangesAreKnown) (caps : Caps) (sizes : AreC
 
   -- bytes that the rules leave to be read
   texted : (r : Region) (at n : ℕ) (place : Option (Region × ℕ)) → HasRoom caps r at n place → (1 ≤ n → (j : ℕ) → j < length (slot_values known s.memory.stack) → Reached r at n j → IsNumber (value_at (slot_values known s.memory.stack) j)) → Texted s.memory place n
-  texted r at n None room numbers = record { text = []; is = refl; value = (omega arith, tt) }
+  texted r at n None room numbers = record { text = []; is = refl; small = tt; short = omega arith }
   texted r at n (Some p) room numbers =
-      let b = reads_bytes laws caps sizes known few s.memory (h.within).memory r at n room.3 (numbers room.2) in
+      let b = reads_bytes laws caps known few s.memory (h.within).memory r at n room.3 (numbers room.2) in
       record {
         text = b.bytes;
         is = ap (λ (q : Region). plain_bytes (cells_at s.memory q p.1 n)) room.0 ∙ ap (λ (k : ℕ). plain_bytes (cells_at s.memory r k n)) room.1 ∙ b.are;
-        value = b.value;
+        small = b.small;
+        short = b.short;
       }
 
-  readable_gets : (more : List Argument) (k : ℕ) (v : Read f s k) (n : Counted f s (k + 1)) (p : Option (Region × ℕ)) → typed_range caps false v.value n.n ≡ Some p → Texted s.memory p n.n → Gets caps s more (k + 2) → Gets caps s (Readable ∷ more) k
+  readable_gets : (more : List Argument) (k : ℕ) (v : Read f s k) (n : Counted f s (k + 1)) (p : Option (Region × ℕ)) → typed_range caps false v.value n.n ≡ Some p → Texted s.memory p n.n → Gets caps f s more (k + 2) → Gets caps f s (Readable ∷ more) k
   readable_gets more k v n p e t g = record {
     given = with_text t.text g.given;
     is = one_more _ _ _ _ v.there (one_more _ _ _ _ n.there (one_more _ _ _ _ n.is (one_more _ _ _ _ e (one_more _ _ _ _ t.is (one_more _ _ _ _ g.is refl)))));
     small = g.small;
     targets = g.targets;
-    texts = (t.value, g.texts);
+    texts = (t.small, g.texts);
     caller = g.caller;
+    room_short = g.room_short;
+    text_short = λ most e. let le = counted_short f s (k + 1) n most e in omega (arith, t.short, le);
   }
 
-  writable_gets : (more : List Argument) (k : ℕ) (v : Read f s k) (n : Counted f s (k + 1)) (p : Ranged caps true v.value n.n) → Gets caps s more (k + 2) → Gets caps s (Writable ∷ more) k
+  writable_gets : (more : List Argument) (k : ℕ) (v : Read f s k) (n : Counted f s (k + 1)) (p : Ranged caps true v.value n.n) → Gets caps f s more (k + 2) → Gets caps f s (Writable ∷ more) k
   writable_gets more k v n p g = record {
     given = with_room n.n p.place g.given;
     is = one_more _ _ _ _ v.there (one_more _ _ _ _ n.there (one_more _ _ _ _ n.is (one_more _ _ _ _ p.is (one_more _ _ _ _ g.is refl))));
@@ -212,14 +243,25 @@ module _ (laws : SlotLaws) (ranges : RangesAreKnown) (caps : Caps) (sizes : AreC
     };
     texts = g.texts;
     caller = g.caller;
+    room_short = counted_short f s (k + 1) n;
+    text_short = g.text_short;
   }
 
   -- a pointer and a length whose range may be read, or written
   range_of : (writes : Bool) (k : ℕ) (v : Read f s k) (n : Counted f s (k + 1)) → is_ptr (kind_at f k) ≡ true → is_num (kind_at f (k + 1)) ≡ true → range_leaves caps (kind_at f k) (kind_at f (k + 1)) ≡ false → (writes ≡ true → range_is_read_only (kind_at f k) (kind_at f (k + 1)) ≡ false) → Ranged caps writes v.value n.n
   range_of writes k v n pointer count stays writable = ranged caps writes (kind_at f k) (kind_at f (k + 1)) v.value n.value n.n v.holds n.holds n.is pointer count stays writable
 
-  gets : (arguments : List Argument) (k : ℕ) → some_fault caps f NotSet arguments k ≡ false → some_fault caps f OutOfRegion arguments k ≡ false → some_fault caps f ReadOnly arguments k ≡ false → some_fault caps f WrongKind arguments k ≡ false → some_fault caps f HasPointer arguments k ≡ false → Gets caps s arguments k
-  gets [] k u a b c d = record { given = nothing_given s.caller; is = refl; small = omega arith; targets = refl; texts = tt; caller = refl }
+  gets : (arguments : List Argument) (k : ℕ) → some_fault caps f NotSet arguments k ≡ false → some_fault caps f OutOfRegion arguments k ≡ false → some_fault caps f ReadOnly arguments k ≡ false → some_fault caps f WrongKind arguments k ≡ false → some_fault caps f HasPointer arguments k ≡ false → Gets caps f s arguments k
+  gets [] k u a b c d = record {
+    given = nothing_given s.caller;
+    is = refl;
+    small = omega arith;
+    targets = refl;
+    texts = tt;
+    caller = refl;
+    room_short = λ most e. absurd (none-some most e);
+    text_short = λ most e. absurd (none-some most e);
+  }
   gets (Number ∷ more) k u a b c d =
       let u1 = neither (has_fault caps f NotSet Number k) (some_fault caps f NotSet more (k + 1)) u in
       let two = neither (has_fault caps f WrongKind Number k) (some_fault caps f WrongKind more (k + 1)) c in
@@ -266,10 +308,10 @@ module _ (laws : SlotLaws) (ranges : RangesAreKnown) (caps : Caps) (sizes : AreC
 
   -- what a helper writes into its range
   room_at : (r : Region) (at room : ℕ) (target : Option (Region × ℕ)) (bytes : List ℕ) → HasRoom caps r at room target → length bytes ≤ room → AreBytes bytes → Wrote known s.memory r at room (typed_room s.memory target bytes)
-  room_at r at room None bytes place short b = no_room_written laws caps sizes known few s.memory (h.within).memory r at room bytes
+  room_at r at room None bytes place short b = no_room_written laws caps known few s.memory (h.within).memory r at room bytes
   room_at r at room (Some p) bytes place short b =
       subst (λ (q : Region × ℕ). Wrote known s.memory r at room (typed_room s.memory (Some q) bytes)) (sym (there_is p r at place.0 place.1))
-      (room_written laws caps sizes known few s.memory (h.within).memory (r, at) room bytes place.2 place.3 short b)
+      (room_written laws caps known few s.memory (h.within).memory (r, at) room bytes place.2 place.3 short b)
 
   overwritten : (o : Option ℕ) (room : ℕ) (target : Option (Region × ℕ)) (bytes : List ℕ) → Targets caps s o room target → length bytes ≤ room → AreBytes bytes → IsMemory known (typed_room s.memory target bytes) × Overwritten o s.regs (slot_values known s.memory.stack) (slot_values known (typed_room s.memory target bytes).stack)
   overwritten None room target bytes none short b =
@@ -289,41 +331,85 @@ may_write true false h = absurd (false≢true (sym h))
 may_write false c h = refl
 
 -- a call that was made
-pub record Made (known : ℕ) (caps : Caps) (helper : ℕ) (s : Typed) : Type 0 where
+pub record Made (rules : RuleSet) (known : ℕ) (caps : Caps) (f : PlainFrame) (helper : ℕ) (s : Typed) : Type 0 where
   pub to : Typed
   pub made : typed_help caps helper s ≡ Some to
   pub answer : ℕ
-  pub small : answer < 2 ^ 64
+  pub holds : numbers.Holds (answer_of rules f (Call helper)) answer
   pub regs : to.regs ≡ answered s.regs (values.Num answer)
   pub slots : Overwritten (room_of (Call helper)) s.regs (slot_values known s.memory.stack) (slot_values known to.memory.stack)
   pub within : IsWithin known to
 
--- a call that no rule refuses is made
-pub call_made : SlotLaws → RangesAreKnown → EffectsAreWithinLimits → (caps : Caps) → AreCapacities caps → (known : ℕ) → known ≤ 64 → (helper : ℕ) (f : PlainFrame) (s : Typed) → Holds known f s → not (is_some (signature_of helper)) ≡ false → call_fault caps f NotSet helper ≡ false → call_fault caps f OutOfRegion helper ≡ false → call_fault caps f ReadOnly helper ≡ false → call_fault caps f WrongKind helper ≡ false → call_fault caps f HasPointer helper ≡ false → (writes_object (signature_of helper) && not caps.writes) ≡ false → Made known caps helper s
-call_made slots ranges law caps sizes known few helper f s h is_known u a b c d w =
-    let sig = there (signature_of helper) is_known in
-    let takes = sig.0 in
-    let u' = sym (ap (taken_fault caps f NotSet) sig.1) ∙ u in
-    let a' = sym (ap (taken_fault caps f OutOfRegion) sig.1) ∙ a in
-    let b' = sym (ap (taken_fault caps f ReadOnly) sig.1) ∙ b in
-    let c' = sym (ap (taken_fault caps f WrongKind) sig.1) ∙ c in
-    let d' = sym (ap (taken_fault caps f HasPointer) sig.1) ∙ d in
-    let w' = sym (ap (λ o. writes_object o && not caps.writes) sig.1) ∙ w in
-    let g = gets slots ranges caps sizes known few f s h takes.arguments 1 u' a' b' c' d' in
-    let e = effect helper s.object (asked g.given) in
-    let l = law helper s.object (asked g.given) (h.within).object g.texts in
-    let client : g.given.caller < 2 ^ 32 = subst (λ n. n < 2 ^ 32) (sym g.caller) (h.within).client in
-    let t : Typed = record { slot = s.slot; regs = answered s.regs (values.Num e.answer); memory = typed_room s.memory g.given.target e.bytes; object = e.object; out_len = unwrap_or e.out_len s.out_len; caller = s.caller } in
-    let left = overwritten slots ranges caps sizes known few f s h (room_in takes.arguments 1) g.given.room g.given.target e.bytes g.targets l.short l.bytes in
-    record {
-      to = t;
-      made = one_more (signature_of helper) takes _ t sig.1 (cond-true _ _ _ (may_write takes.writes caps.writes w') ∙ one_more _ _ _ _ g.is refl);
-      answer = e.answer;
-      small = answer_small helper s.object (asked g.given) (h.within).object g.small client;
-      regs = refl;
-      slots = subst (λ (o : Option Takes). Overwritten (room_of_takes o) s.regs (slot_values known s.memory.stack) (slot_values known t.memory.stack)) (sym sig.1) left.1;
-      within = record { memory = left.0; object = l.object; client = (h.within).client };
-    }
+-- an answer is within a limit, where what is given is no longer than its registers may say
+within_limit : (f : PlainFrame) (arguments : List Argument) (g : Given) → IsShort f (room_in arguments 1) g.room → IsShort f (text_in arguments 1) (length (text (asked g) 0)) → (l : AnswerLimit) (most : ℕ) → most_of f arguments l ≡ Some most → limit_of (asked g) l ≤ most
+within_limit f arguments g room texts (limit.Number n) most e = omega (arith, same_Some n most e)
+within_limit f arguments g room texts limit.Room most e = room most e
+within_limit f arguments g room texts (limit.RoomOrNumber n) most e = at_most_both (longest f (room_in arguments 1)) room e
+  where
+    at_most_both : (o : Option ℕ) → ((k : ℕ) → o ≡ Some k → g.room ≤ k) → option_map (λ k. min k n) o ≡ Some most → min g.room n ≤ most
+    at_most_both None h e = absurd (none-some most e)
+    at_most_both (Some k) h e = let le = h k refl in omega (arith, le, same_Some (min k n) most e)
+within_limit f arguments g room texts limit.Text most e = texts most e
+
+module _ (laws : Laws) (rules : RuleSet) (caps : Caps) (known : ℕ) (few : known ≤ 64) (helper : ℕ) (f : PlainFrame) (s : Typed) (h : Holds known f s) where
+  -- what the helper does
+  abbrev done : Given → Effect
+  done g = effect helper s.object (asked g)
+
+  answer_holds : (takes : Takes) (g : Gets caps f s takes.arguments 1) → signature_of helper ≡ Some takes → numbers.Holds (answer_of rules f (Call helper)) (done g.given).answer
+  answer_holds takes g sig = by_set rules
+    where
+      client : g.given.caller < 2 ^ 32
+      client = subst (λ n. n < 2 ^ 32) (sym g.caller) (h.within).client
+
+      small : (done g.given).answer < 2 ^ 64
+      small = answer_small laws.answers helper s.object (asked g.given) (h.within).object g.small client
+
+      any_holds : numbers.Holds any (done g.given).answer
+      any_holds = laws.any (done g.given).answer small
+
+      in_range : (o : Option AnswerRange) → answer_range_of helper ≡ o → numbers.Holds (ranged_answer f (Some takes) o) (done g.given).answer
+      in_range None e = any_holds
+      in_range (Some r) e =
+          let range = laws.answers helper r s.object (asked g.given) e (h.within).object g.small in
+          let errno = errno_is_small helper r e in
+          answers_hold laws.any laws.tighten r.errno (most_of f takes.arguments r.most) (done g.given).answer errno small
+          (λ most is.
+          let le = within_limit f takes.arguments g.given g.room_short g.text_short r.most most is in
+          ⊎_elim (λ (below : (done g.given).answer ≤ limit_of (asked g.given) r.most). inl (omega (arith, below, le))) (λ (negative : 2 ^ 64 - r.errno ≤ (done g.given).answer). inr negative) range.side)
+
+      by_set : (rules : RuleSet) → numbers.Holds (helper_answer rules f helper) (done g.given).answer
+      by_set One = any_holds
+      by_set Two = any_holds
+      by_set Three =
+          subst (λ (o : Option Takes). numbers.Holds (ranged_answer f o (answer_range_of helper)) (done g.given).answer) (sym sig) (in_range (answer_range_of helper) refl)
+
+  -- a call that no rule refuses is made
+  pub call_made : not (is_some (takes_of rules helper)) ≡ false → call_fault rules caps f NotSet helper ≡ false → call_fault rules caps f OutOfRegion helper ≡ false → call_fault rules caps f ReadOnly helper ≡ false → call_fault rules caps f WrongKind helper ≡ false → call_fault rules caps f HasPointer helper ≡ false → (writes_object (takes_of rules helper) && not caps.writes) ≡ false → Made rules known caps f helper s
+  call_made is_known u a b c d w =
+      let known_sig = there (takes_of rules helper) is_known in
+      let takes = known_sig.0 in
+      let sig : signature_of helper ≡ Some takes = sym (takes_known rules helper is_known) ∙ known_sig.1 in
+      let u' = sym (ap (taken_fault caps f NotSet) known_sig.1) ∙ u in
+      let a' = sym (ap (taken_fault caps f OutOfRegion) known_sig.1) ∙ a in
+      let b' = sym (ap (taken_fault caps f ReadOnly) known_sig.1) ∙ b in
+      let c' = sym (ap (taken_fault caps f WrongKind) known_sig.1) ∙ c in
+      let d' = sym (ap (taken_fault caps f HasPointer) known_sig.1) ∙ d in
+      let w' = sym (ap (λ o. writes_object o && not caps.writes) known_sig.1) ∙ w in
+      let g = gets laws.slots laws.ranges caps known few f s h takes.arguments 1 u' a' b' c' d' in
+      let e = done g.given in
+      let l = laws.effects helper s.object (asked g.given) (h.within).object g.texts in
+      let t : Typed = record { slot = s.slot; regs = answered s.regs (values.Num e.answer); memory = typed_room s.memory g.given.target e.bytes; object = e.object; out_len = unwrap_or e.out_len s.out_len; caller = s.caller } in
+      let left = overwritten laws.slots laws.ranges caps known few f s h (room_in takes.arguments 1) g.given.room g.given.target e.bytes g.targets l.short l.bytes in
+      record {
+        to = t;
+        made = one_more (signature_of helper) takes _ t sig (cond-true _ _ _ (may_write takes.writes caps.writes w') ∙ one_more _ _ _ _ g.is refl);
+        answer = e.answer;
+        holds = answer_holds takes g sig;
+        regs = refl;
+        slots = subst (λ (o : Option Takes). Overwritten (room_of_takes o) s.regs (slot_values known s.memory.stack) (slot_values known t.memory.stack)) (sym sig) left.1;
+        within = record { memory = left.0; object = l.object; client = (h.within).client };
+      }
 
 -- the numbers of a register's kind fit
 pub fits_in : (xs : List PlainKind) (r : ℕ) → EachFits xs → KindFits (or_unset (slice_get xs r))

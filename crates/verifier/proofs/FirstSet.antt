@@ -7,11 +7,11 @@ use Rattle.std.proofs.lemmas.Option.{slice_get_within}
 use Rattle.bpf_decode.specs.Instruction.{byte_count, signed_byte_count, slots}
 use Rattle.bpf_decode.specs.declared.insn.Insn.{Insn}
 use Rattle.bpf_decode.specs.declared.insn.Insn.TheVariants.{Alu, Neg, Mov, MovSigned, End, LoadWide, Load, LoadSigned, Store, Jump, JumpLong, Branch, Call, CallLocal, Exit}
+use Rattle.bpf_decode.specs.declared.rule_set.RuleSet.{RuleSet}
 use Rattle.bpf_machine.specs.declared.caps.Caps.{Caps}
 use Rattle.bpf_machine.specs.Safe.{caps_of}
 use Rattle.bpf_machine.specs.Typed.{extended}
 use Rattle.helpers.specs.Effect.{Takes}
-use Rattle.helpers.specs.Table.{signature_of}
 use Rattle.helpers.specs.declared.argument.Argument.{Argument}
 use Rattle.helpers.specs.declared.argument.Argument.TheVariants.{Number, OutputLength, Readable, Writable}
 use Rattle.abstract_num.specs.Plain.{constant}
@@ -25,7 +25,7 @@ use Rattle.verifier.specs.declared.fault.Fault.TheVariants.{HasPointer}
 use Rattle.verifier.specs.declared.rule.Rule.TheVariants.{PointerBytes}
 use Rattle.verifier.specs.Frame.{entry, known_slots}
 use Rattle.verifier.specs.Kind.{range_leaves, stays}
-use Rattle.verifier.specs.Rules.{breaks, has_fault, load_meets, range_meets, reads_pointer, register_count, some_fault, taken_fault}
+use Rattle.verifier.specs.Rules.{breaks, has_fault, load_meets, range_meets, reads_pointer, register_count, some_fault, taken_fault, takes_of}
 use Rattle.verifier.specs.Verdict.{FirstSetHasFewerRules, frame_at, whole_table}
 use Rattle.verifier.proofs.Lengths.{long_at}
 use Rattle.verifier.proofs.Runs.{inner}
@@ -50,7 +50,7 @@ no_slots (x ∷ xs) h = absurd (omega (arith, h))
 meets_none : (content : Content) (span : Option Span) (j : ℕ) (xs : List PlainKind) → xs ≡ [] → meets content span j xs ≡ false
 meets_none content span j xs none = ap (meets content span j) none
 
-module _ (caps : Caps) (f : PlainFrame) (none : f.slots ≡ []) where
+module _ (rules : RuleSet) (caps : Caps) (f : PlainFrame) (none : f.slots ≡ []) where
   range_none : (content : Content) (x y : PlainKind) → range_meets content caps f x y ≡ false
   range_none content x y = first_false (meets content (stack_range x y) 0 f.slots) (not (range_leaves caps x y)) (meets_none content (stack_range x y) 0 f.slots none)
 
@@ -78,7 +78,7 @@ module _ (caps : Caps) (f : PlainFrame) (none : f.slots ≡ []) where
   load_reads_none x at w =
       both_false (not (is_some (kept_kind f x at w)) && load_meets Pointer caps f x at w) false (second_false (not (is_some (kept_kind f x at w))) (load_meets Pointer caps f x at w) (load_none Pointer x at w)) refl
 
-  reads_none : (i : Insn) → reads_pointer caps f i ≡ false
+  reads_none : (i : Insn) → reads_pointer rules caps f i ≡ false
   reads_none (Alu bits operation dst source) = refl
   reads_none (Neg bits dst) = refl
   reads_none (Mov bits dst source) = refl
@@ -91,13 +91,13 @@ module _ (caps : Caps) (f : PlainFrame) (none : f.slots ≡ []) where
   reads_none (Jump offset) = refl
   reads_none (JumpLong distance) = refl
   reads_none (Branch bits comparison dst source offset) = refl
-  reads_none (Call helper) = none_taken (signature_of helper)
+  reads_none (Call helper) = none_taken (takes_of rules helper)
   reads_none (CallLocal distance) = refl
   reads_none Exit = refl
 
-breaks_none : (caps : Caps) (code : List (Option Insn)) (p : ℕ) (i : Insn) (o : Option PlainFrame) → ((g : PlainFrame) → o ≡ Some g → length g.slots ≡ 0) → breaks caps code p i o PointerBytes ≡ false
-breaks_none caps code p i None few = refl
-breaks_none caps code p i (Some f) few = reads_none caps f (no_slots f.slots (few f refl)) i
+breaks_none : (rules : RuleSet) (caps : Caps) (code : List (Option Insn)) (p : ℕ) (i : Insn) (o : Option PlainFrame) → ((g : PlainFrame) → o ≡ Some g → length g.slots ≡ 0) → breaks rules caps code p i o PointerBytes ≡ false
+breaks_none rules caps code p i None few = refl
+breaks_none rules caps code p i (Some f) few = reads_none rules caps f (no_slots f.slots (few f refl)) i
 
 pub fewer_rules : FlowsKeepSlots → JoinsKeepSlots → FirstSetHasFewerRules
 fewer_rules flows joins c r one verdict same =
@@ -106,5 +106,5 @@ fewer_rules flows joins c r one verdict same =
     let code = slots d.method.instructions in
     let first : length (entry c.rules caps).slots ≡ 0 = length-replicate (known_slots c.rules) (Num (constant 0)) ∙ ap known_slots one in
     let inside : r.slot < length code = slice_get_within code r.slot (Some d.refuses.insn) (inner _ _ d.refuses.there) in
-    let refused = subst (λ rule. breaks caps code r.slot d.refuses.insn (frame_at (whole_table c.rules caps code) r.slot) rule ≡ true) same d.refuses.refused in
-    false≢true (sym (breaks_none caps code r.slot d.refuses.insn (frame_at (whole_table c.rules caps code) r.slot) (λ g e. long_at flows joins 0 c.rules caps code first r.slot inside g e)) ∙ refused)
+    let refused = subst (λ rule. breaks c.rules caps code r.slot d.refuses.insn (frame_at (whole_table c.rules caps code) r.slot) rule ≡ true) same d.refuses.refused in
+    false≢true (sym (breaks_none c.rules caps code r.slot d.refuses.insn (frame_at (whole_table c.rules caps code) r.slot) (λ g e. long_at flows joins 0 c.rules caps code first r.slot inside g e)) ∙ refused)

@@ -15,11 +15,12 @@ use Rattle.bpf_machine.specs.Typed.{fetch}
 use Rattle.verifier.specs.declared.rule.Rule.{Rule}
 use Rattle.abstract_regs.specs.Frame.{PlainFrame, kind_at, with_kind, join, after_call, after_store, operand_kind, HoldsEach}
 use Rattle.abstract_regs.specs.Flow.{target, edge_to, computed, along_edge, flow}
-use Rattle.abstract_num.specs.Plain.{constant}
+use Rattle.abstract_num.specs.Plain.{Plain, constant}
 use Rattle.abstract_regs.specs.Kind.{PlainKind, Num}
 use Rattle.abstract_regs.specs.Moves.{Among}
 use Rattle.abstract_regs.specs.Laws.{JoinsHold}
 use Rattle.verifier.specs.Rules.{begins_at, rule_at, room_of}
+use Rattle.verifier.specs.Answers.{answer_of}
 use Rattle.verifier.specs.Verdict.{Table, frame_at, joined, met, along, unless_refused, flow_from, incoming, whole_table}
 use Rattle.verifier.proofs.Passed.{Passed}
 use Rattle.verifier.proofs.Holding.{not_false}
@@ -80,13 +81,13 @@ module _ (law : JoinsHold) (rules : RuleSet) (caps : Caps) (code : List (Option 
   unless_keeps None flown inflow cs vs a b = a
   unless_keeps (Some rule) flown inflow cs vs a b = b
 
-  flow_keeps : (p q : ℕ) (o : Option Insn) (frame inflow : Option PlainFrame) (cs vs : List (Option Value)) → Meets inflow cs vs → Meets (flow_from caps code p q o frame inflow) cs vs
+  flow_keeps : (p q : ℕ) (o : Option Insn) (frame inflow : Option PlainFrame) (cs vs : List (Option Value)) → Meets inflow cs vs → Meets (flow_from rules caps code p q o frame inflow) cs vs
   flow_keeps p q None frame inflow cs vs h = h
   flow_keeps p q (Some i) None inflow cs vs h = h
-  flow_keeps p q (Some i) (Some f) inflow cs vs h = unless_keeps (rule_at caps code p i (Some f)) (along (flow (room_of i) i p f) q inflow) inflow cs vs (along_keeps law (flow (room_of i) i p f) q inflow cs vs h) h
+  flow_keeps p q (Some i) (Some f) inflow cs vs h = unless_keeps (rule_at rules caps code p i (Some f)) (along (flow (room_of i) (answer_of rules f i) i p f) q inflow) inflow cs vs (along_keeps law (flow (room_of i) (answer_of rules f i) i p f) q inflow cs vs h) h
 
   -- the flow from slot p is in what the slots below n bring to q, where p is below n
-  flowed : (table : Table) (p q : ℕ) (i : Insn) (f g : PlainFrame) (cs vs : List (Option Value)) → fetch code p ≡ Some i → frame_at table p ≡ Some f → rule_at caps code p i (Some f) ≡ None → Both g cs vs → Among q g (flow (room_of i) i p f) → (n : ℕ) → p < n → Meets (incoming rules caps code table q n) cs vs
+  flowed : (table : Table) (p q : ℕ) (i : Insn) (f g : PlainFrame) (cs vs : List (Option Value)) → fetch code p ≡ Some i → frame_at table p ≡ Some f → rule_at rules caps code p i (Some f) ≡ None → Both g cs vs → Among q g (flow (room_of i) (answer_of rules f i) i p f) → (n : ℕ) → p < n → Meets (incoming rules caps code table q n) cs vs
   flowed table p q i f g cs vs at is none h to zero lt = absurd (omega arith)
   flowed table p q i f g cs vs at is none h to (suc n) lt =
       ⊎_elim (λ less. flow_keeps n q (fetch code n) (frame_at table n) (incoming rules caps code table q n) cs vs (flowed table p q i f g cs vs at is none h to n less))
@@ -95,16 +96,16 @@ module _ (law : JoinsHold) (rules : RuleSet) (caps : Caps) (code : List (Option 
       here : Meets (incoming rules caps code table q (suc p)) cs vs
       here =
           let inflow = incoming rules caps code table q p in
-          subst (λ o. Meets o cs vs) (sym (ap (λ o. flow_from caps code p q o (frame_at table p) inflow) at
-          ∙ ap (λ f. flow_from caps code p q (Some i) f inflow) is
-          ∙ ap (λ r. unless_refused r (along (flow (room_of i) i p f) q inflow) inflow) none)) (along_meets law (flow (room_of i) i p f) q g inflow cs vs h to)
+          subst (λ o. Meets o cs vs) (sym (ap (λ o. flow_from rules caps code p q o (frame_at table p) inflow) at
+          ∙ ap (λ f. flow_from rules caps code p q (Some i) f inflow) is
+          ∙ ap (λ r. unless_refused r (along (flow (room_of i) (answer_of rules f i) i p f) q inflow) inflow) none)) (along_meets law (flow (room_of i) (answer_of rules f i) i p f) q g inflow cs vs h to)
 
   -- so the frame at the slot is true of what the flow is true of
-  pub arrives : (p q : ℕ) (i : Insn) (f g : PlainFrame) (cs vs : List (Option Value)) → fetch code p ≡ Some i → frame_at (whole_table rules caps code) p ≡ Some f → rule_at caps code p i (Some f) ≡ None → Both g cs vs → Among q g (flow (room_of i) i p f) → p < q → q < length code → Meets (frame_at (whole_table rules caps code) q) cs vs
+  pub arrives : (p q : ℕ) (i : Insn) (f g : PlainFrame) (cs vs : List (Option Value)) → fetch code p ≡ Some i → frame_at (whole_table rules caps code) p ≡ Some f → rule_at rules caps code p i (Some f) ≡ None → Both g cs vs → Among q g (flow (room_of i) (answer_of rules f i) i p f) → p < q → q < length code → Meets (frame_at (whole_table rules caps code) q) cs vs
   arrives p q i f g cs vs at is none h to lt inside =
       subst (λ o. Meets o cs vs) (sym (whole_at rules caps code q inside)) (flowed (whole_table rules caps code) p q i f g cs vs at is none h to q lt)
 
-module _ (caps : Caps) (code : List (Option Insn)) where
+module _ (rules : RuleSet) (caps : Caps) (code : List (Option Insn)) where
   -- an edge goes forward, to an instruction
   pub record Edge (p q : ℕ) : Type 0 where
     pub forward : p < q
@@ -146,22 +147,22 @@ module _ (caps : Caps) (code : List (Option Insn)) where
   either q a b g None y e = inr (only q b g y e)
   either q a b g (Some h) y e = ⊎_elim (λ (here : (q ≡ a) × (g ≡ h)). inl here.0) (λ (later : Among q g (edge_to b y)). inr (only q b g y later)) e
 
-  pub edge : (p q : ℕ) (i : Insn) (f g : PlainFrame) → p < 2 ^ 62 → Fits i → Passed caps code p i f → Among q g (flow (room_of i) i p f) → Edge p q
-  edge p q (Alu bits operation d x) f g small fit ok e = next_computed p q (p + 1) g f d _ (omega arith) (not_false _ ok.falls) e
-  edge p q (Neg bits d) f g small fit ok e = next_computed p q (p + 1) g f d _ (omega arith) (not_false _ ok.falls) e
-  edge p q (Mov bits d x) f g small fit ok e = next_computed p q (p + 1) g f d _ (omega arith) (not_false _ ok.falls) e
-  edge p q (MovSigned extension d src) f g small fit ok e = next_computed p q (p + 1) g f d _ (omega arith) (not_false _ ok.falls) e
-  edge p q (End order width d) f g small fit ok e = next_computed p q (p + 1) g f d _ (omega arith) (not_false _ ok.falls) e
-  edge p q (LoadWide d value) f g small fit ok e = next_computed p q (p + 2) g f d (Some (Num (constant value))) (omega arith) (not_false _ ok.falls) e
-  edge p q (Load width d from offset) f g small fit ok e = next_computed p q (p + 1) g f d _ (omega arith) (not_false _ ok.falls) e
-  edge p q (LoadSigned width d from offset) f g small fit ok e = next_computed p q (p + 1) g f d _ (omega arith) (not_false _ ok.falls) e
-  edge p q (Store width to offset x) f g small fit ok e = next p q (p + 1) g (Some (after_store f (kind_at f to) (extended offset) (byte_count width) (operand_kind f x))) (omega arith) (not_false _ ok.falls) e
-  edge p q (Call helper) f g small fit ok e = next p q (p + 1) g (Some (after_call (room_of (Call helper)) f)) (omega arith) (not_false _ ok.falls) e
-  edge p q (Jump offset) f g small fit ok e = jump p q offset g _ small (near16 offset fit) ok.backward (not_false _ ok.target) e
-  edge p q (JumpLong distance) f g small fit ok e = jump p q distance g _ small fit.sfits ok.backward (not_false _ ok.target) e
-  edge p q (Branch bits comparison d x offset) f g small fit ok e = ⊎_elim
+  pub edge : (p q : ℕ) (answer : Plain) (i : Insn) (f g : PlainFrame) → p < 2 ^ 62 → Fits i → Passed rules caps code p i f → Among q g (flow (room_of i) answer i p f) → Edge p q
+  edge p q answer (Alu bits operation d x) f g small fit ok e = next_computed p q (p + 1) g f d _ (omega arith) (not_false _ ok.falls) e
+  edge p q answer (Neg bits d) f g small fit ok e = next_computed p q (p + 1) g f d _ (omega arith) (not_false _ ok.falls) e
+  edge p q answer (Mov bits d x) f g small fit ok e = next_computed p q (p + 1) g f d _ (omega arith) (not_false _ ok.falls) e
+  edge p q answer (MovSigned extension d src) f g small fit ok e = next_computed p q (p + 1) g f d _ (omega arith) (not_false _ ok.falls) e
+  edge p q answer (End order width d) f g small fit ok e = next_computed p q (p + 1) g f d _ (omega arith) (not_false _ ok.falls) e
+  edge p q answer (LoadWide d value) f g small fit ok e = next_computed p q (p + 2) g f d (Some (Num (constant value))) (omega arith) (not_false _ ok.falls) e
+  edge p q answer (Load width d from offset) f g small fit ok e = next_computed p q (p + 1) g f d _ (omega arith) (not_false _ ok.falls) e
+  edge p q answer (LoadSigned width d from offset) f g small fit ok e = next_computed p q (p + 1) g f d _ (omega arith) (not_false _ ok.falls) e
+  edge p q answer (Store width to offset x) f g small fit ok e = next p q (p + 1) g (Some (after_store f (kind_at f to) (extended offset) (byte_count width) (operand_kind f x))) (omega arith) (not_false _ ok.falls) e
+  edge p q answer (Call helper) f g small fit ok e = next p q (p + 1) g (Some (after_call (room_of (Call helper)) answer f)) (omega arith) (not_false _ ok.falls) e
+  edge p q answer (Jump offset) f g small fit ok e = jump p q offset g _ small (near16 offset fit) ok.backward (not_false _ ok.target) e
+  edge p q answer (JumpLong distance) f g small fit ok e = jump p q distance g _ small fit.sfits ok.backward (not_false _ ok.target) e
+  edge p q answer (Branch bits comparison d x offset) f g small fit ok e = ⊎_elim
       (λ (taken : q ≡ target p offset). subst (Edge p) (sym taken) (forward p offset small (near16 offset fit.1) ok.backward (not_false _ ok.target)))
       (λ (fallen : q ≡ p + 1). subst (Edge p) (sym fallen) (edge_at p (p + 1) (omega arith) (not_false _ ok.falls)))
       (either q (target p offset) (p + 1) g (along_edge bits comparison true d x f) (along_edge bits comparison false d x f) e)
-  edge p q (CallLocal distance) f g small fit ok e = absurd e
-  edge p q Exit f g small fit ok e = absurd e
+  edge p q answer (CallLocal distance) f g small fit ok e = absurd e
+  edge p q answer Exit f g small fit ok e = absurd e

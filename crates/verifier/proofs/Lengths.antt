@@ -14,6 +14,7 @@ use Rattle.abstract_regs.specs.Moves.{Among}
 use Rattle.abstract_regs.specs.Laws.{FlowsKeepSlots, JoinsKeepSlots}
 use Rattle.verifier.specs.Frame.{entry}
 use Rattle.verifier.specs.Rules.{rule_at, room_of}
+use Rattle.verifier.specs.Answers.{answer_of}
 use Rattle.verifier.specs.Verdict.{Table, frame_at, joined, met, along, unless_refused, flow_from, start, incoming, whole_table}
 use Rattle.verifier.proofs.Tables.{whole_at}
 
@@ -42,12 +43,12 @@ module _ (flows : FlowsKeepSlots) (joins : JoinsKeepSlots) (known : ℕ) where
   unless_long (Some rule) flown inflow a b = b
 
   module _ (rules : RuleSet) (caps : Caps) (code : List (Option Insn)) (first : length (entry rules caps).slots ≡ known) where
-    flow_long : (p q : ℕ) (o : Option Insn) (frame inflow : Option PlainFrame) → IsLong known frame → IsLong known inflow → IsLong known (flow_from caps code p q o frame inflow)
+    flow_long : (p q : ℕ) (o : Option Insn) (frame inflow : Option PlainFrame) → IsLong known frame → IsLong known inflow → IsLong known (flow_from rules caps code p q o frame inflow)
     flow_long p q None frame inflow f h = h
     flow_long p q (Some i) None inflow f h = h
     flow_long p q (Some i) (Some g) inflow f h =
-        unless_long (rule_at caps code p i (Some g)) (along (flow (room_of i) i p g) q inflow) inflow
-        (along_long (flow (room_of i) i p g) q inflow h (λ a k e. flows (room_of i) i p a g k e ∙ f g refl)) h
+        unless_long (rule_at rules caps code p i (Some g)) (along (flow (room_of i) (answer_of rules g i) i p g) q inflow) inflow
+        (along_long (flow (room_of i) (answer_of rules g i) i p g) q inflow h (λ a k e. flows (room_of i) (answer_of rules g i) i p a g k e ∙ f g refl)) h
 
     start_long : (q : ℕ) → IsLong known (start rules caps q)
     start_long zero g e = subst (λ (f : PlainFrame). length f.slots ≡ known) (same_Some (entry rules caps) g e) first

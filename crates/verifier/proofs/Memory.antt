@@ -3,25 +3,25 @@
 use Rattle.std.proofs.Common.{◌≡◌, ◌⊎◌, inl, inr, ℕ, zero, suc, ◌+◌, ◌*◌, ◌/◌, ◌%◌, ◌^◌, ◌<◌, ◌≤◌, List, Option, Some, None, Bool, true, refl, ap, ◌∙◌, sym, subst, arith, length, take, drop, length-take, drop-drop, replicate, ◌∷◌}
 use Rattle.std.specs.Prelude.{slice_get}
 use Rattle.std.proofs.lemmas.Bool.{cases_lt, eq-eqb}
-use Rattle.std.proofs.lemmas.List.{length-drop}
 use Rattle.std.proofs.lemmas.Option.{slice_get_past, same_Some}
 use Rattle.bpf_decode.specs.declared.region.Region.{Region}
 use Rattle.bpf_decode.specs.declared.region.Region.TheVariants.{Input, Output, Stack}
 use Rattle.bpf_decode.specs.declared.value.Value.{Value}
 use Rattle.bpf_decode.specs.declared.value.Value.TheVariants.{Num, Ptr}
-use Rattle.object_store.specs.declared.limits.TheConstants.{VALUE_LIMIT}
-use Rattle.object_store.specs.Object.{AreBytes, IsValue, part}
+use Rattle.object_store.specs.Object.{AreBytes, part}
 use Rattle.bpf_machine.specs.declared.caps.Caps.{Caps}
-use Rattle.bpf_machine.specs.State.{only, le_value, le_bytes, AreCapacities, size}
+use Rattle.bpf_machine.specs.State.{only, le_value, le_bytes, size}
 use Rattle.bpf_machine.specs.Typed.{Cell, TypedMemory, as_cells, parts_of, place_of, plain_bytes, is_slot, number_or, value_of, cells_at, over, put_bytes, stored, typed_room}
 use Rattle.bpf_machine.specs.Slots as machine
 use Rattle.bpf_machine.specs.declared.limits.TheConstants.{STACK_SIZE}
 use Rattle.bpf_machine.specs.Slots.{IsStack, slot_of, slot_value, slot_values, Touches, SlotsHaveValues, SlotsBeginAtZero, NumbersAreRead, LeavesNumbers, BytesAreWritten, PlacesAreWritten, NumbersAreTheirBytes}
 use Rattle.abstract_regs.specs.Moves.{flat_option, value_at, Reached, IsNumber, IsSlot, Loads, Stores, Overwrites, LoadIsKnown}
 use Rattle.abstract_regs.specs.Laws.{JoinsHold, EntryHolds, AccessesFit, FlowsKeepSlots, JoinsKeepSlots, SlotsAreKnown, LoadsAreKnown, RangesAreKnown}
+use Rattle.abstract_num.specs.Keeping.{AnyHolds, TightenKeeps}
 use Rattle.helpers.specs.Laws.{EffectsAreWithinLimits}
+use Rattle.helpers.specs.Ranges.{AnswersAreInRange}
 use Rattle.verifier.specs.Frame.{IsMemory}
-use Rattle.verifier.proofs.Bytes.{bytes_take, bytes_drop, bytes_of_number, le_value_below, value_in, written_is, as_plain}
+use Rattle.verifier.proofs.Bytes.{bytes_take, bytes_drop, bytes_of_number, le_value_below, value_in, bytes_written, as_plain}
 
 -- the laws of the stack's slots
 pub record SlotLaws : Type 0 where
@@ -44,6 +44,9 @@ pub record Laws : Type 0 where
   pub ranges : RangesAreKnown
   pub slots : SlotLaws
   pub effects : EffectsAreWithinLimits
+  pub answers : AnswersAreInRange
+  pub any : AnyHolds
+  pub tighten : TightenKeeps
 
 pub length-values : (n : ℕ) (cs : List Cell) → length (slot_values n cs) ≡ n
 length-values zero cs = refl
@@ -68,11 +71,6 @@ as_number : (v : Value) → IsNumber (Some v) → (n : ℕ) × (v ≡ Num n) × 
 as_number (Num n) h = (n, refl, h)
 as_number (Ptr r at) h = absurd h
 
-pub size_short : (caps : Caps) → AreCapacities caps → (r : Region) → size caps r ≤ VALUE_LIMIT
-size_short caps a Input = let h = a.input in omega (arith, h)
-size_short caps a Output = let h = a.output in omega (arith, h)
-size_short caps a Stack = omega arith
-
 abbrev pub placed : Region → ℕ → Region × ℕ
 placed r at = (r, at)
 
@@ -95,7 +93,8 @@ pub record ReadsBytes (m : TypedMemory) (r : Region) (at w : ℕ) : Type 0 where
   pub bytes : List ℕ
   pub are : plain_bytes (cells_at m r at w) ≡ Some bytes
   pub number : le_value bytes < 256 ^ w
-  pub value : IsValue bytes
+  pub small : AreBytes bytes
+  pub short : length bytes ≤ w
 
 -- a load's value
 pub record Loaded (n : ℕ) (m : TypedMemory) (p : Region × ℕ) (w : ℕ) : Type 0 where
@@ -122,7 +121,7 @@ pub record Wrote (n : ℕ) (m : TypedMemory) (r : Region) (at count : ℕ) (to :
   pub memory : IsMemory n to
   pub overwrites : Overwrites (slot_values n m.stack) r at count (slot_values n to.stack)
 
-module _ (laws : SlotLaws) (caps : Caps) (sizes : AreCapacities caps) (n : ℕ) (few : n ≤ 64) (m : TypedMemory) (mem : IsMemory n m) where
+module _ (laws : SlotLaws) (caps : Caps) (n : ℕ) (few : n ≤ 64) (m : TypedMemory) (mem : IsMemory n m) where
   -- the values of the slots of which something may be known
   abbrev known : List (Option Value)
   known = slot_values n m.stack
@@ -150,22 +149,20 @@ module _ (laws : SlotLaws) (caps : Caps) (sizes : AreCapacities caps) (n : ℕ) 
 
   -- ---- loads, and ranges that are read
 
-  part_value : (xs : List ℕ) (at w : ℕ) → IsValue xs → IsValue (part xs at w)
-  part_value xs at w h =
-      (omega (arith, h.0, length-take w (drop at xs), length-drop at xs), bytes_take w _ (bytes_drop at xs h.1))
-
   pub reads_bytes : (r : Region) (at w : ℕ) → at + w ≤ size caps r → AreNumbersReached r at w → ReadsBytes m r at w
   reads_bytes Input at w inside numbers = record {
     bytes = part m.input at w;
     are = as_plain (part m.input at w);
-    number = value_in w _ (bytes_drop at m.input (mem.input).1);
-    value = part_value m.input at w mem.input;
+    number = value_in w _ (bytes_drop at m.input mem.input);
+    small = bytes_take w _ (bytes_drop at m.input mem.input);
+    short = omega (arith, length-take w (drop at m.input));
   }
   reads_bytes Output at w inside numbers = record {
     bytes = part m.output at w;
     are = as_plain (part m.output at w);
-    number = value_in w _ (bytes_drop at m.output (mem.output).1);
-    value = part_value m.output at w mem.output;
+    number = value_in w _ (bytes_drop at m.output mem.output);
+    small = bytes_take w _ (bytes_drop at m.output mem.output);
+    short = omega (arith, length-take w (drop at m.output));
   }
   reads_bytes Stack at w inside numbers =
       let are = laws.read 64 m.stack mem.stack at w inside (touched at w numbers) in
@@ -173,7 +170,8 @@ module _ (laws : SlotLaws) (caps : Caps) (sizes : AreCapacities caps) (n : ℕ) 
         bytes = are.bytes;
         are = are.are;
         number = subst (λ (k : ℕ). le_value are.bytes < 256 ^ k) are.count (le_value_below are.bytes are.small);
-        value = (omega (arith, are.count, inside), are.small);
+        small = are.small;
+        short = omega (arith, are.count);
       }
 
   -- bytes at a slot are its value
@@ -220,7 +218,7 @@ module _ (laws : SlotLaws) (caps : Caps) (sizes : AreCapacities caps) (n : ℕ) 
 
   pub puts_bytes : (r : Region) (at : ℕ) (bytes : List ℕ) → at + length bytes ≤ size caps r → AreBytes bytes → PutsBytes n m r at bytes
   puts_bytes Input at bytes inside small = record {
-    memory = record { input = written_is m.input at bytes mem.input small (omega (arith, inside, size_short caps sizes Input)); output = mem.output; stack = mem.stack; rest = mem.rest };
+    memory = record { input = bytes_written m.input at bytes mem.input small; output = mem.output; stack = mem.stack; rest = mem.rest };
     others = λ j out. refl;
     numbers = λ j is. is;
     whole = λ j s. absurd (not_stack_input s.region);
@@ -229,7 +227,7 @@ module _ (laws : SlotLaws) (caps : Caps) (sizes : AreCapacities caps) (n : ℕ) 
       not_stack_input : Input ≡ Stack → ⊥
       not_stack_input e = cc
   puts_bytes Output at bytes inside small = record {
-    memory = record { input = mem.input; output = written_is m.output at bytes mem.output small (omega (arith, inside, size_short caps sizes Output)); stack = mem.stack; rest = mem.rest };
+    memory = record { input = mem.input; output = bytes_written m.output at bytes mem.output small; stack = mem.stack; rest = mem.rest };
     others = λ j out. refl;
     numbers = λ j is. is;
     whole = λ j s. absurd (not_stack_output s.region);
@@ -361,7 +359,7 @@ module _ (laws : SlotLaws) where
   pub zeros_known : (n : ℕ) → n ≤ 64 → slot_values n zeros ≡ replicate n (Some (Num 0))
   zeros_known n few = zero_values n zeros (λ j lt. zero_slot j (omega (arith, few, lt)))
 
-  pub begins_within : (n : ℕ) (m : TypedMemory) → IsValue m.input → IsValue m.output → m.stack ≡ zeros → IsMemory n m
+  pub begins_within : (n : ℕ) (m : TypedMemory) → AreBytes m.input → AreBytes m.output → m.stack ≡ zeros → IsMemory n m
   begins_within n m input output stack = record {
     input = input;
     output = output;

@@ -1,116 +1,119 @@
--- What a helper answers is a number of 64 bits.
-use Rattle.std.proofs.Common.{ℕ, ◌+◌, ◌^◌, ◌<◌, List, Option, Some, None, Bool, true, false, arith, length, drop, length-take}
-use Rattle.std.specs.Prelude.{◌==◌, not, nat_lt, if◌then◌else◌}
-use Rattle.std.specs.FinMap as fin
-use Rattle.shared_map.specs.Entries.{key_above}
-use Rattle.std.proofs.lemmas.Bool.{cond_both, ltb-false}
-use Rattle.object_store.specs.declared.limits.TheConstants.{DATA_LIMIT, NAME_LIMIT, XATTR_LIMIT, KEY_LIMIT}
-use Rattle.object_store.specs.Object.{Content, PlainObject, IsObject, content_of, part}
-use Rattle.object_store.specs.Calls.{is_named}
+-- What a helper answers is a number of 64 bits, which the number of its call holds.
+use Rattle.std.proofs.Common.{◌≡◌, ℕ, ℤ, pos, ◌-◌, ◌^◌, ◌<◌, ◌≤◌, ◌⊎◌, inl, inr, Option, Some, None, refl, subst, sym, arith}
+use Rattle.std.specs.Prelude.{◌-ℤ◌, ◌≤ℤ◌, nat_lt, unwrap_or}
+use Rattle.std.specs.Option.{option_and_then}
+use Rattle.std.proofs.lemmas.Bool.{cond_both, ltb-true}
+use Rattle.std.proofs.lemmas.Int.{ints}
+use Rattle.std.proofs.lemmas.Option.{none-some}
+use Rattle.abstract_num.specs.Signed.{signed}
+use Rattle.abstract_num.specs.Plain.{Plain, Holds, any}
+use Rattle.abstract_num.specs.Tighten.{tighten}
+use Rattle.abstract_num.specs.Transfer.{signed_ranged}
+use Rattle.abstract_num.specs.Keeping.{HeldIn, AnyHolds, TightenKeeps}
+use Rattle.object_store.specs.Object.{PlainObject, IsObject}
 use Rattle.helpers.specs.declared.helper.Helper.{Helper}
-use Rattle.helpers.specs.declared.helper.Helper.TheVariants.{Stat, Read, Write, Truncate, Remove, GetXattr, SetXattr, RmXattr, MapGet, MapSet, MapRm, MapNext, OutLen, Create, Caller}
-use Rattle.helpers.specs.Effect.{Given, number, text, Answer, where_present, Effect, is_full}
-use Rattle.helpers.specs.Table.{found_answer, write_effect, truncate_effect, remove_effect, setxattr_effect, rmxattr_effect, map_set_effect, map_rm_effect, create_effect, effect_of, effect, helper_of, getxattr_answer, map_get_answer, map_next_answer, stat_answer, read_answer}
+use Rattle.helpers.specs.declared.helper.Helper.TheVariants.{Stat, Read, Write, Truncate, Remove, GetXattr, SetXattr, RmXattr, MapGet, MapSet, MapRm, MapNext, OutLen, Create, Caller, Compare, Copy, XattrNext}
+use Rattle.helpers.specs.declared.answer_ranges.AnswerRange.{AnswerRange}
+use Rattle.helpers.specs.Effect.{Given}
+use Rattle.helpers.specs.Table.{effect_of, effect, helper_of, stat_answer}
+use Rattle.helpers.specs.Ranges.{range_row, answer_range_of, AnswersAreInRange}
+use Rattle.verifier.specs.Answers.{answers_to}
 
-abbrev IsSmall : Answer → Type 0
-IsSmall a = a.number < 2 ^ 64
+-- ---- an error is a small number
 
-abbrev HasSmall : Effect → Type 0
-HasSmall e = e.answer < 2 ^ 64
+abbrev HasSmallError : Option AnswerRange → Type 0
+HasSmallError None = Unit {0}
+HasSmallError (Some r) = r.errno < 2 ^ 63
 
-found_small : (o : Option (List ℕ)) (room : ℕ) → room < 2 ^ 64 → IsSmall (found_answer o room)
-found_small None room h = omega arith
-found_small (Some bytes) room h =
-    cond_both (nat_lt room (length bytes)) _ _ IsSmall (λ _. omega arith) (λ e. let le = ltb-false room (length bytes) e in omega (arith, le, h))
+small_row : (h : Helper) → HasSmallError (range_row h)
+small_row Stat = tt
+small_row Read = omega arith
+small_row Write = omega arith
+small_row Truncate = omega arith
+small_row Remove = omega arith
+small_row GetXattr = omega arith
+small_row SetXattr = omega arith
+small_row RmXattr = omega arith
+small_row MapGet = omega arith
+small_row MapSet = omega arith
+small_row MapRm = omega arith
+small_row MapNext = omega arith
+small_row OutLen = omega arith
+small_row Create = omega arith
+small_row Caller = tt
+small_row Compare = omega arith
+small_row Copy = omega arith
+small_row XattrNext = omega arith
 
-part_small : (bytes : List ℕ) (at n : ℕ) → n < 2 ^ 64 → length (part bytes at n) < 2 ^ 64
-part_small bytes at n h = omega (arith, h, length-take n (drop at bytes))
+small_errors : (o : Option Helper) → HasSmallError (option_and_then range_row o)
+small_errors None = tt
+small_errors (Some h) = small_row h
 
-stat_small : (object : PlainObject) → IsObject object → IsSmall (stat_answer object)
+pub errno_is_small : (id : ℕ) (r : AnswerRange) → answer_range_of id ≡ Some r → r.errno < 2 ^ 63
+errno_is_small id r e = subst HasSmallError e (small_errors (helper_of id))
+
+-- ---- an answer is a number of 64 bits
+
+stat_small : (object : PlainObject) → IsObject object → (stat_answer object).number < 2 ^ 64
 stat_small None h = omega arith
 stat_small (Some o) h = let le = h.length in omega (arith, le)
 
-read_small : (object : PlainObject) (at room : ℕ) → room < 2 ^ 64 → IsSmall (read_answer object at room)
-read_small None at room h = omega arith
-read_small (Some o) at room h = part_small o.bytes at room h
+-- that of a helper of no range
+plain_small : (h : Option Helper) (object : PlainObject) (g : Given) → option_and_then range_row h ≡ None → IsObject object → g.caller < 2 ^ 32 → (effect_of h object g).answer < 2 ^ 64
+plain_small None object g e o caller = omega arith
+plain_small (Some Stat) object g e o caller = stat_small object o
+plain_small (Some Caller) object g e o caller = omega (arith, caller)
+plain_small (Some other) object g e o caller = absurd (none-some _ (sym e))
 
--- what is looked up of an object, if it is there
-sought_small : (object : PlainObject) (sought : Content → Option (List ℕ)) (room : ℕ) → room < 2 ^ 64 → IsSmall (where_present object (λ o. found_answer (sought o) room))
-sought_small None sought room h = omega arith
-sought_small (Some o) sought room h = found_small (sought o) room h
+module _ (law : AnswersAreInRange) (id : ℕ) (object : PlainObject) (g : Given) (within : IsObject object) (room : g.room < 2 ^ 64) (caller : g.caller < 2 ^ 32) where
+  by_range : (o : Option AnswerRange) → answer_range_of id ≡ o → (effect id object g).answer < 2 ^ 64
+  by_range None e = plain_small (helper_of id) object g e within caller
+  by_range (Some r) e = let range = law id r object g e within room in range.fits
 
-either : (b : Bool) (a c : Answer) → IsSmall a → IsSmall c → IsSmall (if b then a else c)
-either true a c h k = h
-either false a c h k = k
+  pub answer_small : (effect id object g).answer < 2 ^ 64
+  answer_small = by_range (answer_range_of id) refl
 
-either_effect : (b : Bool) (a c : Effect) → HasSmall a → HasSmall c → HasSmall (if b then a else c)
-either_effect true a c h k = h
-either_effect false a c h k = k
+-- ---- and the number of its call holds it
 
-write_small : (object : PlainObject) (at : ℕ) (bytes : List ℕ) → HasSmall (write_effect object at bytes)
-write_small object at bytes =
-    cond_both (nat_lt DATA_LIMIT (at + length bytes)) _ _ HasSmall (λ _. omega arith) (λ e. let le = ltb-false DATA_LIMIT (at + length bytes) e in omega (arith, le))
+tightened : (o : Option Plain) (n : ℕ) → HeldIn o n → Holds (unwrap_or o any) n
+tightened None n h = absurd h
+tightened (Some z) n h = h
 
-truncate_small : (object : PlainObject) (size : ℕ) → HasSmall (truncate_effect object size)
-truncate_small None size = either_effect (nat_lt DATA_LIMIT size) _ _ (omega arith) (omega arith)
-truncate_small (Some o) size = either_effect (nat_lt DATA_LIMIT size) _ _ (omega arith) (omega arith)
+signed_low : (n : ℕ) → n < 2 ^ 63 → signed n ≡ pos n
+signed_low n h = omega (arith, ints)
 
-remove_small : (object : PlainObject) → HasSmall (remove_effect object)
-remove_small None = omega arith
-remove_small (Some o) = omega arith
+signed_high : (n : ℕ) → 2 ^ 63 ≤ n → n < 2 ^ 64 → signed n ≡ pos n -ℤ pos (2 ^ 64)
+signed_high n h k = cond_both (nat_lt n (2 ^ 63)) _ _ (λ z. z ≡ pos n -ℤ pos (2 ^ 64)) (λ e. absurd (omega (arith, h, ltb-true n (2 ^ 63) e))) (λ e. omega (arith, ints))
 
-setxattr_small : (object : PlainObject) (name value : List ℕ) → HasSmall (setxattr_effect object name value)
-setxattr_small object name value =
-    either_effect (not (is_named name)) _ _ (omega arith) (either_effect (is_full XATTR_LIMIT (content_of object).xattrs name) _ _ (omega arith) (omega arith))
+above_least : (errno most n : ℕ) → errno < 2 ^ 63 → most < 2 ^ 63 → n < 2 ^ 64 → (n ≤ most) ⊎ (2 ^ 64 - errno ≤ n) → (pos 0 -ℤ pos errno) ≤ℤ signed n
+above_least errno most n a b c (inl below) =
+    subst (λ (z : ℤ). (pos 0 -ℤ pos errno) ≤ℤ z) (sym (signed_low n (omega arith))) (omega (arith, ints))
+above_least errno most n a b c (inr negative) =
+    subst (λ (z : ℤ). (pos 0 -ℤ pos errno) ≤ℤ z) (sym (signed_high n (omega arith) c)) (omega (arith, ints))
 
-map_set_small : (object : PlainObject) (key value : List ℕ) → HasSmall (map_set_effect object key value)
-map_set_small object key value =
-    either_effect (not (is_named key)) _ _ (omega arith) (either_effect (is_full KEY_LIMIT (content_of object).omap key) _ _ (omega arith) (omega arith))
+below_greatest : (errno most n : ℕ) → errno < 2 ^ 63 → most < 2 ^ 63 → n < 2 ^ 64 → (n ≤ most) ⊎ (2 ^ 64 - errno ≤ n) → signed n ≤ℤ pos most
+below_greatest errno most n a b c (inl below) =
+    subst (λ (z : ℤ). z ≤ℤ pos most) (sym (signed_low n (omega arith))) (omega (arith, ints))
+below_greatest errno most n a b c (inr negative) =
+    subst (λ (z : ℤ). z ≤ℤ pos most) (sym (signed_high n (omega arith) c)) (omega (arith, ints))
 
-rmxattr_small : (object : PlainObject) (name : List ℕ) → HasSmall (rmxattr_effect object name)
-rmxattr_small None name = either_effect (not (is_named name)) _ _ (omega arith) (omega arith)
-rmxattr_small (Some o) name =
-    either_effect (not (is_named name)) _ _ (omega arith) (either_effect (not (fin.contains_key o.xattrs name)) _ _ (omega arith) (omega arith))
+module _ (anything : AnyHolds) (tighten_keeps : TightenKeeps) where
+  range_holds : (errno most n : ℕ) → errno < 2 ^ 63 → most < 2 ^ 63 → n < 2 ^ 64 → (n ≤ most) ⊎ (2 ^ 64 - errno ≤ n) → Holds (signed_ranged (pos 0 -ℤ pos errno) (pos most)) n
+  range_holds errno most n a b c side =
+      let all = anything n c in
+      record {
+        fits = all.fits;
+        above = all.above;
+        below = all.below;
+        at_least = above_least errno most n a b c side;
+        at_most = below_greatest errno most n a b c side;
+        agrees = all.agrees;
+      }
 
-map_rm_small : (object : PlainObject) (key : List ℕ) → HasSmall (map_rm_effect object key)
-map_rm_small None key = either_effect (not (is_named key)) _ _ (omega arith) (omega arith)
-map_rm_small (Some o) key =
-    either_effect (not (is_named key)) _ _ (omega arith) (either_effect (not (fin.contains_key o.omap key)) _ _ (omega arith) (omega arith))
-
-create_small : (object : PlainObject) (exclusive : ℕ) → HasSmall (create_effect object exclusive)
-create_small None exclusive = omega arith
-create_small (Some o) exclusive = either_effect (exclusive == 0) _ _ (omega arith) (omega arith)
-
-getxattr_small : (object : PlainObject) (name : List ℕ) (room : ℕ) → room < 2 ^ 64 → IsSmall (getxattr_answer object name room)
-getxattr_small object name room h =
-    either (not (is_named name)) _ _ (omega arith) (sought_small object (λ o. fin.get o.xattrs name) room h)
-
-map_get_small : (object : PlainObject) (key : List ℕ) (room : ℕ) → room < 2 ^ 64 → IsSmall (map_get_answer object key room)
-map_get_small object key room h =
-    either (not (is_named key)) _ _ (omega arith) (sought_small object (λ o. fin.get o.omap key) room h)
-
-map_next_small : (object : PlainObject) (key : List ℕ) (room : ℕ) → room < 2 ^ 64 → IsSmall (map_next_answer object key room)
-map_next_small object key room h =
-    either (nat_lt NAME_LIMIT (length key)) _ _ (omega arith) (sought_small object (λ o. key_above o.omap key) room h)
-
--- by the table
-row_small : (h : Option Helper) (object : PlainObject) (g : Given) → IsObject object → g.room < 2 ^ 64 → g.caller < 2 ^ 32 → HasSmall (effect_of h object g)
-row_small None object g o room caller = omega arith
-row_small (Some Stat) object g o room caller = stat_small object o
-row_small (Some Read) object g o room caller = read_small object (number g 0) g.room room
-row_small (Some Write) object g o room caller = write_small object (number g 0) (text g 0)
-row_small (Some Truncate) object g o room caller = truncate_small object (number g 0)
-row_small (Some Remove) object g o room caller = remove_small object
-row_small (Some GetXattr) object g o room caller = getxattr_small object (text g 0) g.room room
-row_small (Some SetXattr) object g o room caller = setxattr_small object (text g 0) (text g 1)
-row_small (Some RmXattr) object g o room caller = rmxattr_small object (text g 0)
-row_small (Some MapGet) object g o room caller = map_get_small object (text g 0) g.room room
-row_small (Some MapSet) object g o room caller = map_set_small object (text g 0) (text g 1)
-row_small (Some MapRm) object g o room caller = map_rm_small object (text g 0)
-row_small (Some MapNext) object g o room caller = map_next_small object (text g 0) g.room room
-row_small (Some OutLen) object g o room caller = omega arith
-row_small (Some Create) object g o room caller = create_small object (number g 0)
-row_small (Some Caller) object g o room caller = omega (arith, caller)
-
-pub answer_small : (id : ℕ) (object : PlainObject) (g : Given) → IsObject object → g.room < 2 ^ 64 → g.caller < 2 ^ 32 → (effect id object g).answer < 2 ^ 64
-answer_small id object g o room caller = row_small (helper_of id) object g o room caller
+  pub answers_hold : (errno : ℕ) (o : Option ℕ) (n : ℕ) → errno < 2 ^ 63 → n < 2 ^ 64 → ((most : ℕ) → o ≡ Some most → (n ≤ most) ⊎ (2 ^ 64 - errno ≤ n)) → Holds (answers_to errno o) n
+  answers_hold errno None n a c side = anything n c
+  answers_hold errno (Some most) n a c side =
+      let range = signed_ranged (pos 0 -ℤ pos errno) (pos most) in
+      cond_both (nat_lt most (2 ^ 63)) (unwrap_or (tighten range) any) any (λ x. Holds x n)
+      (λ t. tightened (tighten range) n (tighten_keeps range n (range_holds errno most n a (ltb-true most (2 ^ 63) t) c (side most refl))))
+      (λ t. anything n c)

@@ -4,6 +4,7 @@ use Rattle.std.specs.Prelude.{◌||◌, if◌then◌else◌}
 use Rattle.std.proofs.lemmas.Bool.{false≢true}
 use Rattle.std.proofs.lemmas.Option.{none-some, same_Some}
 use Rattle.bpf_decode.specs.declared.insn.Insn.{Insn}
+use Rattle.bpf_decode.specs.declared.rule_set.RuleSet.{RuleSet}
 use Rattle.bpf_machine.specs.declared.caps.Caps.{Caps}
 use Rattle.verifier.specs.declared.rule.Rule.{Rule}
 use Rattle.verifier.specs.declared.fault.Fault.TheVariants.{NotSet, OutOfRegion, ReadOnly, HasPointer}
@@ -46,62 +47,62 @@ or_left : (a b : Bool) → a ≡ true → (a || b) ≡ true
 or_left true b h = refl
 or_left false b h = absurd (false≢true h)
 
-module _ (caps : Caps) (code : List (Option Insn)) (p : ℕ) (i : Insn) (r : Rule) where
+module _ (rules : RuleSet) (caps : Caps) (code : List (Option Insn)) (p : ℕ) (i : Insn) (r : Rule) where
   shape_is_broken : shape_rule code p i ≡ Some r → breaks_shape code p i r ≡ true
   shape_is_broken h = first_is_broken (breaks_shape code p i) shape_rules r h
 
-  either_is_broken : (f : PlainFrame) (o : Option Rule) → shape_rule code p i ≡ o → else_under o (Some f) (λ f. frame_rule caps f i) ≡ Some r → (breaks_shape code p i r || breaks_frame caps f i r) ≡ true
+  either_is_broken : (f : PlainFrame) (o : Option Rule) → shape_rule code p i ≡ o → else_under o (Some f) (λ f. frame_rule rules caps f i) ≡ Some r → (breaks_shape code p i r || breaks_frame rules caps f i r) ≡ true
   either_is_broken f (Some rule) e h = or_left _ _ (shape_is_broken (e ∙ h))
-  either_is_broken f None e h = or_right _ _ (first_is_broken (breaks_frame caps f i) frame_rules r h)
+  either_is_broken f None e h = or_right _ _ (first_is_broken (breaks_frame rules caps f i) frame_rules r h)
 
-  alone_is_broken : (o : Option Rule) → shape_rule code p i ≡ o → else_under o None (λ f. frame_rule caps f i) ≡ Some r → breaks_shape code p i r ≡ true
+  alone_is_broken : (o : Option Rule) → shape_rule code p i ≡ o → else_under o None (λ f. frame_rule rules caps f i) ≡ Some r → breaks_shape code p i r ≡ true
   alone_is_broken (Some rule) e h = shape_is_broken (e ∙ h)
   alone_is_broken None e h = absurd (none-some r h)
 
   -- the rule that refuses an instruction is broken
-  pub rule_is_broken : (frame : Option PlainFrame) → rule_at caps code p i frame ≡ Some r → breaks caps code p i frame r ≡ true
+  pub rule_is_broken : (frame : Option PlainFrame) → rule_at rules caps code p i frame ≡ Some r → breaks rules caps code p i frame r ≡ true
   rule_is_broken None h = alone_is_broken (shape_rule code p i) refl h
   rule_is_broken (Some f) h = either_is_broken f (shape_rule code p i) refl h
 
 -- no rule refuses it, under its frame
-pub record Passed (caps : Caps) (code : List (Option Insn)) (p : ℕ) (i : Insn) (f : PlainFrame) : Type 0 where
+pub record Passed (rules : RuleSet) (caps : Caps) (code : List (Option Insn)) (p : ℕ) (i : Insn) (f : PlainFrame) : Type 0 where
   pub backward : is_backward i ≡ false
   pub target : misses code p i ≡ false
   pub falls : falls_off code p i ≡ false
   pub local : is_local_call i ≡ false
   pub unset : unset_among f (reads_of i) ≡ false
   pub loads_set : loads_unset caps f (touches_of i) ≡ false
-  pub asks_set : asks caps f NotSet (callee_of i) ≡ false
+  pub asks_set : asks rules caps f NotSet (callee_of i) ≡ false
   pub r10 : writes_r10 i ≡ false
   pub computed : computes_with_pointer f i ≡ false
   pub compared : compares_pointer f i ≡ false
   pub stored : stores_pointer f i ≡ false
   pub bounds : leaves caps f (touches_of i) ≡ false
-  pub asks_bounds : asks caps f OutOfRegion (callee_of i) ≡ false
+  pub asks_bounds : asks rules caps f OutOfRegion (callee_of i) ≡ false
   pub read_only : stores_read_only f (touches_of i) ≡ false
-  pub asks_read_only : asks caps f ReadOnly (callee_of i) ≡ false
-  pub unknown : calls_unknown i ≡ false
-  pub kinds : passes_wrong_kind caps f i ≡ false
-  pub writes : writes_in_reader caps i ≡ false
+  pub asks_read_only : asks rules caps f ReadOnly (callee_of i) ≡ false
+  pub unknown : calls_unknown rules i ≡ false
+  pub kinds : passes_wrong_kind rules caps f i ≡ false
+  pub writes : writes_in_reader rules caps i ≡ false
   pub returns : returns_pointer f i ≡ false
   pub parts : loads_pointer caps f (touches_of i) ≡ false
-  pub asks_parts : asks caps f HasPointer (callee_of i) ≡ false
+  pub asks_parts : asks rules caps f HasPointer (callee_of i) ≡ false
 
 neither_rule : (o : Option Rule) (f : PlainFrame) (rule_of : PlainFrame → Option Rule) → else_under o (Some f) rule_of ≡ None → (o ≡ None) × (rule_of f ≡ None)
 neither_rule None f rule_of h = (refl, h)
 neither_rule (Some rule) f rule_of h = absurd (none-some rule (sym h))
 
-pub passed : (caps : Caps) (code : List (Option Insn)) (p : ℕ) (i : Insn) (f : PlainFrame) → rule_at caps code p i (Some f) ≡ None → Passed caps code p i f
-passed caps code p i f h =
-    let both = neither_rule (shape_rule code p i) f (λ f. frame_rule caps f i) h in
+pub passed : (rules : RuleSet) (caps : Caps) (code : List (Option Insn)) (p : ℕ) (i : Insn) (f : PlainFrame) → rule_at rules caps code p i (Some f) ≡ None → Passed rules caps code p i f
+passed rules caps code p i f h =
+    let both = neither_rule (shape_rule code p i) f (λ f. frame_rule rules caps f i) h in
     let a = all_false (breaks_shape code p i) shape_rules both.0 in
-    let b = all_false (breaks_frame caps f i) frame_rules both.1 in
+    let b = all_false (breaks_frame rules caps f i) frame_rules both.1 in
     let c = b.1.1.1.1 in
-    let set = neither (unset_among f (reads_of i)) (loads_unset caps f (touches_of i) || asks caps f NotSet (callee_of i)) b.0 in
-    let later = neither (loads_unset caps f (touches_of i)) (asks caps f NotSet (callee_of i)) set.1 in
-    let bounds = neither (leaves caps f (touches_of i)) (asks caps f OutOfRegion (callee_of i)) c.1.0 in
-    let read_only = neither (stores_read_only f (touches_of i)) (asks caps f ReadOnly (callee_of i)) c.1.1.0 in
-    let parts = neither (loads_pointer caps f (touches_of i)) (asks caps f HasPointer (callee_of i)) c.1.1.1.1.1.1.1.0 in
+    let set = neither (unset_among f (reads_of i)) (loads_unset caps f (touches_of i) || asks rules caps f NotSet (callee_of i)) b.0 in
+    let later = neither (loads_unset caps f (touches_of i)) (asks rules caps f NotSet (callee_of i)) set.1 in
+    let bounds = neither (leaves caps f (touches_of i)) (asks rules caps f OutOfRegion (callee_of i)) c.1.0 in
+    let read_only = neither (stores_read_only f (touches_of i)) (asks rules caps f ReadOnly (callee_of i)) c.1.1.0 in
+    let parts = neither (loads_pointer caps f (touches_of i)) (asks rules caps f HasPointer (callee_of i)) c.1.1.1.1.1.1.1.0 in
     record {
       backward = a.0;
       target = a.1.0;

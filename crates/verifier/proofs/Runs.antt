@@ -1,5 +1,5 @@
 -- A run from a slot whose frame is true of the state ends at an exit.
-use Rattle.std.proofs.Common.{◌≡◌, ◌≢◌, ℕ, zero, suc, ◌+◌, ◌-◌, ◌^◌, ◌<◌, ◌≤◌, List, [], ◌∷◌, ◌++◌, Option, Some, None, refl, ap, ◌∙◌, sym, subst, arith, length, length-append, drop}
+use Rattle.std.proofs.Common.{◌≡◌, ◌≢◌, ℕ, zero, suc, ◌+◌, ◌-◌, ◌^◌, ◌<◌, ◌≤◌, List, [], ◌∷◌, ◌++◌, Option, Some, None, refl, ap, ◌∙◌, sym, subst, arith, length, drop}
 use Rattle.std.specs.Prelude.{replicate}
 use Rattle.std.proofs.lemmas.List.{length-replicate}
 use Rattle.std.proofs.lemmas.Option.{none-some, same_Some, slice_get_within}
@@ -7,9 +7,9 @@ use Rattle.bpf_decode.specs.declared.insn.Insn.{Insn}
 use Rattle.bpf_decode.specs.declared.insn.Insn.TheVariants.{Alu, Neg, Mov, MovSigned, End, LoadWide, Load, LoadSigned, Store, Jump, JumpLong, Branch, Call, CallLocal, Exit}
 use Rattle.bpf_decode.specs.Instruction.{Fits, AllFit, slots, slot_count}
 use Rattle.bpf_decode.specs.declared.rule_set.RuleSet.{RuleSet}
-use Rattle.bpf_decode.specs.declared.rule_set.RuleSet.TheVariants.{One, Two}
+use Rattle.bpf_decode.specs.declared.rule_set.RuleSet.TheVariants.{One, Two, Three}
 use Rattle.bpf_machine.specs.declared.caps.Caps.{Caps}
-use Rattle.object_store.specs.Object.{PlainObject, IsObject, AreBytes, IsValue}
+use Rattle.object_store.specs.Object.{PlainObject, IsObject, AreBytes}
 use Rattle.bpf_machine.specs.declared.limits.TheConstants.{STACK_SIZE}
 use Rattle.bpf_machine.specs.State.{◌>>=◌, AreCapacities, opening, Outcome, Ended, Stuck, one_more, goes_on}
 use Rattle.bpf_machine.specs.Slots.{slot_values}
@@ -20,6 +20,7 @@ use Rattle.abstract_num.specs.Plain.{constant}
 use Rattle.verifier.specs.Frame.{known_slots, entry, Holds}
 use Rattle.verifier.specs.inner.Pass.{Sound, IsSound, AllSound}
 use Rattle.verifier.specs.Rules.{rule_at}
+use Rattle.verifier.specs.Answers.{answer_of}
 use Rattle.verifier.specs.Verdict.{frame_at, whole_table, code_verdict}
 use Rattle.verifier.proofs.Bytes.{bytes_append, bytes_zeros}
 use Rattle.verifier.proofs.Passed.{Passed, passed}
@@ -80,11 +81,12 @@ inner (Some o) x h = ap Some h
 few_known : (rules : RuleSet) → known_slots rules ≤ 64
 few_known One = omega arith
 few_known Two = omega arith
+few_known Three = omega arith
 
 first_long : (rules : RuleSet) (caps : Caps) → length (entry rules caps).slots ≡ known_slots rules
 first_long rules caps = length-replicate (known_slots rules) (Num (constant 0))
 
-module _ (laws : Laws) (caps : Caps) (sizes : AreCapacities caps) (rules : RuleSet) (is : List Insn) (sound : AllSound rules caps (slots is)) (fit : AllFit is) (small : length (slots is) < 2 ^ 62) (clear : code_verdict rules caps (slots is) ≡ None) (before : PlainObject) where
+module _ (laws : Laws) (caps : Caps) (rules : RuleSet) (is : List Insn) (sound : AllSound rules caps (slots is)) (fit : AllFit is) (small : length (slots is) < 2 ^ 62) (clear : code_verdict rules caps (slots is) ≡ None) (before : PlainObject) where
   -- of how many slots frames speak
   abbrev known : ℕ
   known = known_slots rules
@@ -100,11 +102,11 @@ module _ (laws : Laws) (caps : Caps) (sizes : AreCapacities caps) (rules : RuleS
     is_frame : frame_at (whole_table rules caps (slots is)) s.slot ≡ Some frame
     holds : Holds known frame s
 
-  clear_at : (s : Typed) (a : At s) → rule_at caps (slots is) s.slot a.insn (Some a.frame) ≡ None
-  clear_at s a = sym (ap (rule_at caps (slots is) s.slot a.insn) a.is_frame) ∙ passes rules caps (slots is) s.slot a.insn clear a.there
+  clear_at : (s : Typed) (a : At s) → rule_at rules caps (slots is) s.slot a.insn (Some a.frame) ≡ None
+  clear_at s a = sym (ap (rule_at rules caps (slots is) s.slot a.insn) a.is_frame) ∙ passes rules caps (slots is) s.slot a.insn clear a.there
 
-  sound_at : (s : Typed) (a : At s) → Sound a.insn s.slot a.frame
-  sound_at s a = subst (IsSound a.insn s.slot) a.is_frame (sound s.slot a.insn a.there)
+  sound_at : (s : Typed) (a : At s) → Sound rules a.insn s.slot a.frame
+  sound_at s a = subst (IsSound rules a.insn s.slot) a.is_frame (sound s.slot a.insn a.there)
 
   abbrev Later : ℕ → Type 0
   Later n = (t : Typed) → left (drop t.slot (slots is)) ≤ n → At t → Ends n t
@@ -112,16 +114,16 @@ module _ (laws : Laws) (caps : Caps) (sizes : AreCapacities caps) (rules : RuleS
   on : (n : ℕ) (s : Typed) (a : At s) → left (drop s.slot (slots is)) ≤ suc n → Later n → a.insn ≢ Exit → typed_exit_of a.insn s ≡ None → Ends (suc n) s
   on n s a le later not_exit no_code =
       let rule = clear_at s a in
-      let ok = passed caps (slots is) s.slot a.insn a.frame rule in
+      let ok = passed rules caps (slots is) s.slot a.insn a.frame rule in
       let fits = fit_at is s.slot a.insn fit a.there in
       let kept = sound_at s a in
       let h = a.holds in
-      let t = steps laws caps sizes (slots is) s.slot known (few_known rules) a.frame s h kept.fits a.insn fits ok not_exit in
+      let t = steps laws rules caps (slots is) s.slot known (few_known rules) a.frame s h kept.fits a.insn fits ok not_exit in
       let vs = slot_values known s.memory.stack in
       let ws = slot_values known (t.to).memory.stack in
-      let reached = kept.keeps fits (allowed caps (slots is) s.slot a.frame a.insn ok) s.regs t.to.regs vs ws t.to.slot (h.long ∙ sym (length-values known s.memory.stack)) h.regs h.slots t.moves in
+      let reached = kept.keeps fits (allowed rules caps (slots is) s.slot a.frame a.insn ok) s.regs t.to.regs vs ws t.to.slot (h.long ∙ sym (length-values known s.memory.stack)) h.regs h.slots t.moves in
       let inside = slice_get_within (slots is) s.slot (Some a.insn) (inner _ _ a.there) in
-      let e = edge caps (slots is) s.slot t.to.slot a.insn a.frame reached.frame (omega arith) fits ok reached.there in
+      let e = edge rules caps (slots is) s.slot t.to.slot (answer_of rules a.frame a.insn) a.insn a.frame reached.frame (omega arith) fits ok reached.there in
       let inside' = slice_get_within (slots is) t.to.slot (Some e.to) (inner _ _ e.begins) in
       let meets = arrives laws.joins rules caps (slots is) s.slot t.to.slot a.insn a.frame reached.frame t.to.regs ws a.there a.is_frame rule (record { holds = reached.holds; slots = reached.slots }) reached.there e.forward inside' in
       let fewer = left_further (slots is) s.slot t.to.slot a.insn a.there e.forward in
@@ -137,8 +139,8 @@ module _ (laws : Laws) (caps : Caps) (sizes : AreCapacities caps) (rules : RuleS
 
   out : (n : ℕ) (s : Typed) (a : At s) → a.insn ≡ Exit → Ends (suc n) s
   out n s a exit =
-      let ok = subst (λ i. Passed caps (slots is) s.slot i a.frame) exit (passed caps (slots is) s.slot a.insn a.frame (clear_at s a)) in
-      let c = exits caps (slots is) s.slot a.frame s a.holds ok in (
+      let ok = subst (λ i. Passed rules caps (slots is) s.slot i a.frame) exit (passed rules caps (slots is) s.slot a.insn a.frame (clear_at s a)) in
+      let c = exits rules caps (slots is) s.slot a.frame s a.holds ok in (
         typed_outcome before c.0 s,
         1,
         ap (λ o. typed_ends before s (o >>= λ i. typed_exit_of i s) (goes_on (o >>= λ i. typed_act caps i s) (typed_run caps (slots is) before n))) (a.there ∙ ap Some exit)
@@ -187,9 +189,8 @@ entry_is_held laws rules caps sizes object caller input ob client le bytes =
       within = record { memory = begins_within laws.slots (known_slots rules) (typed_entry caps object caller input).memory input_is output_is refl; object = ob; client = client };
     }
   where
-    input_is : IsValue (opening caps input).input
-    input_is =
-        (omega (arith, le, sizes.input, length-append input (replicate (caps.in_cap - length input) 0), length-replicate {A = ℕ} (caps.in_cap - length input) 0), bytes_append input _ bytes (bytes_zeros _))
+    input_is : AreBytes (opening caps input).input
+    input_is = bytes_append input _ bytes (bytes_zeros _)
 
-    output_is : IsValue (opening caps input).output
-    output_is = (omega (arith, sizes.output, length-replicate {A = ℕ} caps.out_cap 0), bytes_zeros caps.out_cap)
+    output_is : AreBytes (opening caps input).output
+    output_is = bytes_zeros caps.out_cap

@@ -11,12 +11,14 @@ use Rattle.bpf_machine.specs.declared.caps.Caps.{Caps}
 use Rattle.bpf_machine.specs.State.{◌>>=◌}
 use Rattle.bpf_machine.specs.Typed.{fetch}
 use Rattle.verifier.specs.declared.rule.Rule.{Rule}
+use Rattle.abstract_num.specs.Plain.{Plain}
 use Rattle.abstract_regs.specs.Frame.{PlainFrame}
 use Rattle.abstract_regs.specs.Flow.{flow}
 use Rattle.abstract_regs.specs.Moves.{EachFits, Keeps}
 use Rattle.verifier.specs.declared.pass.Pass.{Pass}
 use Rattle.verifier.specs.Frame.{entry}
 use Rattle.verifier.specs.Rules.{rule_at, room_of}
+use Rattle.verifier.specs.Answers.{answer_of}
 use Rattle.verifier.specs.inner.Kept.{unbox}
 use Rattle.verifier.specs.Verdict.{Table, frame_at, joined, met, along, unless_refused, flow_from, start, incoming, frames, whole_table, IsTable, or_else, first_refused}
 use Rattle.verifier.specs.inner.Pass.{merged, fallen, awaited, flown, HasLeft, IsSpaced, IsSound, Sound}
@@ -59,32 +61,35 @@ merged_is table a q g lt = ⊎_elim
     (λ n. ap (λ o. o >>= λ f. f) (get_other table a q _ n) ∙ sym (cond-false _ _ _ (ne_eqb a q n))) (cases_eq a q)
 
 -- the one edge of a jump, which is kept
-pub leaves_one : (frame : Option PlainFrame) (f h : PlainFrame) (kept : Table) (pass : Pass) (i : Insn) (p a w : ℕ) → frame ≡ Some f → flow (room_of i) i p f ≡ (a, h) ∷ [] → w ≡ slot_count i → pass.kept ≡ merged kept a h → unbox pass.current ≡ None → pass.landing ≡ p + w → HasLeft frame kept i p pass
-leaves_one frame f h kept pass i p a w is flows width merges current landing = record {
+pub leaves_one : (rules : RuleSet) (frame : Option PlainFrame) (f h : PlainFrame) (kept : Table) (pass : Pass) (i : Insn) (p a w : ℕ) → frame ≡ Some f → flow (room_of i) (answer_of rules f i) i p f ≡ (a, h) ∷ [] → w ≡ slot_count i → pass.kept ≡ merged kept a h → unbox pass.current ≡ None → pass.landing ≡ p + w → HasLeft rules frame kept i p pass
+leaves_one rules frame f h kept pass i p a w is flows width merges current landing = record {
   landing = landing ∙ ap (λ n. p + n) width;
   size = ap length merges ∙ length-set kept a _;
   flows = λ q lt.
       ap (λ o. fallen o pass.landing q (frame_at pass.kept q)) current
       ∙ ap (λ t. frame_at t q) merges ∙ merged_is kept a q h lt
-      ∙ sym (ap (λ o. flown o i p q (frame_at kept q)) is ∙ ap (λ edges. along edges q (frame_at kept q)) flows);
+      ∙ sym (ap (λ o. flown rules o i p q (frame_at kept q)) is ∙ ap (λ edges. along edges q (frame_at kept q)) flows);
 }
 
 -- what a flow keeps, of the frame at hand
-pub is_sound : (frame : Option PlainFrame) (f g : PlainFrame) (room : Option ℕ) (i : Insn) (p : ℕ) → frame ≡ Some f → g ≡ f → room ≡ room_of i → Keeps room i p g → EachFits g.registers → IsSound i p frame
-is_sound frame f g room i p is same rooms keeps fits =
-    let sound : Sound i p g = record { keeps = subst (λ r. Keeps r i p g) rooms keeps; fits = fits } in
-    subst (IsSound i p) (sym (is ∙ ap Some (sym same))) sound
+pub is_sound : (rules : RuleSet) (frame : Option PlainFrame) (f g : PlainFrame) (room : Option ℕ) (answer : Plain) (i : Insn) (p : ℕ) → frame ≡ Some f → g ≡ f → room ≡ room_of i → answer ≡ answer_of rules g i → Keeps room answer i p g → EachFits g.registers → IsSound rules i p frame
+is_sound rules frame f g room answer i p is same rooms answers keeps fits =
+    let sound : Sound rules i p g = record {
+      keeps = subst (λ a. Keeps (room_of i) a i p g) answers (subst (λ r. Keeps r answer i p g) rooms keeps);
+      fits = fits;
+    } in
+    subst (IsSound rules i p) (sym (is ∙ ap Some (sym same))) sound
 
 -- both edges of a jump: one is kept, the other falls through
-pub leaves_both : (frame : Option PlainFrame) (f g h : PlainFrame) (kept : Table) (pass : Pass) (i : Insn) (p a w : ℕ) → frame ≡ Some f → flow (room_of i) i p f ≡ (a, h) ∷ (p + slot_count i, g) ∷ [] → w ≡ slot_count i → pass.kept ≡ merged kept a h → unbox pass.current ≡ Some g → pass.landing ≡ p + w → HasLeft frame kept i p pass
-leaves_both frame f g h kept pass i p a w is flows width merges current landing = record {
+pub leaves_both : (rules : RuleSet) (frame : Option PlainFrame) (f g h : PlainFrame) (kept : Table) (pass : Pass) (i : Insn) (p a w : ℕ) → frame ≡ Some f → flow (room_of i) (answer_of rules f i) i p f ≡ (a, h) ∷ (p + slot_count i, g) ∷ [] → w ≡ slot_count i → pass.kept ≡ merged kept a h → unbox pass.current ≡ Some g → pass.landing ≡ p + w → HasLeft rules frame kept i p pass
+leaves_both rules frame f g h kept pass i p a w is flows width merges current landing = record {
   landing = landing ∙ ap (λ n. p + n) width;
   size = ap length merges ∙ length-set kept a _;
   flows = λ q lt.
       ap (λ o. fallen o pass.landing q (frame_at pass.kept q)) current
       ∙ ap (λ n. met n g q (frame_at pass.kept q)) (landing ∙ ap (λ n. p + n) width)
       ∙ ap (met (p + slot_count i) g q) (ap (λ t. frame_at t q) merges ∙ merged_is kept a q h lt)
-      ∙ sym (ap (λ o. flown o i p q (frame_at kept q)) is ∙ ap (λ edges. along edges q (frame_at kept q)) flows);
+      ∙ sym (ap (λ o. flown rules o i p q (frame_at kept q)) is ∙ ap (λ edges. along edges q (frame_at kept q)) flows);
 }
 
 module _ (rules : RuleSet) (caps : Caps) (code : List (Option Insn)) where
@@ -92,8 +97,8 @@ module _ (rules : RuleSet) (caps : Caps) (code : List (Option Insn)) where
   agree : (t t' : Table) (q n : ℕ) → ((p : ℕ) → p < n → frame_at t p ≡ frame_at t' p) → incoming rules caps code t q n ≡ incoming rules caps code t' q n
   agree t t' q zero h = refl
   agree t t' q (suc p) h =
-      ap (λ f. flow_from caps code p q (fetch code p) f (incoming rules caps code t q p)) (h p (omega arith))
-      ∙ ap (λ inflow. flow_from caps code p q (fetch code p) (frame_at t' p) inflow) (agree t t' q p (λ k lt. h k (omega arith)))
+      ap (λ f. flow_from rules caps code p q (fetch code p) f (incoming rules caps code t q p)) (h p (omega arith))
+      ∙ ap (λ inflow. flow_from rules caps code p q (fetch code p) (frame_at t' p) inflow) (agree t t' q p (λ k lt. h k (omega arith)))
 
   length-frames : (n : ℕ) → length (frames rules caps code n) ≡ n
   length-frames zero = refl
@@ -172,7 +177,7 @@ module _ (rules : RuleSet) (caps : Caps) (code : List (Option Insn)) where
       subst (λ n. Brought n pass) (one_more p) (record {
         size = b.size;
         at = λ q le lt.
-            b.at q (omega arith) lt ∙ sym (ap (λ i. flow_from caps code p q i (frame_at (whole_table rules caps code) p) (incoming rules caps code (whole_table rules caps code) q p)) none);
+            b.at q (omega arith) lt ∙ sym (ap (λ i. flow_from rules caps code p q i (frame_at (whole_table rules caps code) p) (incoming rules caps code (whole_table rules caps code) q p)) none);
         gap = λ q le lt. b.gap q (omega arith) lt;
       })
 
@@ -180,51 +185,51 @@ module _ (rules : RuleSet) (caps : Caps) (code : List (Option Insn)) where
   elsewhere None landing q inflow n = refl
   elsewhere (Some g) landing q inflow n = cond-false (landing == q) (Some (joined inflow g)) inflow (ne_eqb landing q n)
 
-  flows_on : (p q : ℕ) (i : Insn) (frame inflow : Option PlainFrame) → rule_at caps code p i frame ≡ None → flow_from caps code p q (Some i) frame inflow ≡ flown frame i p q inflow
+  flows_on : (p q : ℕ) (i : Insn) (frame inflow : Option PlainFrame) → rule_at rules caps code p i frame ≡ None → flow_from rules caps code p q (Some i) frame inflow ≡ flown rules frame i p q inflow
   flows_on p q i None inflow none = refl
-  flows_on p q i (Some f) inflow none = ap (λ r. unless_refused r (along (flow (room_of i) i p f) q inflow) inflow) none
+  flows_on p q i (Some f) inflow none = ap (λ r. unless_refused r (along (flow (room_of i) (answer_of rules f i) i p f) q inflow) inflow) none
 
   -- a slot that no rule refuses brings its flow
-  pub brought_more : (p : ℕ) (i : Insn) (pass pass' : Pass) → IsSpaced code → p < length code → fetch code p ≡ Some i → rule_at caps code p i (awaited pass p) ≡ None → HasLeft (awaited pass p) (slice_set pass.kept p None) i p pass' → Brought p pass → Brought (p + 1) pass'
+  pub brought_more : (p : ℕ) (i : Insn) (pass pass' : Pass) → IsSpaced code → p < length code → fetch code p ≡ Some i → rule_at rules caps code p i (awaited pass p) ≡ None → HasLeft rules (awaited pass p) (slice_set pass.kept p None) i p pass' → Brought p pass → Brought (p + 1) pass'
   brought_more p i pass pass' spaced lt at none left b =
       let table = whole_table rules caps code in
       let frame = its_frame p pass lt b in
-      let clear : rule_at caps code p i (frame_at table p) ≡ None = ap (rule_at caps code p i) (sym frame) ∙ none in
+      let clear : rule_at rules caps code p i (frame_at table p) ≡ None = ap (rule_at rules caps code p i) (sym frame) ∙ none in
       let landed : pass.landing ≤ p = ⊎_elim (λ (less : p < pass.landing). absurd (none-some i (sym (b.gap p (omega arith) less) ∙ at))) (λ (le : pass.landing ≤ p). le) (cases_lt p pass.landing) in
       let long = length-set pass.kept p None in
       subst (λ n. Brought n pass') (one_more p) (record {
         size = left.size ∙ long ∙ b.size;
         at = λ q le lt.
             left.flows q (omega (arith, long, b.size))
-            ∙ ap (λ o. flown o i p q (frame_at (slice_set pass.kept p None) q)) frame
-            ∙ ap (flown (frame_at table p) i p q) (ap (λ o. o >>= λ f. f) (get_other pass.kept p q None (λ e. absurd (omega (arith, e))))
+            ∙ ap (λ o. flown rules o i p q (frame_at (slice_set pass.kept p None) q)) frame
+            ∙ ap (flown rules (frame_at table p) i p q) (ap (λ o. o >>= λ f. f) (get_other pass.kept p q None (λ e. absurd (omega (arith, e))))
             ∙ sym (elsewhere (unbox pass.current) pass.landing q (frame_at pass.kept q) (λ e. absurd (omega (arith, e, landed))))
             ∙ b.at q (omega arith) lt)
-            ∙ sym (ap (λ j. flow_from caps code p q j (frame_at table p) (incoming rules caps code table q p)) at
+            ∙ sym (ap (λ j. flow_from rules caps code p q j (frame_at table p) (incoming rules caps code table q p)) at
             ∙ flows_on p q i (frame_at table p) (incoming rules caps code table q p) clear);
         gap = λ q le lt. spaced p q i at (omega arith) (omega (arith, left.landing));
       })
 
   -- the slots from p on, where nothing begins at p
-  pub refused_over : (p : ℕ) → slice_get code p ≡ Some None → first_refused caps code (whole_table rules caps code) p (drop p code) ≡ first_refused caps code (whole_table rules caps code) (p + 1) (drop (p + 1) code)
-  refused_over p at = ap (first_refused caps code (whole_table rules caps code) p) (drop_head code p None at)
+  pub refused_over : (p : ℕ) → slice_get code p ≡ Some None → first_refused rules caps code (whole_table rules caps code) p (drop p code) ≡ first_refused rules caps code (whole_table rules caps code) (p + 1) (drop (p + 1) code)
+  refused_over p at = ap (first_refused rules caps code (whole_table rules caps code) p) (drop_head code p None at)
 
   -- the slots from p on, where an instruction begins at p
-  pub refused_at : (p : ℕ) (i : Insn) (pass : Pass) (r : Option Rule) → p < length code → slice_get code p ≡ Some (Some i) → Brought p pass → rule_at caps code p i (awaited pass p) ≡ r →
-      first_refused caps code (whole_table rules caps code) p (drop p code) ≡ or_else p r (first_refused caps code (whole_table rules caps code) (p + 1) (drop (p + 1) code))
+  pub refused_at : (p : ℕ) (i : Insn) (pass : Pass) (r : Option Rule) → p < length code → slice_get code p ≡ Some (Some i) → Brought p pass → rule_at rules caps code p i (awaited pass p) ≡ r →
+      first_refused rules caps code (whole_table rules caps code) p (drop p code) ≡ or_else p r (first_refused rules caps code (whole_table rules caps code) (p + 1) (drop (p + 1) code))
   refused_at p i pass r lt at b is =
-      ap (first_refused caps code (whole_table rules caps code) p) (drop_head code p (Some i) at)
-      ∙ ap (λ r. or_else p r (first_refused caps code (whole_table rules caps code) (p + 1) (drop (p + 1) code))) (ap (rule_at caps code p i) (sym (its_frame p pass lt b)) ∙ is)
+      ap (first_refused rules caps code (whole_table rules caps code) p) (drop_head code p (Some i) at)
+      ∙ ap (λ r. or_else p r (first_refused rules caps code (whole_table rules caps code) (p + 1) (drop (p + 1) code))) (ap (rule_at rules caps code p i) (sym (its_frame p pass lt b)) ∙ is)
 
   -- the flows of the slots below p keep what is held
   abbrev pub SoundBelow : ℕ → Type 0
-  SoundBelow p = (k : ℕ) (i : Insn) → k < p → fetch code k ≡ Some i → IsSound i k (frame_at (whole_table rules caps code) k)
+  SoundBelow p = (k : ℕ) (i : Insn) → k < p → fetch code k ≡ Some i → IsSound rules i k (frame_at (whole_table rules caps code) k)
 
-  pub sound_more : (p : ℕ) (i : Insn) → SoundBelow p → fetch code p ≡ Some i → IsSound i p (frame_at (whole_table rules caps code) p) → SoundBelow (p + 1)
+  pub sound_more : (p : ℕ) (i : Insn) → SoundBelow p → fetch code p ≡ Some i → IsSound rules i p (frame_at (whole_table rules caps code) p) → SoundBelow (p + 1)
   sound_more p i below at here k j lt is = ⊎_elim (λ less. below k j less is)
       (λ le. let same : p ≡ k = omega arith in
       let same' : i ≡ j = same_Some i j (sym at ∙ ap (fetch code) same ∙ is) in
-      subst (λ n. IsSound j n (frame_at (whole_table rules caps code) n)) same (subst (λ j. IsSound j p (frame_at (whole_table rules caps code) p)) same' here)) (cases_lt k p)
+      subst (λ n. IsSound rules j n (frame_at (whole_table rules caps code) n)) same (subst (λ j. IsSound rules j p (frame_at (whole_table rules caps code) p)) same' here)) (cases_lt k p)
 
   pub sound_over : (p : ℕ) → SoundBelow p → fetch code p ≡ None → SoundBelow (p + 1)
   sound_over p below none k j lt is = ⊎_elim (λ less. below k j less is)

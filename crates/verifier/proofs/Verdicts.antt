@@ -25,23 +25,23 @@ came p (Some rule) later at h =
     let same = same_Some (p, rule) at h in
     inl (ap (λ (x : ℕ × Rule). Some x.1) same, ap (λ (x : ℕ × Rule). x.0) same)
 
-module _ (caps : Caps) (code : List (Option Insn)) (table : Table) where
+module _ (rules : RuleSet) (caps : Caps) (code : List (Option Insn)) (table : Table) where
   -- no slot is refused
-  passes_from : (rest : List (Option Insn)) (p k : ℕ) (i : Insn) → first_refused caps code table p rest ≡ None → fetch rest k ≡ Some i → rule_at caps code (p + k) i (frame_at table (p + k)) ≡ None
+  passes_from : (rest : List (Option Insn)) (p k : ℕ) (i : Insn) → first_refused rules caps code table p rest ≡ None → fetch rest k ≡ Some i → rule_at rules caps code (p + k) i (frame_at table (p + k)) ≡ None
   passes_from [] p k i h at = absurd (none-some i at)
   passes_from (None ∷ rest) p zero i h at = absurd (none-some i at)
   passes_from (Some j ∷ rest) p zero i h at =
-      let l = none_left p (rule_at caps code p j (frame_at table p)) (first_refused caps code table (p + 1) rest) h in
+      let l = none_left p (rule_at rules caps code p j (frame_at table p)) (first_refused rules caps code table (p + 1) rest) h in
       let same = same_Some j i at in
       let here : p ≡ p + zero = omega arith in
-      subst (λ n. rule_at caps code n i (frame_at table n) ≡ None) here (subst (λ i. rule_at caps code p i (frame_at table p) ≡ None) same l.0)
+      subst (λ n. rule_at rules caps code n i (frame_at table n) ≡ None) here (subst (λ i. rule_at rules caps code p i (frame_at table p) ≡ None) same l.0)
   passes_from (None ∷ rest) p (suc k) i h at =
       let next : p + 1 + k ≡ p + suc k = omega arith in
-      subst (λ n. rule_at caps code n i (frame_at table n) ≡ None) next (passes_from rest (p + 1) k i h at)
+      subst (λ n. rule_at rules caps code n i (frame_at table n) ≡ None) next (passes_from rest (p + 1) k i h at)
   passes_from (Some j ∷ rest) p (suc k) i h at =
-      let l = none_left p (rule_at caps code p j (frame_at table p)) (first_refused caps code table (p + 1) rest) h in
+      let l = none_left p (rule_at rules caps code p j (frame_at table p)) (first_refused rules caps code table (p + 1) rest) h in
       let next : p + 1 + k ≡ p + suc k = omega arith in
-      subst (λ n. rule_at caps code n i (frame_at table n) ≡ None) next (passes_from rest (p + 1) k i l.1 at)
+      subst (λ n. rule_at rules caps code n i (frame_at table n) ≡ None) next (passes_from rest (p + 1) k i l.1 at)
 
   -- the slot that is refused, and its rule
   record Slot (rest : List (Option Insn)) (p : ℕ) (at : ℕ × Rule) : Type 0 where
@@ -49,31 +49,31 @@ module _ (caps : Caps) (code : List (Option Insn)) (table : Table) where
     is : at.0 ≡ p + past
     insn : Insn
     there : fetch rest past ≡ Some insn
-    rule : rule_at caps code at.0 insn (frame_at table at.0) ≡ Some at.1
+    rule : rule_at rules caps code at.0 insn (frame_at table at.0) ≡ Some at.1
 
-  refused_from : (rest : List (Option Insn)) (p : ℕ) (at : ℕ × Rule) → first_refused caps code table p rest ≡ Some at → Slot rest p at
+  refused_from : (rest : List (Option Insn)) (p : ℕ) (at : ℕ × Rule) → first_refused rules caps code table p rest ≡ Some at → Slot rest p at
   refused_from [] p at h = absurd (none-some at h)
   refused_from (None ∷ rest) p at h =
       let r = refused_from rest (p + 1) at h in
       record { past = suc r.past; is = omega (arith, r.is); insn = r.insn; there = r.there; rule = r.rule }
   refused_from (Some i ∷ rest) p at h =
-      let c = came p (rule_at caps code p i (frame_at table p)) (first_refused caps code table (p + 1) rest) at h in
+      let c = came p (rule_at rules caps code p i (frame_at table p)) (first_refused rules caps code table (p + 1) rest) at h in
       ⊎_elim
-      (λ here. record { past = zero; is = omega (arith, here.1); insn = i; there = refl; rule = subst (λ n. rule_at caps code n i (frame_at table n) ≡ Some at.1) here.1 here.0 })
+      (λ here. record { past = zero; is = omega (arith, here.1); insn = i; there = refl; rule = subst (λ n. rule_at rules caps code n i (frame_at table n) ≡ Some at.1) here.1 here.0 })
       (λ later.
       let r = refused_from rest (p + 1) at later in
       record { past = suc r.past; is = omega (arith, r.is); insn = r.insn; there = r.there; rule = r.rule }) c
 
 -- no rule refuses what begins at a slot
-pub passes : (rules : RuleSet) (caps : Caps) (code : List (Option Insn)) (p : ℕ) (i : Insn) → code_verdict rules caps code ≡ None → fetch code p ≡ Some i → rule_at caps code p i (frame_at (whole_table rules caps code) p) ≡ None
+pub passes : (rules : RuleSet) (caps : Caps) (code : List (Option Insn)) (p : ℕ) (i : Insn) → code_verdict rules caps code ≡ None → fetch code p ≡ Some i → rule_at rules caps code p i (frame_at (whole_table rules caps code) p) ≡ None
 passes rules caps code p i h at =
     let same : 0 + p ≡ p = omega arith in
-    subst (λ n. rule_at caps code n i (frame_at (whole_table rules caps code) n) ≡ None) same (passes_from caps code (whole_table rules caps code) code 0 p i h at)
+    subst (λ n. rule_at rules caps code n i (frame_at (whole_table rules caps code) n) ≡ None) same (passes_from rules caps code (whole_table rules caps code) code 0 p i h at)
 
 -- an instruction begins at the slot that is refused
 pub begins_there : (rules : RuleSet) (caps : Caps) (code : List (Option Insn)) (at : ℕ × Rule) → code_verdict rules caps code ≡ Some at → (i : Insn) × (fetch code at.0 ≡ Some i)
 begins_there rules caps code at h =
-    let r = refused_from caps code (whole_table rules caps code) code 0 at h in
+    let r = refused_from rules caps code (whole_table rules caps code) code 0 at h in
     let same : r.past ≡ at.0 = omega (arith, r.is) in
     (r.insn, ap (fetch code) (sym same) ∙ r.there)
 
@@ -82,9 +82,9 @@ method_refuses : (rules : RuleSet) (m : ClassMethod) (at : ℕ × Rule) → meth
 method_refuses rules m at h =
     let caps = caps_of m in
     let code = slots m.instructions in
-    let r = refused_from caps code (whole_table rules caps code) code 0 at h in
+    let r = refused_from rules caps code (whole_table rules caps code) code 0 at h in
     let same : r.past ≡ at.0 = omega (arith, r.is) in
-    record { insn = r.insn; there = ap (fetch code) (sym same) ∙ r.there; refused = rule_is_broken caps code at.0 r.insn at.1 (frame_at (whole_table rules caps code) at.0) r.rule }
+    record { insn = r.insn; there = ap (fetch code) (sym same) ∙ r.there; refused = rule_is_broken rules caps code at.0 r.insn at.1 (frame_at (whole_table rules caps code) at.0) r.rule }
 
 -- the method that is refused
 record Found (rules : RuleSet) (ms : List ClassMethod) (k : ℕ) (r : Refusal) : Type 0 where

@@ -2,28 +2,28 @@
 use Rattle.std.specs.Prelude.{◌≡◌, ℕ, ◌^◌, ◌<◌, ◌≤◌, length}
 use Rattle.bpf_decode.specs.declared.region.Region.TheVariants.{Stack}
 use Rattle.bpf_decode.specs.declared.rule_set.RuleSet.{RuleSet}
-use Rattle.bpf_decode.specs.declared.rule_set.RuleSet.TheVariants.{One, Two}
+use Rattle.bpf_decode.specs.declared.rule_set.RuleSet.TheVariants.{One, Two, Three}
 use Rattle.bpf_machine.specs.declared.caps.Caps.{Caps}
-use Rattle.object_store.specs.Object.{IsValue, IsObject}
+use Rattle.object_store.specs.Object.{AreBytes, IsObject}
 use Rattle.bpf_machine.specs.State.{size}
 use Rattle.bpf_machine.specs.Typed.{Typed, TypedMemory}
 use Rattle.bpf_machine.specs.Slots.{slot_value, slot_values, IsStack, IsNumber}
 use Rattle.abstract_regs.specs.Frame.{PlainFrame, HoldsEach, entry_frame}
 
--- of how many slots of the stack frames speak: in rule set 2 of all
+-- of how many slots of the stack frames speak: of all but in rule set 1
 abbrev pub known_slots : RuleSet → ℕ
 known_slots One = 0
 known_slots Two = 64
+known_slots Three = 64
 
 -- what is known as a method begins
 abbrev pub entry : RuleSet → Caps → PlainFrame
 entry rules caps = entry_frame caps.in_cap (size caps Stack) (known_slots rules)
 
--- regions no longer than a value may be, a stack of 64 slots, of which all but the first ones, that
--- many, are numbers
+-- regions of bytes, a stack of 64 slots, of which all but the first ones, that many, are numbers
 pub record IsMemory (known : ℕ) (m : TypedMemory) : Type 0 where
-  pub input : IsValue m.input
-  pub output : IsValue m.output
+  pub input : AreBytes m.input
+  pub output : AreBytes m.output
   pub stack : IsStack 64 m.stack
   pub rest : (j : ℕ) → known ≤ j → j < 64 → IsNumber (slot_value m.stack j)
 

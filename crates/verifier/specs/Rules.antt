@@ -1,10 +1,12 @@
 -- The rules: which instructions are refused, and where.
-use Rattle.std.specs.Prelude.{ℕ, ℤ, ◌+◌, List, [], ◌∷◌, Option, Some, None, Bool, true, false, if◌then◌else◌, ◌==◌, ◌&&◌, ◌||◌, not, is_some}
+use Rattle.std.specs.Prelude.{ℕ, ℤ, ◌+◌, List, [], ◌∷◌, Option, Some, None, Bool, true, false, if◌then◌else◌, ◌==◌, ◌&&◌, ◌||◌, not, nat_le, is_some}
 use Rattle.std.specs.Int.{is_negative}
 use Rattle.bpf_decode.specs.declared.insn.Operand.{Operand}
 use Rattle.bpf_decode.specs.declared.insn.Operand.TheVariants.{Immediate, Register}
 use Rattle.bpf_decode.specs.declared.insn.Insn.{Insn}
 use Rattle.bpf_decode.specs.Instruction.{slot_count}
+use Rattle.bpf_decode.specs.declared.rule_set.RuleSet.{RuleSet}
+use Rattle.bpf_decode.specs.declared.rule_set.RuleSet.TheVariants.{One, Two, Three}
 use Rattle.bpf_machine.specs.declared.caps.Caps.{Caps}
 use Rattle.helpers.specs.declared.argument.Argument.{Argument}
 use Rattle.helpers.specs.declared.argument.Argument.TheVariants.{Number, OutputLength, Readable, Writable}
@@ -80,6 +82,16 @@ falls_off code p i = falls (goes_of i) && not (begins_at code (p + slot_count i)
 abbrev pub is_local_call : Insn → Bool
 is_local_call i = is_local (callee_of i)
 
+-- the greatest id of a helper of the rule set
+abbrev pub last_helper : RuleSet → ℕ
+last_helper One = 15
+last_helper Two = 15
+last_helper Three = 18
+
+-- what a helper takes, if the rule set has a helper of that id
+abbrev pub takes_of : RuleSet → ℕ → Option Takes
+takes_of rules helper = if nat_le helper (last_helper rules) then signature_of helper else None
+
 -- A helper's argument that it takes from register k on, and what may be wrong with it.
 abbrev pub has_fault : Caps → PlainFrame → Fault → Argument → ℕ → Bool
 has_fault caps f NotSet Number k = is_unset (kind_at f k)
@@ -118,9 +130,9 @@ abbrev pub taken_fault : Caps → PlainFrame → Fault → Option Takes → Bool
 taken_fault caps f fault None = false
 taken_fault caps f fault (Some takes) = some_fault caps f fault takes.arguments 1
 
--- an argument of the helper has the fault; an id that is no helper's takes none
-abbrev pub call_fault : Caps → PlainFrame → Fault → ℕ → Bool
-call_fault caps f fault helper = taken_fault caps f fault (signature_of helper)
+-- an argument of the helper has the fault; an id that is no helper's in the rule set takes none
+abbrev pub call_fault : RuleSet → Caps → PlainFrame → Fault → ℕ → Bool
+call_fault rules caps f fault helper = taken_fault caps f fault (takes_of rules helper)
 
 -- the first register of the range that a helper writes: no helper has two
 abbrev pub room_in : List Argument → ℕ → Option ℕ
@@ -143,25 +155,25 @@ abbrev pub room_of : Insn → Option ℕ
 room_of i = room_of_call (callee_of i)
 
 -- The tests of the facets: a helper that is called has an argument with the fault,
-abbrev pub asks : Caps → PlainFrame → Fault → Callee → Bool
-asks caps f fault callee.Nothing = false
-asks caps f fault (callee.Helper helper) = call_fault caps f fault helper
-asks caps f fault callee.Local = false
+abbrev pub asks : RuleSet → Caps → PlainFrame → Fault → Callee → Bool
+asks rules caps f fault callee.Nothing = false
+asks rules caps f fault (callee.Helper helper) = call_fault rules caps f fault helper
+asks rules caps f fault callee.Local = false
 
-abbrev pub is_unknown : Callee → Bool
-is_unknown callee.Nothing = false
-is_unknown (callee.Helper helper) = not (is_some (signature_of helper))
-is_unknown callee.Local = false
+abbrev pub is_unknown : RuleSet → Callee → Bool
+is_unknown rules callee.Nothing = false
+is_unknown rules (callee.Helper helper) = not (is_some (takes_of rules helper))
+is_unknown rules callee.Local = false
 
 abbrev pub writes_object : Option Takes → Bool
 writes_object None = false
 writes_object (Some takes) = takes.writes
 
 -- may change the object,
-abbrev pub may_write : Callee → Bool
-may_write callee.Nothing = false
-may_write (callee.Helper helper) = writes_object (signature_of helper)
-may_write callee.Local = false
+abbrev pub may_write : RuleSet → Callee → Bool
+may_write rules callee.Nothing = false
+may_write rules (callee.Helper helper) = writes_object (takes_of rules helper)
+may_write rules callee.Local = false
 
 abbrev pub operand_is_unset : PlainFrame → Operand → Bool
 operand_is_unset f (Immediate imm) = false
@@ -241,8 +253,8 @@ loads_pointer caps f (touches.Loads a) = not (is_slot f a) && load_meets Pointer
 loads_pointer caps f (touches.Stores a x) = false
 
 -- The rules of the frame.
-abbrev pub reads_unset : Caps → PlainFrame → Insn → Bool
-reads_unset caps f i = unset_among f (reads_of i) || (loads_unset caps f (touches_of i) || asks caps f NotSet (callee_of i))
+abbrev pub reads_unset : RuleSet → Caps → PlainFrame → Insn → Bool
+reads_unset rules caps f i = unset_among f (reads_of i) || (loads_unset caps f (touches_of i) || asks rules caps f NotSet (callee_of i))
 
 abbrev pub writes_r10 : Insn → Bool
 writes_r10 i = is_r10 (writes_of i)
@@ -257,28 +269,28 @@ abbrev pub stores_pointer : PlainFrame → Insn → Bool
 stores_pointer f i = stored_pointer f (touches_of i)
 
 -- a load, a store or a helper's range that may leave its region; a load or store through a number
-abbrev pub leaves_region : Caps → PlainFrame → Insn → Bool
-leaves_region caps f i = leaves caps f (touches_of i) || asks caps f OutOfRegion (callee_of i)
+abbrev pub leaves_region : RuleSet → Caps → PlainFrame → Insn → Bool
+leaves_region rules caps f i = leaves caps f (touches_of i) || asks rules caps f OutOfRegion (callee_of i)
 
-abbrev pub writes_read_only : Caps → PlainFrame → Insn → Bool
-writes_read_only caps f i = stores_read_only f (touches_of i) || asks caps f ReadOnly (callee_of i)
+abbrev pub writes_read_only : RuleSet → Caps → PlainFrame → Insn → Bool
+writes_read_only rules caps f i = stores_read_only f (touches_of i) || asks rules caps f ReadOnly (callee_of i)
 
-abbrev pub calls_unknown : Insn → Bool
-calls_unknown i = is_unknown (callee_of i)
+abbrev pub calls_unknown : RuleSet → Insn → Bool
+calls_unknown rules i = is_unknown rules (callee_of i)
 
-abbrev pub passes_wrong_kind : Caps → PlainFrame → Insn → Bool
-passes_wrong_kind caps f i = asks caps f WrongKind (callee_of i)
+abbrev pub passes_wrong_kind : RuleSet → Caps → PlainFrame → Insn → Bool
+passes_wrong_kind rules caps f i = asks rules caps f WrongKind (callee_of i)
 
 -- a helper that may change the object, in a method that may not
-abbrev pub writes_in_reader : Caps → Insn → Bool
-writes_in_reader caps i = may_write (callee_of i) && not caps.writes
+abbrev pub writes_in_reader : RuleSet → Caps → Insn → Bool
+writes_in_reader rules caps i = may_write rules (callee_of i) && not caps.writes
 
 abbrev pub returns_pointer : PlainFrame → Insn → Bool
 returns_pointer f i = answered_pointer f (uses_of i)
 
 -- a load of a part of a pointer, or a helper's range with one
-abbrev pub reads_pointer : Caps → PlainFrame → Insn → Bool
-reads_pointer caps f i = loads_pointer caps f (touches_of i) || asks caps f HasPointer (callee_of i)
+abbrev pub reads_pointer : RuleSet → Caps → PlainFrame → Insn → Bool
+reads_pointer rules caps f i = loads_pointer caps f (touches_of i) || asks rules caps f HasPointer (callee_of i)
 
 -- a test of the frame, where there is one
 abbrev pub under : Option PlainFrame → (PlainFrame → Bool) → Bool
@@ -295,25 +307,25 @@ breaks_shape code p i LocalCall = is_local_call i
 breaks_shape code p i rule = false
 
 -- and 5 to 15 and 17, of what is known before it
-abbrev pub breaks_frame : Caps → PlainFrame → Insn → Rule → Bool
-breaks_frame caps f i UnsetRead = reads_unset caps f i
-breaks_frame caps f i WritesR10 = writes_r10 i
-breaks_frame caps f i PointerArithmetic = computes_with_pointer f i
-breaks_frame caps f i PointerCompare = compares_pointer f i
-breaks_frame caps f i PointerStored = stores_pointer f i
-breaks_frame caps f i Bounds = leaves_region caps f i
-breaks_frame caps f i ReadOnlyRegion = writes_read_only caps f i
-breaks_frame caps f i UnknownHelper = calls_unknown i
-breaks_frame caps f i HelperArgument = passes_wrong_kind caps f i
-breaks_frame caps f i WriteHelperInReader = writes_in_reader caps i
-breaks_frame caps f i ReturnsPointer = returns_pointer f i
-breaks_frame caps f i PointerBytes = reads_pointer caps f i
-breaks_frame caps f i rule = false
+abbrev pub breaks_frame : RuleSet → Caps → PlainFrame → Insn → Rule → Bool
+breaks_frame rules caps f i UnsetRead = reads_unset rules caps f i
+breaks_frame rules caps f i WritesR10 = writes_r10 i
+breaks_frame rules caps f i PointerArithmetic = computes_with_pointer f i
+breaks_frame rules caps f i PointerCompare = compares_pointer f i
+breaks_frame rules caps f i PointerStored = stores_pointer f i
+breaks_frame rules caps f i Bounds = leaves_region rules caps f i
+breaks_frame rules caps f i ReadOnlyRegion = writes_read_only rules caps f i
+breaks_frame rules caps f i UnknownHelper = calls_unknown rules i
+breaks_frame rules caps f i HelperArgument = passes_wrong_kind rules caps f i
+breaks_frame rules caps f i WriteHelperInReader = writes_in_reader rules caps i
+breaks_frame rules caps f i ReturnsPointer = returns_pointer f i
+breaks_frame rules caps f i PointerBytes = reads_pointer rules caps f i
+breaks_frame rules caps f i rule = false
 
 -- whether a rule refuses instruction i at slot p, where there is such a frame
-abbrev pub breaks : Caps → List (Option Insn) → ℕ → Insn → Option PlainFrame → Rule → Bool
-breaks caps code p i None rule = breaks_shape code p i rule
-breaks caps code p i (Some f) rule = breaks_shape code p i rule || breaks_frame caps f i rule
+abbrev pub breaks : RuleSet → Caps → List (Option Insn) → ℕ → Insn → Option PlainFrame → Rule → Bool
+breaks rules caps code p i None rule = breaks_shape code p i rule
+breaks rules caps code p i (Some f) rule = breaks_shape code p i rule || breaks_frame rules caps f i rule
 
 abbrev pub shape_rules : List Rule
 shape_rules = Backward ∷ Target ∷ FallsOff ∷ LocalCall ∷ []
@@ -331,8 +343,8 @@ abbrev pub shape_rule : List (Option Insn) → ℕ → Insn → Option Rule
 shape_rule code p i = first_broken (breaks_shape code p i) shape_rules
 
 -- the lowest rule that refuses it under a frame
-abbrev pub frame_rule : Caps → PlainFrame → Insn → Option Rule
-frame_rule caps f i = first_broken (breaks_frame caps f i) frame_rules
+abbrev pub frame_rule : RuleSet → Caps → PlainFrame → Insn → Option Rule
+frame_rule rules caps f i = first_broken (breaks_frame rules caps f i) frame_rules
 
 abbrev pub else_under : Option Rule → Option PlainFrame → (PlainFrame → Option Rule) → Option Rule
 else_under (Some rule) frame rule_of = Some rule
@@ -340,5 +352,5 @@ else_under None None rule_of = None
 else_under None (Some f) rule_of = rule_of f
 
 -- the lowest rule that refuses an instruction at a slot
-abbrev pub rule_at : Caps → List (Option Insn) → ℕ → Insn → Option PlainFrame → Option Rule
-rule_at caps code p i frame = else_under (shape_rule code p i) frame (λ f. frame_rule caps f i)
+abbrev pub rule_at : RuleSet → Caps → List (Option Insn) → ℕ → Insn → Option PlainFrame → Option Rule
+rule_at rules caps code p i frame = else_under (shape_rule code p i) frame (λ f. frame_rule rules caps f i)

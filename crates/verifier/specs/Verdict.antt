@@ -17,6 +17,7 @@ use Rattle.abstract_regs.specs.Frame.{PlainFrame, join}
 use Rattle.abstract_regs.specs.Flow.{flow}
 use Rattle.verifier.specs.Frame.{entry}
 use Rattle.verifier.specs.Rules.{breaks, rule_at, room_of}
+use Rattle.verifier.specs.Answers.{answer_of}
 
 -- the frames of a method by slot, none where no flow comes
 abbrev pub Table : Type 0
@@ -45,11 +46,11 @@ unless_refused None flown inflow = flown
 unless_refused (Some rule) flown inflow = inflow
 
 -- and the flow from slot p more, of the instruction and the frame there
-abbrev pub flow_from : Caps → List (Option Insn) → ℕ → ℕ → Option Insn → Option PlainFrame → Option PlainFrame → Option PlainFrame
-flow_from caps code p q None frame inflow = inflow
-flow_from caps code p q (Some i) None inflow = inflow
-flow_from caps code p q (Some i) (Some f) inflow =
-    unless_refused (rule_at caps code p i (Some f)) (along (flow (room_of i) i p f) q inflow) inflow
+abbrev pub flow_from : RuleSet → Caps → List (Option Insn) → ℕ → ℕ → Option Insn → Option PlainFrame → Option PlainFrame → Option PlainFrame
+flow_from rules caps code p q None frame inflow = inflow
+flow_from rules caps code p q (Some i) None inflow = inflow
+flow_from rules caps code p q (Some i) (Some f) inflow =
+    unless_refused (rule_at rules caps code p i (Some f)) (along (flow (room_of i) (answer_of rules f i) i p f) q inflow) inflow
 
 -- what a method begins with, at slot 0
 abbrev pub start : RuleSet → Caps → ℕ → Option PlainFrame
@@ -59,7 +60,7 @@ start rules caps (suc q) = None
 -- the join of all that flows into slot q from the slots below n
 abbrev pub incoming : RuleSet → Caps → List (Option Insn) → Table → ℕ → ℕ → Option PlainFrame
 incoming rules caps code table q zero = start rules caps q
-incoming rules caps code table q (suc p) = flow_from caps code p q (fetch code p) (frame_at table p) (incoming rules caps code table q p)
+incoming rules caps code table q (suc p) = flow_from rules caps code p q (fetch code p) (frame_at table p) (incoming rules caps code table q p)
 
 -- The frames of the first n slots: each is the join of all that flows into its slot from lower
 -- slots.
@@ -87,14 +88,14 @@ or_else p None later = later
 or_else p (Some rule) later = Some (p, rule)
 
 -- the first slot from p on that a rule refuses, and the lowest such rule
-abbrev pub first_refused : Caps → List (Option Insn) → Table → ℕ → List (Option Insn) → Option (ℕ × Rule)
-first_refused caps code table p [] = None
-first_refused caps code table p (None ∷ rest) = first_refused caps code table (p + 1) rest
-first_refused caps code table p (Some i ∷ rest) =
-    or_else p (rule_at caps code p i (frame_at table p)) (first_refused caps code table (p + 1) rest)
+abbrev pub first_refused : RuleSet → Caps → List (Option Insn) → Table → ℕ → List (Option Insn) → Option (ℕ × Rule)
+first_refused rules caps code table p [] = None
+first_refused rules caps code table p (None ∷ rest) = first_refused rules caps code table (p + 1) rest
+first_refused rules caps code table p (Some i ∷ rest) =
+    or_else p (rule_at rules caps code p i (frame_at table p)) (first_refused rules caps code table (p + 1) rest)
 
 abbrev pub code_verdict : RuleSet → Caps → List (Option Insn) → Option (ℕ × Rule)
-code_verdict rules caps code = first_refused caps code (whole_table rules caps code) 0 code
+code_verdict rules caps code = first_refused rules caps code (whole_table rules caps code) 0 code
 
 -- Where the code is first refused: the slot and the lowest rule, the slot's instruction, and the
 -- frame before it.
@@ -133,7 +134,7 @@ FirstSetHasFewerRules = (c : Class) (r : Refusal) → c.rules ≡ One → class_
 pub record Refuses (rules : RuleSet) (m : ClassMethod) (slot : ℕ) (rule : Rule) : Type 0 where
   pub insn : Insn
   pub there : fetch (slots m.instructions) slot ≡ Some insn
-  pub refused : breaks (caps_of m) (slots m.instructions) slot insn (frame_at (whole_table rules (caps_of m) (slots m.instructions)) slot) rule ≡ true
+  pub refused : breaks rules (caps_of m) (slots m.instructions) slot insn (frame_at (whole_table rules (caps_of m) (slots m.instructions)) slot) rule ≡ true
 
 -- A refusal's rule refuses the instruction at its slot of its method.
 pub record IsDeserved (c : Class) (r : Refusal) : Type 0 where

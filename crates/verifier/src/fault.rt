@@ -4,8 +4,9 @@ ghost use Rattle.verifier.specs.Rules.{has_fault, register_count, some_fault, ca
 
 use crate::facets::{Callee, callee_of};
 use crate::kind_rules::{is_at_most, range_is_read_only, range_leaves};
+use crate::known::known_signature;
 use abstract_regs::{Content, Frame, Kind};
-use bpf_decode::Insn;
+use bpf_decode::{Insn, RuleSet};
 use bpf_machine::Caps;
 use helpers::{Argument, signature};
 
@@ -20,11 +21,12 @@ pub enum Fault {
 }
 
 impl Fault {
-    /// True if an argument of the helper has this fault. An id that is no helper's takes none.
-    pub fn is_in_call(self, caps: &Caps, frame: &Frame, helper: u32) -> bool
-        ensures { result ≡ call_fault caps.now frame.now self helper }
+    /// True if an argument of the helper has this fault. An id that is no helper's in the rule set
+    /// takes none.
+    pub fn is_in_call(self, rules: RuleSet, caps: &Caps, frame: &Frame, helper: u32) -> bool
+        ensures { result ≡ call_fault rules caps.now frame.now self helper }
     {
-        match signature(helper) {
+        match known_signature(rules, helper) {
             None => false,
             Some(takes) => self.is_in_some(caps, frame, takes.arguments, 1),
         }
@@ -98,7 +100,7 @@ pub fn room(insn: &Insn) -> Option<u8>
     }
 }
 
-fn room_in(arguments: &[Argument], register: u8) -> Option<u8>
+pub(crate) fn room_in(arguments: &[Argument], register: u8) -> Option<u8>
     requires { register + length arguments.now + length arguments.now < 100 }
     ensures { result ≡ room_in arguments.now register }
 {

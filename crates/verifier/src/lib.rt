@@ -6,11 +6,13 @@
 //! `VerifiedClass`, which keeps the operations that a run executes, and that its methods are safe.
 #![tactic(auto)]
 
+mod answer;
 mod class;
 mod facets;
 mod fault;
 mod kept;
 mod kind_rules;
+mod known;
 mod laws;
 mod method;
 mod pass;

@@ -2,18 +2,20 @@ ghost use Rattle.std.specs.Prelude.{◌≡◌, ◌+◌, ◌<◌, ◌^◌, length
 ghost use Rattle.bpf_machine.specs.Typed.{fetch};
 ghost use Rattle.verifier.specs.Rules.{rule_at};
 ghost use Rattle.verifier.specs.Verdict.{IsFirstRefused, code_verdict, frame_at, whole_table};
-ghost use Rattle.verifier.specs.Frame.{known_slots, entry};
+ghost use Rattle.verifier.specs.Frame.{entry};
 ghost use Rattle.verifier.specs.inner.Kept.{unbox};
 ghost use Rattle.verifier.specs.inner.Pass.{IsSpaced, awaited, HasLeft, IsSound, AllSound};
 
+use crate::answer::answer;
 use crate::fault::room;
 use crate::kept::PendingFrames;
+use crate::known::frame_slots;
 use crate::refused::RefusedSlot;
 use crate::rule::Rule;
 use crate::rules::refusing_rule;
 use abstract_regs::{Edges, Frame, Kinds};
 use bpf_decode::{Insn, Region, RuleSet, width};
-use bpf_machine::{Caps, STACK_SIZE};
+use bpf_machine::Caps;
 use std::alloc::{AllocError, Global};
 
 /// The flows of a pass over a method into the slots to come: one frame, which is changed in place
@@ -44,21 +46,6 @@ pub fn first_refusal(
 {
     let mut pass = Pass::new(alloc, rules, caps, code.len())?;
     pass.run(alloc, rules, caps, code)
-}
-
-/// The stack's slots of eight bytes.
-const STACK_SLOTS: usize = STACK_SIZE / 8;
-
-/// The number of stack slots that frames know.
-fn frame_slots(rules: RuleSet) -> usize
-    ensures { result ≡ known_slots rules }
-{
-    match rules {
-        // Knowing no slots is all that sets rule set 1 apart, so that one definition of frames and
-        // rules serves both.
-        RuleSet::One => 0,
-        RuleSet::Two => STACK_SLOTS,
-    }
 }
 
 /// The same slot and rule, with the slot's instruction and what is known before it. It costs the
@@ -148,7 +135,7 @@ impl Pass {
     {
         for (slot, begun) in code.iter().enumerate() {
             if let Some(insn) = begun {
-                if let Some(rule) = self.visit(alloc, caps, code, slot, insn)? {
+                if let Some(rule) = self.visit(alloc, rules, caps, code, slot, insn)? {
                     return Ok(Some((slot, rule)));
                 }
             }
@@ -160,21 +147,22 @@ impl Pass {
     fn visit(
         &mut self,
         alloc: Global,
+        rules: RuleSet,
         caps: &Caps,
         code: &[Option<Insn>],
         slot: usize,
         insn: &Insn,
     ) -> Result<Option<Rule>, AllocError>
         requires { slot < 2 ^ 62 }
-        ensures rule { IfOk result (λ r. r ≡ rule_at caps.now code.now slot insn.now (awaited self.old slot)) }
-        ensures left { IfOk result (λ r. (r ≡ None) → HasLeft (awaited self.old slot) (slice_set self.old.kept slot None) insn.now slot self.new) }
-        ensures sound { IfOk result (λ r. (r ≡ None) → IsSound insn.now slot (awaited self.old slot)) }
+        ensures rule { IfOk result (λ r. r ≡ rule_at rules caps.now code.now slot insn.now (awaited self.old slot)) }
+        ensures left { IfOk result (λ r. (r ≡ None) → HasLeft rules (awaited self.old slot) (slice_set self.old.kept slot None) insn.now slot self.new) }
+        ensures sound { IfOk result (λ r. (r ≡ None) → IsSound rules insn.now slot (awaited self.old slot)) }
         ensures stopped { IfOk result (λ r. IfSome r (λ _. unbox self.new.current ≡ awaited self.old slot)) }
     {
         self.arrive(slot);
-        let refused = refusing_rule(caps, code, slot, insn, &self.current);
+        let refused = refusing_rule(rules, caps, code, slot, insn, &self.current);
         if let None = refused {
-            self.leave(alloc, slot, insn)?;
+            self.leave(alloc, rules, slot, insn)?;
         }
         Ok(refused)
     }
@@ -199,14 +187,21 @@ impl Pass {
     }
 
     /// Goes on from a slot, whose instruction no rule refuses.
-    fn leave(&mut self, alloc: Global, slot: usize, insn: &Insn) -> Result<(), AllocError>
+    fn leave(
+        &mut self,
+        alloc: Global,
+        rules: RuleSet,
+        slot: usize,
+        insn: &Insn,
+    ) -> Result<(), AllocError>
         requires { slot < 2 ^ 62 }
-        ensures left { IfOk result (λ _. HasLeft (unbox self.old.current) self.old.kept insn.now slot self.new) }
-        ensures sound { IfOk result (λ _. IsSound insn.now slot (unbox self.old.current)) }
+        ensures left { IfOk result (λ _. HasLeft rules (unbox self.old.current) self.old.kept insn.now slot self.new) }
+        ensures sound { IfOk result (λ _. IsSound rules insn.now slot (unbox self.old.current)) }
     {
         self.landing = slot + width(insn);
         if let Some(mut frame) = self.current.take() {
-            match frame.flow(room(insn), insn, slot, &mut self.fallen) {
+            let answer = answer(rules, &frame, insn);
+            match frame.flow(room(insn), &answer, insn, slot, &mut self.fallen) {
                 Edges::Leaves => self.kept.reuse(Some(frame)),
                 Edges::Falls => self.current = Some(frame),
                 Edges::Jumps(target) => self.kept.give(target, frame),

@@ -12,15 +12,16 @@ use crate::facets::{
 };
 use crate::fault::Fault;
 use crate::kind_rules;
+use crate::known::known_signature;
 use crate::rule::Rule;
 use abstract_regs::{Content, Frame};
-use bpf_decode::{Insn, Operand, Register, jump_target, width};
+use bpf_decode::{Insn, Operand, Register, RuleSet, jump_target, width};
 use bpf_machine::Caps;
-use helpers::signature;
 
 /// The lowest rule that refuses the instruction at a slot; rules 5 to 15 and 17 under a frame
 /// alone.
 pub fn refusing_rule(
+    rules: RuleSet,
     caps: &Caps,
     code: &[Option<Insn>],
     slot: usize,
@@ -28,13 +29,13 @@ pub fn refusing_rule(
     frame: &Option<Box<Frame>>,
 ) -> Option<Rule>
     requires { slot < 2 ^ 62 }
-    ensures { result ≡ rule_at caps.now code.now slot insn.now (unbox frame.now) }
+    ensures { result ≡ rule_at rules caps.now code.now slot insn.now (unbox frame.now) }
 {
     match shape_rule(code, slot, insn) {
         Some(rule) => Some(rule),
         None => match frame {
             None => None,
-            Some(frame) => frame_rule(caps, frame, insn),
+            Some(frame) => frame_rule(rules, caps, frame, insn),
         },
     }
 }
@@ -58,11 +59,11 @@ fn shape_rule(code: &[Option<Insn>], slot: usize, insn: &Insn) -> Option<Rule>
 }
 
 /// The lowest of rules 5 to 15 and 17 that refuses the instruction under a frame.
-fn frame_rule(caps: &Caps, frame: &Frame, insn: &Insn) -> Option<Rule>
-    ensures { result ≡ frame_rule caps.now frame.now insn.now }
+fn frame_rule(rules: RuleSet, caps: &Caps, frame: &Frame, insn: &Insn) -> Option<Rule>
+    ensures { result ≡ frame_rule rules caps.now frame.now insn.now }
 {
     // In the order of the rules' numbers: the lowest rule is the refusal.
-    if reads_unset(caps, frame, insn) {
+    if reads_unset(rules, caps, frame, insn) {
         Some(Rule::UnsetRead)
     } else if writes_r10(insn) {
         Some(Rule::WritesR10)
@@ -72,19 +73,19 @@ fn frame_rule(caps: &Caps, frame: &Frame, insn: &Insn) -> Option<Rule>
         Some(Rule::PointerCompare)
     } else if stores_pointer(frame, insn) {
         Some(Rule::PointerStored)
-    } else if leaves_region(caps, frame, insn) {
+    } else if leaves_region(rules, caps, frame, insn) {
         Some(Rule::Bounds)
-    } else if writes_read_only(caps, frame, insn) {
+    } else if writes_read_only(rules, caps, frame, insn) {
         Some(Rule::ReadOnlyRegion)
-    } else if calls_unknown(insn) {
+    } else if calls_unknown(rules, insn) {
         Some(Rule::UnknownHelper)
-    } else if passes_wrong_kind(caps, frame, insn) {
+    } else if passes_wrong_kind(rules, caps, frame, insn) {
         Some(Rule::HelperArgument)
-    } else if writes_in_reader(caps, insn) {
+    } else if writes_in_reader(rules, caps, insn) {
         Some(Rule::WriteHelperInReader)
     } else if returns_pointer(frame, insn) {
         Some(Rule::ReturnsPointer)
-    } else if reads_pointer(caps, frame, insn) {
+    } else if reads_pointer(rules, caps, frame, insn) {
         Some(Rule::PointerBytes)
     } else {
         None
@@ -148,23 +149,23 @@ fn is_local_call(insn: &Insn) -> bool
 
 /// True if it calls a helper, and an argument has the fault.
 #[inline(always)]
-fn asks(caps: &Caps, frame: &Frame, fault: Fault, insn: &Insn) -> bool
-    ensures { result ≡ asks caps.now frame.now fault (callee_of insn.now) }
+fn asks(rules: RuleSet, caps: &Caps, frame: &Frame, fault: Fault, insn: &Insn) -> bool
+    ensures { result ≡ asks rules caps.now frame.now fault (callee_of insn.now) }
 {
     match callee_of(insn) {
-        Callee::Helper(helper) => fault.is_in_call(caps, frame, helper),
+        Callee::Helper(helper) => fault.is_in_call(rules, caps, frame, helper),
         Callee::Nothing | Callee::Local => false,
     }
 }
 
 /// True if it reads something unset: a register, a slot of the stack or a helper's argument.
 #[inline(always)]
-fn reads_unset(caps: &Caps, frame: &Frame, insn: &Insn) -> bool
-    ensures { result ≡ reads_unset caps.now frame.now insn.now }
+fn reads_unset(rules: RuleSet, caps: &Caps, frame: &Frame, insn: &Insn) -> bool
+    ensures { result ≡ reads_unset rules caps.now frame.now insn.now }
 {
     is_unset_among(frame, reads_of(insn))
         || loads_unset(caps, frame, touches_of(insn))
-        || asks(caps, frame, Fault::NotSet, insn)
+        || asks(rules, caps, frame, Fault::NotSet, insn)
 }
 
 #[inline(always)]
@@ -262,10 +263,10 @@ fn stores_pointer(frame: &Frame, insn: &Insn) -> bool
 
 /// True if memory that it reads or writes may leave its region.
 #[inline(always)]
-fn leaves_region(caps: &Caps, frame: &Frame, insn: &Insn) -> bool
-    ensures { result ≡ leaves_region caps.now frame.now insn.now }
+fn leaves_region(rules: RuleSet, caps: &Caps, frame: &Frame, insn: &Insn) -> bool
+    ensures { result ≡ leaves_region rules caps.now frame.now insn.now }
 {
-    leaves(caps, frame, touches_of(insn)) || asks(caps, frame, Fault::OutOfRegion, insn)
+    leaves(caps, frame, touches_of(insn)) || asks(rules, caps, frame, Fault::OutOfRegion, insn)
 }
 
 #[inline(always)]
@@ -289,10 +290,10 @@ fn access_leaves(caps: &Caps, frame: &Frame, access: &Access) -> bool
 
 /// True if it writes into the region that is read only.
 #[inline(always)]
-fn writes_read_only(caps: &Caps, frame: &Frame, insn: &Insn) -> bool
-    ensures { result ≡ writes_read_only caps.now frame.now insn.now }
+fn writes_read_only(rules: RuleSet, caps: &Caps, frame: &Frame, insn: &Insn) -> bool
+    ensures { result ≡ writes_read_only rules caps.now frame.now insn.now }
 {
-    stores_read_only(frame, touches_of(insn)) || asks(caps, frame, Fault::ReadOnly, insn)
+    stores_read_only(frame, touches_of(insn)) || asks(rules, caps, frame, Fault::ReadOnly, insn)
 }
 
 #[inline(always)]
@@ -305,38 +306,38 @@ fn stores_read_only(frame: &Frame, touches: Touches) -> bool
     }
 }
 
-/// True if it calls an id that is no helper's.
+/// True if it calls an id that is no helper's in the rule set.
 #[inline(always)]
-fn calls_unknown(insn: &Insn) -> bool
-    ensures { result ≡ calls_unknown insn.now }
+fn calls_unknown(rules: RuleSet, insn: &Insn) -> bool
+    ensures { result ≡ calls_unknown rules insn.now }
 {
     match callee_of(insn) {
-        Callee::Helper(helper) => signature(helper).is_none(),
+        Callee::Helper(helper) => known_signature(rules, helper).is_none(),
         Callee::Nothing | Callee::Local => false,
     }
 }
 
 /// True if it gives a helper an argument of the wrong kind.
-fn passes_wrong_kind(caps: &Caps, frame: &Frame, insn: &Insn) -> bool
-    ensures { result ≡ passes_wrong_kind caps.now frame.now insn.now }
+fn passes_wrong_kind(rules: RuleSet, caps: &Caps, frame: &Frame, insn: &Insn) -> bool
+    ensures { result ≡ passes_wrong_kind rules caps.now frame.now insn.now }
 {
-    asks(caps, frame, Fault::WrongKind, insn)
+    asks(rules, caps, frame, Fault::WrongKind, insn)
 }
 
 /// True if it calls a helper that may change the object, in a method that may not.
 #[inline(always)]
-fn writes_in_reader(caps: &Caps, insn: &Insn) -> bool
-    ensures { result ≡ writes_in_reader caps.now insn.now }
+fn writes_in_reader(rules: RuleSet, caps: &Caps, insn: &Insn) -> bool
+    ensures { result ≡ writes_in_reader rules caps.now insn.now }
 {
-    may_write(callee_of(insn)) && !caps.writes
+    may_write(rules, callee_of(insn)) && !caps.writes
 }
 
 #[inline(always)]
-fn may_write(callee: Callee) -> bool
-    ensures { result ≡ may_write callee }
+fn may_write(rules: RuleSet, callee: Callee) -> bool
+    ensures { result ≡ may_write rules callee }
 {
     match callee {
-        Callee::Helper(helper) => match signature(helper) {
+        Callee::Helper(helper) => match known_signature(rules, helper) {
             None => false,
             Some(takes) => takes.writes,
         },
@@ -357,10 +358,11 @@ fn returns_pointer(frame: &Frame, insn: &Insn) -> bool
 }
 
 /// True if it reads a part of a pointer in the stack.
-fn reads_pointer(caps: &Caps, frame: &Frame, insn: &Insn) -> bool
-    ensures { result ≡ reads_pointer caps.now frame.now insn.now }
+fn reads_pointer(rules: RuleSet, caps: &Caps, frame: &Frame, insn: &Insn) -> bool
+    ensures { result ≡ reads_pointer rules caps.now frame.now insn.now }
 {
-    loads_pointer(caps, frame, touches_of(insn)) || asks(caps, frame, Fault::HasPointer, insn)
+    loads_pointer(caps, frame, touches_of(insn))
+        || asks(rules, caps, frame, Fault::HasPointer, insn)
 }
 
 /// True if it is a load, not of one whole known slot, that may read a part of a pointer.

@@ -12,6 +12,7 @@ use Rattle.abstract_regs.specs.Moves.{EachFits, Keeps}
 use Rattle.verifier.specs.declared.pass.Pass.{Pass}
 use Rattle.bpf_machine.specs.declared.caps.Caps.{Caps}
 use Rattle.verifier.specs.Rules.{room_of}
+use Rattle.verifier.specs.Answers.{answer_of}
 use Rattle.verifier.specs.inner.Kept.{unbox}
 use Rattle.verifier.specs.Verdict.{Table, frame_at, joined, met, along, whole_table}
 
@@ -28,28 +29,28 @@ abbrev pub awaited : Pass → ℕ → Option PlainFrame
 awaited pass q = fallen (unbox pass.current) pass.landing q (frame_at pass.kept q)
 
 -- the flows of an instruction whose frame is given, if there is one
-abbrev pub flown : Option PlainFrame → Insn → ℕ → ℕ → Option PlainFrame → Option PlainFrame
-flown None i p q inflow = inflow
-flown (Some f) i p q inflow = along (flow (room_of i) i p f) q inflow
+abbrev pub flown : RuleSet → Option PlainFrame → Insn → ℕ → ℕ → Option PlainFrame → Option PlainFrame
+flown rules None i p q inflow = inflow
+flown rules (Some f) i p q inflow = along (flow (room_of i) (answer_of rules f i) i p f) q inflow
 
 -- what the pass has once instruction i at slot p, whose frame is given, has flowed on
-pub record HasLeft (frame : Option PlainFrame) (kept : Table) (i : Insn) (p : ℕ) (pass : Pass) : Type 0 where
+pub record HasLeft (rules : RuleSet) (frame : Option PlainFrame) (kept : Table) (i : Insn) (p : ℕ) (pass : Pass) : Type 0 where
   pub landing : pass.landing ≡ p + slot_count i
   pub size : length pass.kept ≡ length kept
-  pub flows : (q : ℕ) → q < length kept → awaited pass q ≡ flown frame i p q (frame_at kept q)
+  pub flows : (q : ℕ) → q < length kept → awaited pass q ≡ flown rules frame i p q (frame_at kept q)
 
 -- what the flow of instruction i at slot p keeps, of a frame that is given, if there is one
-pub record Sound (i : Insn) (p : ℕ) (f : PlainFrame) : Type 0 where
-  pub keeps : Keeps (room_of i) i p f
+pub record Sound (rules : RuleSet) (i : Insn) (p : ℕ) (f : PlainFrame) : Type 0 where
+  pub keeps : Keeps (room_of i) (answer_of rules f i) i p f
   pub fits : EachFits f.registers
 
-abbrev pub IsSound : Insn → ℕ → Option PlainFrame → Type 0
-IsSound i p None = Unit {0}
-IsSound i p (Some f) = Sound i p f
+abbrev pub IsSound : RuleSet → Insn → ℕ → Option PlainFrame → Type 0
+IsSound rules i p None = Unit {0}
+IsSound rules i p (Some f) = Sound rules i p f
 
 -- every flow of a method keeps what its frame holds
 abbrev pub AllSound : RuleSet → Caps → List (Option Insn) → Type 0
-AllSound rules caps code = (p : ℕ) (i : Insn) → fetch code p ≡ Some i → IsSound i p (frame_at (whole_table rules caps code) p)
+AllSound rules caps code = (p : ℕ) (i : Insn) → fetch code p ≡ Some i → IsSound rules i p (frame_at (whole_table rules caps code) p)
 
 -- no instruction begins within another
 abbrev pub IsSpaced : List (Option Insn) → Type 0

@@ -45,7 +45,7 @@ loop-slot-preserved c = elim c.match-begun.branch [
       let fetched = ap (λ o. o >>= λ i. i) at in
       let left = w.in_ok-rule.ensures.left w.in_default-2.is in
       let its = its_frame c.args.rules caps code slot pass lt c.loop-slot.invariant.brought in
-      let sound = subst (IsSound w.in-Some.insn slot) its (w.in_ok-rule.ensures.sound w.in_default-2.is) in
+      let sound = subst (IsSound c.args.rules w.in-Some.insn slot) its (w.in_ok-rule.ensures.sound w.in_default-2.is) in
       record {
         sound = sound_more c.args.rules caps code slot w.in-Some.insn c.loop-slot.invariant.sound fetched sound;
         rest = sym (refused_at c.args.rules caps code slot w.in-Some.insn pass None lt at c.loop-slot.invariant.brought rule) ∙ c.loop-slot.invariant.rest;
