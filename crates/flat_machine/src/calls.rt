@@ -10,7 +10,7 @@ use crate::state::{FlatState, answer};
 use bpf_machine::Caps;
 use changes::{create, map_rm, map_set, rmxattr, setxattr, truncate, write};
 use helpers::{Helper, signature};
-use reads::{getxattr, map_get, map_next, out_len, read};
+use reads::{compare, copy, getxattr, map_get, map_next, out_len, read, xattr_next};
 use std::alloc::Global;
 use txn::NoMemory;
 
@@ -38,6 +38,9 @@ fn help_by(alloc: Global, helper: Helper, s: &mut FlatState) -> Result<Option<u6
         Helper::OutLen => Ok(out_len(s)),
         Helper::Create => Ok(create(s)),
         Helper::Caller => Ok(Some(helpers::caller(s.caller))),
+        Helper::Compare => Ok(compare(s)),
+        Helper::Copy => copy(alloc, s),
+        Helper::XattrNext => Ok(xattr_next(s)),
     }
 }
 

@@ -1,6 +1,5 @@
-ghost use Rattle.std.specs.Prelude.{◌≡◌, ◌+◌, ◌<◌, ◌≤◌, [], ◌∷◌, length, IfSome};
+ghost use Rattle.std.specs.Prelude.{◌≡◌, ◌+◌, ◌<◌, ◌≤◌, [], ◌∷◌, IfSome};
 ghost use Rattle.std.specs.Option.{option_map};
-ghost use Rattle.object_store.specs.declared.limits.TheConstants.{VALUE_LIMIT};
 ghost use Rattle.bpf_machine.specs.State.{size};
 ghost use Rattle.bpf_machine.specs.Helper.{nothing_given, with_number, with_text, with_room, bytes_in};
 ghost use Rattle.bpf_machine.specs.Flat.{arguments};
@@ -23,8 +22,7 @@ pub struct Range {
 
 /// The bytes of a range.
 pub fn text_in(memory: &Regions, text: Range) -> &[u8]
-    ensures bytes { result.now ≡ bytes_in (memory_of memory.now) text.place text.len }
-    ensures short { length result.now ≤ VALUE_LIMIT }
+    ensures { result.now ≡ bytes_in (memory_of memory.now) text.place text.len }
 {
     match text.place {
         None => &[],
@@ -71,8 +69,8 @@ pub fn one_text(s: &FlatState) -> Option<Range>
     range_at(s, false, 1)
 }
 
-/// The arguments of `getxattr`, `map_get` and `map_next`: the range of a name, and one for the
-/// bytes found.
+/// The arguments of `getxattr`, `map_get`, `map_next` and `xattr_next`: the range of a name, and one
+/// for the bytes found.
 pub fn text_and_room(s: &FlatState) -> Option<(Range, Range)>
     ensures given { option_map (λ r. with_text (bytes_in (flat_state s.now).memory r.0.place r.0.len) (with_room r.1.len r.1.place (nothing_given s.now.caller))) result ≡ arguments (caps_in s.now) (layout_in s.now) (flat_state s.now) (Argument.Readable ∷ Argument.Writable ∷ []) 1 }
     ensures inside { IfSome result (λ r. IfSome r.1.place (λ p. p.1 + r.1.len ≤ size (caps_in s.now) p.0)) }
@@ -82,7 +80,17 @@ pub fn text_and_room(s: &FlatState) -> Option<(Range, Range)>
     Some((text, room))
 }
 
-/// The arguments of `setxattr` and `map_set`: the ranges of a name and of its value.
+/// The arguments of `copy`: a range, and that of the bytes that are copied to it.
+pub fn room_and_text(s: &FlatState) -> Option<(Range, Range)>
+    ensures given { option_map (λ r. with_room r.0.len r.0.place (with_text (bytes_in (flat_state s.now).memory r.1.place r.1.len) (nothing_given s.now.caller))) result ≡ arguments (caps_in s.now) (layout_in s.now) (flat_state s.now) (Argument.Writable ∷ Argument.Readable ∷ []) 1 }
+    ensures inside { IfSome result (λ r. IfSome r.0.place (λ p. p.1 + r.0.len ≤ size (caps_in s.now) p.0)) }
+{
+    let room = range_at(s, true, 1)?;
+    let text = range_at(s, false, 3)?;
+    Some((room, text))
+}
+
+/// The arguments of `setxattr`, `map_set` and `compare`: two ranges.
 pub fn two_texts(s: &FlatState) -> Option<(Range, Range)>
     ensures { option_map (λ r. with_text (bytes_in (flat_state s.now).memory r.0.place r.0.len) (with_text (bytes_in (flat_state s.now).memory r.1.place r.1.len) (nothing_given s.now.caller))) result ≡ arguments (caps_in s.now) (layout_in s.now) (flat_state s.now) (Argument.Readable ∷ Argument.Readable ∷ []) 1 }
 {

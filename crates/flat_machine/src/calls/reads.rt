@@ -1,15 +1,18 @@
-ghost use Rattle.std.specs.Prelude.{◌≡◌, ◌+◌, ◌≤◌, ◌<◌, length};
+ghost use Rattle.std.specs.Prelude.{◌≡◌, ◌+◌, ◌≤◌, ◌<◌, length, IfOk};
 ghost use Rattle.helpers.specs.Table.{read_answer};
 ghost use Rattle.bpf_machine.specs.State.{written, put, size};
 ghost use Rattle.flat_machine.specs.inner.FlatState.{memory_of, caps_in, layout_in, flat_state, Answers, helped};
 
-use crate::calls::arguments::{Range, number_and_room, text_and_room, text_in};
+use crate::calls::arguments::{
+    Range, number_and_room, room_and_text, text_and_room, text_in, two_texts,
+};
 use crate::memory::put_room;
 use crate::regions::Regions;
 use crate::state::{FlatState, get};
 use bpf_decode::Region;
 use helpers::{Helper, Span};
-use txn::Staged;
+use std::alloc::Global;
+use txn::{NoMemory, Staged};
 
 /// The object's bytes from a place on, read over those at a place; and the answer of `read`.
 fn read_over(staged: &Staged, at: u64, bytes: &mut Vec<u8>, room: Span) -> u64
@@ -103,4 +106,42 @@ pub fn out_len(s: &mut FlatState) -> Option<u64>
         return None;
     }
     Some(helpers::out_len(&mut s.out_len, n))
+}
+
+/// Helper 16, `compare`: compares the bytes of two ranges.
+pub fn compare(s: &FlatState) -> Option<u64>
+    ensures { Answers result (flat_state s.now) (helped (caps_in s.now) (layout_in s.now) Helper.Compare (flat_state s.now)) }
+{
+    let (left, right) = two_texts(s)?;
+    Some(helpers::compared(text_in(&s.memory, left), text_in(&s.memory, right)))
+}
+
+/// Helper 17, `copy`: copies a range's bytes into a range.
+pub fn copy(alloc: Global, s: &mut FlatState) -> Result<Option<u64>, NoMemory>
+    ensures helped { IfOk result (λ o. Answers o (flat_state s.new) (helped (caps_in s.old) (layout_in s.old) Helper.Copy (flat_state s.old))) }
+    ensures slot { s.new.slot ≡ s.old.slot }
+    ensures machine { s.new.memory.machine ≡ s.old.memory.machine }
+{
+    match room_and_text(s) {
+        None => Ok(None),
+        Some((room, text)) => {
+            // A copy of the bytes, since both ranges may lie in one region.
+            let bytes = Vec::from_slice(alloc, text_in(&s.memory, text))?;
+            let found = helpers::copied(&bytes, room.len);
+            put_room(&mut s.memory, room.place, found.bytes);
+            Ok(Some(found.number))
+        }
+    }
+}
+
+/// Helper 18, `xattr_next`: copies the least name of an xattr above a range's bytes into a range.
+pub fn xattr_next(s: &mut FlatState) -> Option<u64>
+    ensures helped { Answers result (flat_state s.new) (helped (caps_in s.old) (layout_in s.old) Helper.XattrNext (flat_state s.old)) }
+    ensures slot { s.new.slot ≡ s.old.slot }
+    ensures machine { s.new.memory.machine ≡ s.old.memory.machine }
+{
+    let (name, room) = text_and_room(s)?;
+    let found = helpers::xattr_above(&s.object, text_in(&s.memory, name), room.len);
+    put_room(&mut s.memory, room.place, found.bytes);
+    Some(found.number)
 }
