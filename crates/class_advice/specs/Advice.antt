@@ -3,6 +3,8 @@ use Rattle.std.specs.Prelude.{ℕ, ◌-◌, nat_lt, Bool, true, false, List, [],
 use Rattle.std.specs.Fmt.{decimal}
 use Rattle.bpf_decode.specs.declared.region.Region.{Region}
 use Rattle.bpf_decode.specs.declared.region.Region.TheVariants.{Input, Output, Stack}
+use Rattle.bpf_decode.specs.declared.rule_set.RuleSet.{RuleSet}
+use Rattle.bpf_decode.specs.declared.rule_set.RuleSet.TheVariants.{One, Two, Three}
 use Rattle.class_advice.specs.Known.{region_text}
 use Rattle.class_advice.specs.declared.advice.Advice.{Advice}
 use Rattle.class_advice.specs.declared.advice.Advice.TheVariants.{Forward, CountSlots, EndByExit, Inline, Unset, StoreWhole, CopyOfR10, NumbersFirst, NeverNull, TakeRules, AtMultiple, NoPlace, Outside, Length, Place, ReadOnlyStore, ReadOnlyRange, HelpersOnly, TakesNumber, TakesPointer, OutLength, MayWrite, CodeIsNumber, LoadWhole, PassNoPointer}
@@ -13,6 +15,12 @@ use Rattle.class_advice.specs.declared.advice.Last.TheVariants as last
 
 abbrev pub register_text : ℕ → List ℕ
 register_text r = codes "r" ++ decimal r
+
+-- which ids are helpers
+abbrev pub helpers_only : RuleSet → List ℕ
+helpers_only One = codes "  the helpers are 1 to 15, and with `.rules 3` to 18; a function of your own is written where it is called\n"
+helpers_only Two = codes "  the helpers are 1 to 15, and with `.rules 3` to 18; a function of your own is written where it is called\n"
+helpers_only Three = codes "  the helpers are 1 to 18; a function of your own is written where it is called\n"
 
 -- an offset in a region
 unfoldable pub place_text : Region → ℕ → List ℕ
@@ -87,7 +95,7 @@ advice_text (Length range) = length_text range
 advice_text (Place r region at most) = codes "  " ++ register_text r ++ codes " may be " ++ place_text region at ++ codes ": at most " ++ place_text region most ++ codes " for the range\n" ++ move_text r true region
 advice_text (ReadOnlyStore r) = codes "  " ++ register_text r ++ codes " points to the input, which is read only: store to the output or the stack\n"
 advice_text (ReadOnlyRange r) = codes "  the call writes where " ++ register_text r ++ codes " points, and the input is read only: give it the output or the stack\n"
-advice_text HelpersOnly = codes "  the helpers are 1 to 15; a function of your own is written where it is called\n"
+advice_text (HelpersOnly rules) = helpers_only rules
 advice_text (TakesNumber r) = codes "  " ++ register_text r ++ codes " takes a number\n"
 advice_text (TakesPointer r) =
     codes "  " ++ register_text r ++ codes " takes a pointer, made of r1 (input), r3 (output) or r10 (stack): a string is written to the stack, as `stdw [r10-8], 7` and `mov r1, r10`, `add r1, -8`\n"

@@ -12,7 +12,7 @@ use Rattle.bpf_decode.specs.declared.insn.Insn.{Insn}
 use Rattle.bpf_decode.specs.declared.insn.Insn.TheVariants.{Load, LoadSigned, Store, Call}
 use Rattle.bpf_decode.specs.declared.region.Region.{Region}
 use Rattle.bpf_decode.specs.declared.rule_set.RuleSet.{RuleSet}
-use Rattle.bpf_decode.specs.declared.rule_set.RuleSet.TheVariants.{One, Two}
+use Rattle.bpf_decode.specs.declared.rule_set.RuleSet.TheVariants.{One, Two, Three}
 use Rattle.bpf_machine.specs.State.{size}
 use Rattle.bpf_machine.specs.declared.caps.Caps.{Caps}
 use Rattle.helpers.specs.Effect.{Takes}
@@ -160,6 +160,7 @@ part_of (Some helper) = advice.PassNoPointer
 abbrev pub stored_by : RuleSet → Advice
 stored_by One = advice.TakeRules
 stored_by Two = advice.AtMultiple
+stored_by Three = advice.AtMultiple
 
 -- rules 5 and up, by the state before instruction i at a slot of the instructions
 abbrev pub known_advice : RuleSet → Rule → List Insn → ℕ → Caps → PlainFrame → Insn → Option Advice
@@ -170,7 +171,7 @@ known_advice rules rule.PointerCompare is slot caps f i = option_map advice.Neve
 known_advice rules rule.PointerStored is slot caps f i = Some (stored_by rules)
 known_advice rules rule.Bounds is slot caps f i = bounds_of caps f i
 known_advice rules rule.ReadOnlyRegion is slot caps f i = read_only_of caps f i
-known_advice rules rule.UnknownHelper is slot caps f i = Some advice.HelpersOnly
+known_advice rules rule.UnknownHelper is slot caps f i = Some (advice.HelpersOnly rules)
 known_advice rules rule.HelperArgument is slot caps f i = wrong_kind_of caps f (helper_in i)
 known_advice rules rule.WriteHelperInReader is slot caps f i = option_map advice.MayWrite (helper_in i)
 known_advice rules rule.ReturnsPointer is slot caps f i = Some advice.CodeIsNumber

@@ -6,6 +6,7 @@ use Rattle.abstract_regs.specs.Kind.{PlainKind}
 use Rattle.asm_lines.specs.Canonical.{canonical_text}
 use Rattle.bpf_decode.specs.Class.{Class, ClassMethod}
 use Rattle.bpf_decode.specs.declared.rule_set.RuleSet.{RuleSet}
+use Rattle.bpf_decode.specs.declared.rule_set.RuleSet.TheVariants.{One, Two, Three}
 use Rattle.bpf_decode.specs.Instruction.{slots}
 use Rattle.bpf_decode.specs.declared.insn.Insn.{Insn}
 use Rattle.bpf_machine.specs.Safe.{caps_of}
@@ -32,43 +33,51 @@ abbrev pub registers_text : Insn → PlainFrame → ℕ → ℕ → List ℕ
 registers_text i f r zero = []
 registers_text i f r (suc n) = line_if_read i f r ++ registers_text i f (r + 1) n
 
-abbrev pub known_text : Insn → Option PlainFrame → List ℕ
-known_text i None = codes "  nothing leads here\n"
-known_text i (Some f) = registers_text i f 0 11
+-- a call of what is no helper reads no register
+abbrev pub known_text : Rule → Insn → Option PlainFrame → List ℕ
+known_text rule i None = codes "  nothing leads here\n"
+known_text UnknownHelper i (Some f) = []
+known_text rule i (Some f) = registers_text i f 0 11
+
+-- the ids of a rule set's helpers
+abbrev pub helper_ids : RuleSet → List ℕ
+helper_ids One = codes "the id of a helper, 1 to 15"
+helper_ids Two = codes "the id of a helper, 1 to 15"
+helper_ids Three = codes "the id of a helper, 1 to 18"
 
 -- ---- the code that a rule wants
-abbrev pub wanted : Rule → List ℕ
-wanted Backward = codes "a jump forward: the distance is at least 0"
-wanted Target = codes "a jump to a slot at which an instruction begins"
-wanted FallsOff = codes "exit or a jump as the last instruction"
-wanted LocalCall = codes "no call within the program"
-wanted UnsetRead = codes "each of these registers set on every way that leads here"
-wanted WritesR10 = codes "another destination than register 10"
-wanted PointerArithmetic = codes "of a pointer a copy, or a number added or subtracted, in 64 bits"
-wanted PointerCompare = codes "numbers on both sides"
-wanted PointerStored = codes "a number to store"
-wanted Bounds = codes "a pointer, and all of the bytes within its region"
-wanted ReadOnlyRegion = codes "a pointer to the output or the stack"
-wanted UnknownHelper = codes "the id of a helper, 1 to 15"
-wanted HelperArgument = codes "the arguments in the order of the helper, and an output length of at most OUT"
-wanted WriteHelperInReader = codes "flags w or rw"
-wanted ReturnsPointer = codes "a number in register 0"
-wanted NoMemory = codes "more memory"
-wanted PointerBytes = codes "a stored pointer loaded whole, 8 bytes from its place, and given to no helper"
+abbrev pub wanted : RuleSet → Rule → List ℕ
+wanted rules Backward = codes "a jump forward: the distance is at least 0"
+wanted rules Target = codes "a jump to a slot at which an instruction begins"
+wanted rules FallsOff = codes "exit or a jump as the last instruction"
+wanted rules LocalCall = codes "no call within the program"
+wanted rules UnsetRead = codes "each of these registers set on every way that leads here"
+wanted rules WritesR10 = codes "another destination than register 10"
+wanted rules PointerArithmetic = codes "of a pointer a copy, or a number added or subtracted, in 64 bits"
+wanted rules PointerCompare = codes "numbers on both sides"
+wanted rules PointerStored = codes "a number to store"
+wanted rules Bounds = codes "a pointer, and all of the bytes within its region"
+wanted rules ReadOnlyRegion = codes "a pointer to the output or the stack"
+wanted rules UnknownHelper = helper_ids rules
+wanted rules HelperArgument = codes "the arguments in the order of the helper, and an output length of at most OUT"
+wanted rules WriteHelperInReader = codes "flags w or rw"
+wanted rules ReturnsPointer = codes "a number in register 0"
+wanted rules NoMemory = codes "more memory"
+wanted rules PointerBytes = codes "a stored pointer loaded whole, 8 bytes from its place, and given to no helper"
 
 -- the method and its capacities
 abbrev pub head_text : ClassMethod → List ℕ
 head_text m = codes "  method " ++ m.name ++ codes ", IN " ++ decimal m.in_cap ++ codes ", OUT " ++ decimal m.out_cap ++ codes "\n  "
 
 -- the code that the rule wants, and the page
-abbrev pub wanted_text : Rule → List ℕ
-wanted_text rule = codes "  wanted: " ++ wanted rule ++ codes "\n  see docs/VERIFIER.md, " ++ rule_text rule ++ codes "\n"
+abbrev pub wanted_text : RuleSet → Rule → List ℕ
+wanted_text rules rule = codes "  wanted: " ++ wanted rules rule ++ codes "\n  see docs/VERIFIER.md, " ++ rule_text rule ++ codes "\n"
 
 -- the method, the instruction, the known kinds of the registers that it reads, the code that the
 -- rule wants, the page, the slots of the stack that it may touch, and the advice
 abbrev pub slot_text : RuleSet → ClassMethod → ℕ → Rule → Insn → Option PlainFrame → List ℕ
 slot_text rules m slot rule i known =
-    head_text m ++ canonical_text (i ∷ []) ++ known_text i known ++ wanted_text rule
+    head_text m ++ canonical_text (i ∷ []) ++ known_text rule i known ++ wanted_text rules rule
     ++ touched_text rule i known ++ advised_text (advice_for rules rule m.instructions slot (caps_of m) known i)
 
 abbrev pub at_slot : RuleSet → ClassMethod → ℕ → Rule → Option Insn → Option PlainFrame → List ℕ

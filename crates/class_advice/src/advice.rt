@@ -1,9 +1,9 @@
 //! Advice: code that would do in place of the refused code, and how that prints.
 ghost use Rattle.std.specs.Prelude.{◌≡◌, ◌++◌, nat_lt, OnOk, string_bytes};
-ghost use Rattle.class_advice.specs.Advice.{advice_text, advised_text, at_most_out_text, bytes_text, length_text, may_be_text, most_text, move_text, outside_text, place_text, room_text, span_text, test_text, unset_text};
+ghost use Rattle.class_advice.specs.Advice.{advice_text, advised_text, at_most_out_text, bytes_text, helpers_only, length_text, may_be_text, most_text, move_text, outside_text, place_text, room_text, span_text, test_text, unset_text};
 
 use crate::known::region_text;
-use bpf_decode::Region;
+use bpf_decode::{Region, RuleSet};
 use std::alloc::AllocError;
 
 /// A register's last change.
@@ -71,7 +71,7 @@ pub enum Advice {
     NeverNull(usize),
     /// A pointer is stored, in rule set 1.
     TakeRules,
-    /// A pointer is stored otherwise than whole, in rule set 2.
+    /// A pointer is stored otherwise than whole, in rule sets 2 and 3.
     AtMultiple,
     /// A register is a number, which is taken for a place.
     NoPlace(usize),
@@ -85,7 +85,8 @@ pub enum Advice {
     ReadOnlyStore(usize),
     /// A range into which a call writes, in the input.
     ReadOnlyRange(usize),
-    HelpersOnly,
+    /// The ids of a rule set's helpers.
+    HelpersOnly(RuleSet),
     TakesNumber(usize),
     TakesPointer(usize),
     /// The register of an output's length, what it may be, and OUT.
@@ -95,6 +96,20 @@ pub enum Advice {
     CodeIsNumber,
     LoadWhole,
     PassNoPointer,
+}
+
+/// Which ids are helpers.
+fn helpers_only(rules: RuleSet) -> &'static str
+    ensures { result.now ≡ helpers_only rules }
+{
+    match rules {
+        RuleSet::One | RuleSet::Two => {
+            "  the helpers are 1 to 15, and with `.rules 3` to 18; a function of your own is written where it is called\n"
+        }
+        RuleSet::Three => {
+            "  the helpers are 1 to 18; a function of your own is written where it is called\n"
+        }
+    }
 }
 
 /// Adds a place in a region.
@@ -291,7 +306,7 @@ fn push_advice(out: &mut String, advice: Advice) -> Result<(), AllocError>
         Advice::Place(register, region, at, most) => push_begun(out, register, region, at, most),
         Advice::ReadOnlyStore(register) => write!(out, "  r{register} points to the input, which is read only: store to the output or the stack\n"),
         Advice::ReadOnlyRange(register) => write!(out, "  the call writes where r{register} points, and the input is read only: give it the output or the stack\n"),
-        Advice::HelpersOnly => out.push_str("  the helpers are 1 to 15; a function of your own is written where it is called\n"),
+        Advice::HelpersOnly(rules) => out.push_str(helpers_only(rules)),
         Advice::TakesNumber(register) => write!(out, "  r{register} takes a number\n"),
         Advice::TakesPointer(register) => write!(out, "  r{register} takes a pointer, made of r1 (input), r3 (output) or r10 (stack): a string is written to the stack, as `stdw [r10-8], 7` and `mov r1, r10`, `add r1, -8`\n"),
         Advice::OutLength(register, high, most) => push_out_length(out, register, high, most),

@@ -406,7 +406,7 @@ fn stored_by(rules: RuleSet) -> Advice
 {
     match rules {
         RuleSet::One => Advice::TakeRules,
-        RuleSet::Two => Advice::AtMultiple,
+        RuleSet::Two | RuleSet::Three => Advice::AtMultiple,
     }
 }
 
@@ -457,7 +457,7 @@ fn known_advice(alloc: Global, rules: RuleSet, method: &Method, refused: &Refuse
         Rule::PointerStored => Some(stored_by(rules)),
         Rule::Bounds => bounds_of(&caps, frame, insn),
         Rule::ReadOnlyRegion => read_only_of(&caps, frame, insn),
-        Rule::UnknownHelper => Some(Advice::HelpersOnly),
+        Rule::UnknownHelper => Some(Advice::HelpersOnly(rules)),
         Rule::HelperArgument => wrong_kind_of(&caps, frame, helper_of(insn)),
         Rule::WriteHelperInReader => may_write(helper_of(insn)),
         Rule::ReturnsPointer => Some(Advice::CodeIsNumber),

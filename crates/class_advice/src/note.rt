@@ -4,7 +4,7 @@ ghost use Rattle.std.specs.Fmt.{decimal};
 ghost use Rattle.abstract_regs.specs.Seen.{seen};
 ghost use Rattle.asm_lines.specs.Canonical.{canonical_text};
 ghost use Rattle.bpf_decode.specs.Class.{IsMethod};
-ghost use Rattle.class_advice.specs.Note.{head_text, known_text, line_if_read, of_verdict, refusal_note, register_line, registers_text, slot_text, wanted, wanted_text};
+ghost use Rattle.class_advice.specs.Note.{head_text, helper_ids, known_text, line_if_read, of_verdict, refusal_note, register_line, registers_text, slot_text, wanted, wanted_text};
 ghost use Rattle.verifier.specs.Verdict.{method_verdict};
 
 use crate::advice::push_advised;
@@ -59,20 +59,40 @@ fn push_registers(
     Ok(())
 }
 
-/// Adds what is known before an instruction.
-fn push_known(out: &mut String, insn: &Insn, known: &Option<Frame>) -> Result<(), AllocError>
-    ensures { OnOk result (string_bytes out.new ≡ string_bytes out.old ++ known_text insn.now known.now) }
+/// Adds what is known before an instruction; a call of what is no helper reads no register.
+fn push_known(
+    out: &mut String,
+    rule: Rule,
+    insn: &Insn,
+    known: &Option<Frame>,
+) -> Result<(), AllocError>
+    ensures { OnOk result (string_bytes out.new ≡ string_bytes out.old ++ known_text rule insn.now known.now) }
 {
     match known {
-        Some(frame) => push_registers(out, insn, frame, 0, 11),
+        Some(frame) => {
+            if let Rule::UnknownHelper = rule {
+                return Ok(());
+            }
+            push_registers(out, insn, frame, 0, 11)
+        }
         None => out.push_str("  nothing leads here\n"),
+    }
+}
+
+/// The ids of a rule set's helpers.
+fn helper_ids(rules: RuleSet) -> &'static str
+    ensures { result.now ≡ helper_ids rules }
+{
+    match rules {
+        RuleSet::One | RuleSet::Two => "the id of a helper, 1 to 15",
+        RuleSet::Three => "the id of a helper, 1 to 18",
     }
 }
 
 /// The text of a rule: what it wants.
 #[rattlefmt::skip]
-fn wanted(rule: Rule) -> &'static str
-    ensures { result.now ≡ wanted rule }
+fn wanted(rules: RuleSet, rule: Rule) -> &'static str
+    ensures { result.now ≡ wanted rules rule }
 {
     match rule {
         Rule::Backward => "a jump forward: the distance is at least 0",
@@ -86,7 +106,7 @@ fn wanted(rule: Rule) -> &'static str
         Rule::PointerStored => "a number to store",
         Rule::Bounds => "a pointer, and all of the bytes within its region",
         Rule::ReadOnlyRegion => "a pointer to the output or the stack",
-        Rule::UnknownHelper => "the id of a helper, 1 to 15",
+        Rule::UnknownHelper => helper_ids(rules),
         Rule::HelperArgument => "the arguments in the order of the helper, and an output length of at most OUT",
         Rule::WriteHelperInReader => "flags w or rw",
         Rule::ReturnsPointer => "a number in register 0",
@@ -116,11 +136,11 @@ fn push_head(out: &mut String, method: &Method) -> Result<(), AllocError>
 }
 
 /// Appends what the rule wants, and the page.
-fn push_wanted(out: &mut String, rule: Rule) -> Result<(), AllocError>
-    ensures { OnOk result (string_bytes out.new ≡ string_bytes out.old ++ wanted_text rule) }
+fn push_wanted(out: &mut String, rules: RuleSet, rule: Rule) -> Result<(), AllocError>
+    ensures { OnOk result (string_bytes out.new ≡ string_bytes out.old ++ wanted_text rules rule) }
 {
     out.push_str("  wanted: ")?;
-    out.push_str(wanted(rule))?;
+    out.push_str(wanted(rules, rule))?;
     write!(out, "\n  see docs/VERIFIER.md, {rule}\n")
 }
 
@@ -136,8 +156,8 @@ fn slot_text(
     let mut text = String::new(alloc);
     push_head(&mut text, method)?;
     text.push_str(&insn_text(alloc, refused.insn)?)?;
-    push_known(&mut text, &refused.insn, &refused.known)?;
-    push_wanted(&mut text, refused.rule)?;
+    push_known(&mut text, refused.rule, &refused.insn, &refused.known)?;
+    push_wanted(&mut text, rules, refused.rule)?;
     push_touched(&mut text, refused.rule, &refused.insn, &refused.known)?;
     push_advised(&mut text, advice_for(alloc, rules, method, refused)?)?;
     Ok(text)
