@@ -36,7 +36,7 @@ pub record IsRefusalNote (disk : Option Disk) (name : List ℕ) (refusal : Refus
 
 -- what is wanted of a file that is read as an image
 abbrev pub image_wanted : List ℕ
-image_wanted = codes "  wanted: an image, which begins with RCL1 or RCL2, or a class's text in UTF-8\n  see docs/IMAGE.md\n"
+image_wanted = codes "  wanted: an image, which begins with RCL1, RCL2 or RCL3, or a class's text in UTF-8\n  see docs/IMAGE.md\n"
 
 -- the note of an image that was refused; empty if memory was refused
 abbrev pub image_note : DecodeError → List ℕ

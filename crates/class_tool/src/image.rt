@@ -80,7 +80,7 @@ fn class_of_text(alloc: Global, text: &str) -> Result<ClassImage, Failure>
 
 /// The note that says what a file that is read as an image must hold.
 const IMAGE_WANTED: &str =
-    "  wanted: an image, which begins with RCL1 or RCL2, or a class's text in UTF-8\n  see docs/IMAGE.md\n";
+    "  wanted: an image, which begins with RCL1, RCL2 or RCL3, or a class's text in UTF-8\n  see docs/IMAGE.md\n";
 
 /// The note of an image that says no class; nothing where memory was refused.
 #[rattlefmt::skip]

@@ -124,7 +124,7 @@ fn pack_command<'a>(alloc: Global) -> Result<Command<'a>, AllocError>
     };
     let of_image = file_command(alloc, heading, "OUT", "The file of the image");
     let of_code = with_arg(of_image, methods_argument(alloc));
-    let help = "The rules by which the class is verified, 1 or 2";
+    let help = "The rules by which the class is verified, 1, 2 or 3";
     let rules = option(alloc, "rules", "N", "1", help);
     with_arg(with_arg(of_code, rules), explain_flag(alloc))
 }

@@ -2,7 +2,7 @@
 use Rattle.std.specs.Prelude.{◌≡◌, ◌==◌, ◌&&◌, ◌||◌, not, Bool, true, false, Option, Some, None, is_none, if◌then◌else◌, length, option_and_then, option_map, codes}
 use Rattle.std.specs.Str.{bytes_eq}
 use Rattle.bpf_decode.specs.declared.rule_set.RuleSet.{RuleSet}
-use Rattle.bpf_decode.specs.declared.rule_set.RuleSet.TheVariants.{One, Two}
+use Rattle.bpf_decode.specs.declared.rule_set.RuleSet.TheVariants.{One, Two, Three}
 use Rattle.class_tool.specs.declared.action.Action.{Action}
 use Rattle.class_tool.specs.declared.action.Action.TheVariants.{Verify, Run, Assemble, Pack, Disassemble}
 use Rattle.class_tool.specs.declared.action.MethodCall.{MethodCall}
@@ -21,7 +21,10 @@ use Rattle.radoscls_program.specs.declared.task.Task.TheVariants as task
 
 -- the rule set that a text names
 abbrev pub rules_named : Text → Option RuleSet
-rules_named text = if bytes_eq text (codes "1") then Some One else if bytes_eq text (codes "2") then Some Two else None
+rules_named text =
+    if bytes_eq text (codes "1") then Some One else
+    if bytes_eq text (codes "2") then Some Two else
+    if bytes_eq text (codes "3") then Some Three else None
 
 -- `pack` takes the file OUT of the image, the rule set --rules, and a method of each METHOD.
 pub record TakesPacking (p : Parsed) (asked : Packing) : Type 0 where

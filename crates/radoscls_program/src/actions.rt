@@ -165,6 +165,9 @@ fn rules_named(text: &str) -> Option<RuleSet>
     if text == "2" {
         return Some(RuleSet::Two);
     }
+    if text == "3" {
+        return Some(RuleSet::Three);
+    }
     None
 }
 

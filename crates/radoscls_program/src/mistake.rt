@@ -38,7 +38,7 @@ impl Wanted {
     fn row(self) -> (&'static str, &'static str) {
         match self {
             Wanted::Caller       => ("--caller <N>", "a number from 1 to 4294967295, without a sign or a leading zero"),
-            Wanted::Rules        => ("--rules <N>", "1 or 2"),
+            Wanted::Rules        => ("--rules <N>", "1, 2 or 3"),
             Wanted::Xattr        => ("--xattr <NAME=HEX>", "a name, '=' and the value"),
             Wanted::Key          => ("--key <KEY=HEX>", "a key, '=' and the value"),
             Wanted::Method       => ("<METHOD>...", "NAME:FLAGS:IN:OUT:FILE, FLAGS r, w or rw, IN and OUT 0 to 65535"),
