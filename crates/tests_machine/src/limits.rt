@@ -1,4 +1,4 @@
-//! A call at all limits at once: input and output of 4,096 bytes, and an object that is written to
+//! A call at all limits at once: input and output of 65,535 bytes, and an object that is written to
 //! 65,536 bytes.
 
 use crate::methods::{class, outcome};
@@ -7,10 +7,11 @@ use object_store::{DATA_LIMIT, Object, calls};
 use std::alloc::Global;
 use std::process::Abort;
 
-/// Copies the input's last byte to the output's last, writes the input to the object's last 4,096
+/// Copies the input's last byte to the output's last, writes the input to the object's last 65,535
 /// bytes, and answers with all of the output.
-const LONGEST: &str = ".method f w 4096 4096; ldxb r4, [r1+4095]; stxb [r3+4095], r4; mov r2, r1;
-mov r1, 61440; mov r3, 4096; call 3; mov r6, r0; mov r1, 4096; call 13; mov r0, r6; exit";
+const LONGEST: &str = ".rules 3; .method f w 65535 65535; mov r2, r1; add r1, 65534; ldxb r4, [r1+0];
+add r3, 65534; stxb [r3+0], r4; mov r1, 1; mov r3, 65535; call 3; mov r6, r0; mov r1, 65535; call 13;
+mov r0, r6; exit";
 
 /// True if the first `count` bytes are all `first`, and the rest are all `then`.
 fn begins(bytes: &[u8], first: u8, count: usize, then: u8) -> bool {
@@ -21,12 +22,12 @@ fn begins(bytes: &[u8], first: u8, count: usize, then: u8) -> bool {
     all
 }
 
-/// True if the code is 4,096 after 11 steps, and the output is 4,095 zeros and a byte of 0x5a.
+/// True if the code is 65,535 after 13 steps, and the output is 65,534 zeros and a byte of 0x5a.
 fn has_all_output(outcome: &Outcome) -> bool {
-    outcome.code == 4096
-        && outcome.steps == 11
-        && outcome.output.len() == 4096
-        && begins(&outcome.output, 0, 4095, 0x5a)
+    outcome.code == 65535
+        && outcome.steps == 13
+        && outcome.output.len() == 65535
+        && begins(&outcome.output, 0, 65534, 0x5a)
 }
 
 /// True if an object has 65,536 bytes, the first `count` of them all `first`, and the rest 0x5a.
@@ -46,16 +47,16 @@ fn is_full(
     }
 }
 
-/// True if a call of `LONGEST` on 4,096 bytes of 0x5a has all output, and leaves an object of the
-/// largest size. 61,440 is 65,536 - 4,096: it writes the last 4,096 bytes only, so that the others
-/// are still all `first`, as on the full object before, if there was one.
+/// True if a call of `LONGEST` on 65,535 bytes of 0x5a has all output, and leaves an object of the
+/// largest size. It writes all bytes but the first one, which is still `first`, as on the full
+/// object before, if there was one.
 fn is_longest(rt: &impl Abort, alloc: Global, object: Option<&Object>, first: u8) -> bool {
     let class = class(rt, alloc, &[LONGEST]);
-    let input = [0x5a].repeat(alloc, 4096).expect(rt, "memory");
+    let input = [0x5a].repeat(alloc, 65535).expect(rt, "memory");
     let outcome = outcome(rt, alloc, &class, object, &input);
     let before = outcome.change.before();
     has_all_output(&outcome)
-        && is_full(rt, alloc, outcome.change.after(), first, 61_440)
+        && is_full(rt, alloc, outcome.change.after(), first, 1)
         && (before.is_none() || is_full(rt, alloc, before, first, DATA_LIMIT))
         && before.is_none() == object.is_none()
 }

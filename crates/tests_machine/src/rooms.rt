@@ -14,9 +14,9 @@ const SMALL: &str = ".method f r 24 16; ldxdw r0, [r1+8]; stdw [r3+0], -1; exit"
 
 /// Adds the last bytes of the input, the output and the stack as they were at first, leaves other
 /// ones in the last two for the next run, and puts out all of the output.
-const GREATEST: &str = ".method f r 4096 4096; ldxb r6, [r1+4095]; ldxb r4, [r3+4095]; add r6, r4;
-ldxdw r4, [r10-512]; add r6, r4; stb [r3+4095], 9; stdw [r10-512], -1; mov r1, 4096; call 13;
-mov r0, r6; exit";
+const GREATEST: &str = ".rules 3; .method f r 65535 65535; add r1, 65534; ldxb r6, [r1+0]; add r3, 65534;
+ldxb r4, [r3+0]; add r6, r4; ldxdw r4, [r10-512]; add r6, r4; stb [r3+0], 9; stdw [r10-512], -1;
+mov r1, 65535; call 13; mov r0, r6; exit";
 
 /// True if the call returned 0 after three steps, without output.
 fn is_zero(outcome: &Outcome) -> bool {
@@ -40,8 +40,8 @@ fn answers_once_found(rt: &impl Abort, room: &mut Room, class: &VerifiedClass) -
     is_zero(&outcome)
 }
 
-/// True if a method with the greatest regions returns the last byte of its input, and puts out 4,095
-/// zeros and a 9. The input is 4,096 of this byte, or empty if it is 0.
+/// True if a method with the greatest regions returns the last byte of its input, and puts out 65,534
+/// zeros and a 9. The input is 65,535 of this byte, or empty if it is 0.
 fn answers_greatest(
     rt: &impl Abort,
     alloc: Global,
@@ -49,7 +49,7 @@ fn answers_greatest(
     class: &VerifiedClass,
     byte: u8,
 ) -> bool {
-    let count = if byte == 0 { 0 } else { 4096 };
+    let count = if byte == 0 { 0 } else { 65535 };
     let input = Vec::from_elem(alloc, byte, count).expect(rt, "memory");
     let outcome = room
         .call(class, "f", None, 7, &input)
@@ -59,9 +59,9 @@ fn answers_greatest(
         sum = sum.wrapping_add(u64::from(*put));
     }
     outcome.code == i64::from(byte)
-        && outcome.steps == 11
-        && outcome.output.len() == 4096
-        && outcome.output.get(4095).copied() == Some(9)
+        && outcome.steps == 13
+        && outcome.output.len() == 65535
+        && outcome.output.get(65534).copied() == Some(9)
         && sum == 9
 }
 
@@ -101,7 +101,7 @@ fn answer_in_turn(rt: &impl Abort, alloc: Global, room: &mut Room) -> bool {
     all
 }
 
-/// The greatest regions take 8,704 bytes. A room holds them, whether it held fewer bytes before, as
+/// The greatest regions take 131,582 bytes. A room holds them, whether it held fewer bytes before, as
 /// many, or none, and serves the next call, whether it needs as many or fewer.
 #[test]
 fn the_greatest_regions(rt: HostRuntime) {

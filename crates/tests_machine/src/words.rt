@@ -46,17 +46,26 @@ pub fn number(rt: &impl Abort, word: &str) -> i64 {
 const LONGEST: &str = "0123456789abcdef0123456789abcdef0123456789abcdef0123456789abcdef";
 
 /// The bytes of a word: none of `-`, hexadecimal ones after `0x`, a name of 64 or of 65 bytes for
-/// `@64` and `@65`, else the word's own.
+/// `@64` and `@65`, so many bytes for `@4096` and `@4097`, else the word's own.
 pub fn bytes(rt: &impl Abort, alloc: Global, word: &str) -> Vec<u8> {
     match word {
         "-" => Vec::new(alloc),
         "@64" => copied(rt, alloc, LONGEST, ""),
         "@65" => copied(rt, alloc, LONGEST, "g"),
+        "@4096" => repeated(rt, alloc, 4096),
+        "@4097" => repeated(rt, alloc, 4097),
         _ => match word.split_once("0x") {
             Some((_, digits)) => pairs(rt, alloc, digits),
             None => copied(rt, alloc, word, ""),
         },
     }
+}
+
+/// That many bytes.
+fn repeated(rt: &impl Abort, alloc: Global, count: usize) -> Vec<u8> {
+    let mut bytes = Vec::new(alloc);
+    bytes.resize(count, b'z').expect(rt, "memory");
+    bytes
 }
 
 /// The bytes of two texts.

@@ -209,6 +209,68 @@ map_next <@64 >1 | -61
 map_next <- >1 | -61
 ";
 
+/// What is compared and copied: bytes have no sign, and a proper beginning is below.
+pub const BYTES: &str = "\
+on none
+compare <- <- | 0
+compare <- <a | -1
+compare <a <- | 1
+compare <a <a | 0
+compare <ab <a | 1
+compare <a <b | -1
+compare <b <ab | 1
+compare <0x7f <0x80 | -1
+compare <0xff <0x00 | 1
+compare <0x0000 <0x00 | 1
+compare <@64 <@65 | -1
+copy >4 <abcd | 4 abcd
+copy >9 <abcd | 4 abcd
+copy >3 <abcd | -34
+copy >0 <- | 0
+copy >0 <a | -34
+copy >8 <- | 0
+copy >64 <@64 | 64 @64
+copy >65 <@65 | 65 @65
+copy >64 <@65 | -34
+";
+
+/// The next xattr, as the next key. A key is none.
+pub const NAMES: &str = "\
+on hello/n=value/a=1,c=22
+xattr_next <- >1 | 1 n
+xattr_next <a >9 | 1 n
+xattr_next <n >9 | -61
+xattr_next <m >0 | -34
+xattr_next <@64 >9 | 1 n
+xattr_next <@65 >9 | -22
+on none
+xattr_next <- >9 | -2
+xattr_next <@65 >9 | -22
+on h/a=1,bc=2,d=3
+xattr_next <- >2 | 1 a
+xattr_next <a >2 | 2 bc
+xattr_next <a >1 | -34
+xattr_next <b >2 | 2 bc
+xattr_next <bc >2 | 1 d
+xattr_next <d >1 | -61
+";
+
+/// A value of 4,096 bytes, and of one more: after the name is tested, and before room for it is.
+pub const LONG: &str = "\
+on none
+setxattr <n <@4097 | -27
+map_set <k <@4097 | -27
+setxattr <- <@4097 | -22
+map_set <@65 <@4097 | -22
+stat | -2
+setxattr <n <@4096 | 0 | -/n=@4096
+setxattr <n <@4097 | -27
+map_set <n <@4096 | 0 | -/n=@4096/n=@4096
+on all-xattrs
+setxattr <x <v | -28
+setxattr <x <@4097 | -27
+";
+
 /// On an object of 32 xattrs, and on one of 1,024 keys. A refused call changes no value, and a name
 /// that is there may be set anew.
 pub const FULL: &str = "\
