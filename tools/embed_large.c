@@ -10,7 +10,7 @@
 #include <stdlib.h>
 #include <string.h>
 
-enum { METHODS = 32, SLOTS = 4096, NAME = 64, VALUE = 4096, DATA = 65536, XATTRS = 32, KEYS = 1024, STACK = 512, ROOM = 1 << 23 };
+enum { METHODS = 32, SLOTS = 4096, NAME = 64, VALUE = 4096, MOST = 65535, DATA = 65536, XATTRS = 32, KEYS = 1024, STACK = 512, ROOM = 1 << 23 };
 
 static long wrong;
 
@@ -57,11 +57,14 @@ static void slot(struct bytes *b, int opcode, int dst, int src, int offset, int3
 }
 
 enum { ADD = 0x07, AND = 0x57, MOV = 0xb7, ADD_R = 0x0f, MOV_R = 0xbf, CALL = 0x85, EXIT = 0x95, WIDE = 0x18, LOAD = 0x79, STORE_4 = 0x62,
-	STORE_R = 0x7b };
-enum { STAT = 1, WRITE = 3, REMOVE = 5, GETXATTR = 6, SETXATTR = 7, MAP_GET = 9, MAP_SET = 10, MAP_NEXT = 12, OUT_LEN = 13, CREATE = 14 };
+	STORE_R = 0x7b, JUMP_SLT = 0xc5 };
+enum { STAT = 1, WRITE = 3, REMOVE = 5, GETXATTR = 6, SETXATTR = 7, MAP_GET = 9, MAP_SET = 10, MAP_NEXT = 12, OUT_LEN = 13, CREATE = 14, COPY = 17 };
+
+static int has_heads; /* of the image that is made: rule set 3 counts them behind each method's code */
 
 static void head(struct bytes *b, int rules, int methods) {
-	put(b, rules == 2 ? "RCL2" : "RCL1", 4), number(b, (uint64_t)methods, 2), number(b, 0, 2);
+	has_heads = rules == 3;
+	put(b, "RCL", 3), number(b, (uint64_t)('0' + rules), 1), number(b, (uint64_t)methods, 2), number(b, 0, 2);
 }
 
 /* What stands before a method's code; the number of slots is written when they are there. */
@@ -74,6 +77,7 @@ static size_t begin(struct bytes *b, const char *name, int flags, int in, int ou
 static size_t end(struct bytes *b, size_t code) {
 	size_t slots = (b->len - code) / 8;
 	b->at[code - 2] = (uint8_t)slots, b->at[code - 1] = (uint8_t)(slots >> 8);
+	if (has_heads) number(b, 0, 2);
 	return slots;
 }
 
@@ -189,13 +193,17 @@ static int64_t largest_method(struct bytes *b, int n, const uint8_t *input, uint
 	return (int64_t)(sum & 0x7fffffff);
 }
 
-static void try_refused_images(struct bytes image) {
-	size_t last = image.len - 8 * SLOTS, at;
+static void try_refused_images(struct bytes image, int rules) {
+	size_t heads = rules == 3 ? 2 : 0, last = image.len - heads - 8 * SLOTS, at;
 	struct bytes b = room_of(image.len + 8);
 	put(&b, image.at, image.len), b.at[b.len] = 0;
 	b.len++, refused(b, 1, 11, 32, -1, "image refused after 32 methods: 11 Trailing");
 	b.len -= 2, refused(b, 1, 1, 31, -1, "image refused after 31 methods: 1 Truncated");
-	b.len++, at = b.len - 8;
+	b.len++, at = b.len - heads - 8;
+	if (heads) {
+		b.at[b.len - 1] = 1, refused(b, 1, 10, 31, -1, "image refused after 31 methods: 10 Limit");
+		b.at[b.len - 1] = 0;
+	}
 	b.at[at] = MOV_R, refused(b, 2, 3, 31, 4095, "refused method 31 slot 4095: 3 FallsOff");
 	b.at[at] = 0, refused(b, 1, 3, 31, 4095, "image refused after 31 methods, slot 4095: 3 Opcode");
 	b.at[at] = EXIT, b.at[at + 4] = 1, refused(b, 1, 5, 31, 4095, "image refused after 31 methods, slot 4095: 5 NonzeroField");
@@ -204,9 +212,12 @@ static void try_refused_images(struct bytes image) {
 	memset(b.at + b.len, 0, 8), b.len += 8;
 	b.at[last - 2]++, refused(b, 1, 10, 31, -1, "image refused after 31 methods: 10 Limit");
 	b.at[last - 2]--, b.len -= 8;
-	b.at[last - 6]++, refused(b, 1, 10, 31, -1, "image refused after 31 methods: 10 Limit");
-	b.at[last - 6]--, b.at[last - 4]++, refused(b, 1, 10, 31, -1, "image refused after 31 methods: 10 Limit");
-	b.at[last - 4]--, b.at[last - 8 - NAME]++, refused(b, 1, 7, 31, -1, "image refused after 31 methods: 7 Name");
+	/* (rule set 3 has larger capacities) */
+	for (int i = 4; rules < 3 && i <= 6; i += 2) {
+		b.at[last - i]++, refused(b, 1, 10, 31, -1, "image refused after 31 methods: 10 Limit");
+		b.at[last - i]--;
+	}
+	b.at[last - 8 - NAME]++, refused(b, 1, 7, 31, -1, "image refused after 31 methods: 7 Name");
 	b.at[last - 8 - NAME]--, b.at[4]++, refused(b, 1, 10, 0, -1, "image refused after 0 methods: 10 Limit");
 	b.at[4]--;
 	want(b.len == image.len && !memcmp(b.at, image.at, b.len), "the test spoiled the image", 0);
@@ -224,7 +235,7 @@ static void try_largest_image(int rules) {
 	while (input.len < VALUE) number(&input, (uint32_t)chance() >> 8, 1);
 	head(&a.image, rules, METHODS);
 	for (int n = 0; n < METHODS; n++) codes[n] = largest_method(&a.image, n, input.at, gives[n]);
-	want(a.image.len == 1050888, "the largest image has another size", (long)a.image.len);
+	want(a.image.len == (rules == 3 ? 1050952 : 1050888), "the largest image has another size", (long)a.image.len);
 	want(sillarnica_verify(a.image.at, a.image.len, &why) == 0, "the largest image is refused", rules);
 	want(sillarnica_explain(a.image.at, a.image.len, text, sizeof text) == 0, "the largest image is explained", rules);
 	open_class(&a);
@@ -244,7 +255,7 @@ static void try_largest_image(int rules) {
 	name_of(0, name);
 	want(answer(&a, name, absent, input, 0).result == -7, "an input of 4,097 bytes", 0);
 	close_class(&a);
-	try_refused_images(a.image);
+	try_refused_images(a.image, rules);
 	free(a.image.at), free(input.at), free(absent.at);
 }
 
@@ -471,6 +482,32 @@ static void try_refused(struct asked *a, const char *method, struct bytes form, 
 	want(again.result == all.result && !memcmp(&again.said, &all.said, sizeof all.said), "a handle after refusals of memory", 0);
 }
 
+/* The largest input, copied to the largest output. */
+static void try_largest_regions(void) {
+	struct asked a = { room_of(256), { NULL, 0 } };
+	struct bytes input = room_of(MOST + 1), absent = room_of(1);
+	number(&absent, 0, 1);
+	head(&a.image, 3, 1);
+	size_t code = begin(&a.image, "f", 1, MOST, MOST);
+	slot(&a.image, MOV_R, 4, 2, 0, 0), slot(&a.image, MOV_R, 2, 3, 0, 0), slot(&a.image, MOV_R, 3, 1, 0, 0), slot(&a.image, MOV_R, 1, 2, 0, 0);
+	slot(&a.image, MOV, 2, 0, 0, MOST), slot(&a.image, CALL, 0, 0, 0, COPY), slot(&a.image, MOV_R, 6, 0, 0, 0);
+	slot(&a.image, JUMP_SLT, 0, 0, 2, 0), slot(&a.image, MOV_R, 1, 0, 0, 0), slot(&a.image, CALL, 0, 0, 0, OUT_LEN);
+	slot(&a.image, MOV_R, 0, 6, 0, 0), finish(&a.image, code);
+	open_class(&a);
+	for (int i = 0; i < 3; i++) {
+		size_t len = i == 0 ? 0 : i == 1 ? 5000 : MOST;
+		while (input.len < len) number(&input, (uint32_t)chance() >> 8, 1);
+		struct found f = answer(&a, "f", absent, input, i);
+		want(f.result == 0 && f.said.code == (int64_t)len && f.said.steps == 12 && f.said.edits_len == 0, "the largest regions' answer", f.result);
+		want(f.result == 0 && f.said.output_len == len && !memcmp(out, input.at, len), "the largest output", i);
+	}
+	try_refused(&a, "f", absent, input);
+	number(&input, 0, 1);
+	want(answer(&a, "f", absent, input, 0).result == -7, "an input of 65,536 bytes", 0);
+	close_class(&a);
+	free(a.image.at), free(input.at), free(absent.at);
+}
+
 static void try_full_object(void) {
 	static struct object absent, half, full, other, empty;
 	struct asked a = { room_of(1 << 17), { NULL, 0 } };
@@ -579,7 +616,8 @@ static void try_handles(void) {
 
 int main(void) {
 	try_handles();
-	try_largest_image(1), try_largest_image(2);
+	for (int rules = 1; rules <= 3; rules++) try_largest_image(rules);
+	try_largest_regions();
 	try_full_object();
 	return wrong != 0;
 }

@@ -4,7 +4,7 @@
 #include <stddef.h>
 #include <stdint.h>
 
-enum { METHODS = 32, DATA = 65536, XATTRS = 32, KEYS = 1024, NAME = 64, VALUE = 4096, CAPACITY = 4096, STACK = 512, LAYOUTS = 12 };
+enum { METHODS = 32, DATA = 65536, XATTRS = 32, KEYS = 1024, NAME = 64, VALUE = 4096, CAPACITY = 65535, STACK = 512, LAYOUTS = 12 };
 
 struct slice { const uint8_t *at; size_t len; };
 
@@ -15,7 +15,7 @@ struct cut_input { struct slice fields[FIELDS]; };
 struct cut_input cut_input(struct slice from);
 
 struct method { struct slice name; unsigned flags, in_cap, out_cap, slots; const uint8_t *code; };
-struct class_of { unsigned count; struct method methods[METHODS]; };
+struct class_of { unsigned rules, count; struct method methods[METHODS]; };
 struct entry { struct slice name, value; };
 struct part { size_t count; struct entry at[KEYS]; };
 struct object { int is_there; size_t len; uint8_t data[DATA]; struct part parts[2]; }; /* xattrs, keys */
@@ -24,6 +24,8 @@ struct outcome { int64_t code; uint64_t steps; size_t len; uint8_t output[CAPACI
 struct where { uint32_t number; uint64_t method; int64_t slot; };
 
 int same(struct slice a, struct slice b);
+/* By their bytes, and then by their lengths: below 0, 0 or above. */
+int order(struct slice a, struct slice b);
 size_t number_at(const uint8_t *p, int n);
 
 /* Tells libFuzzer from now on which code of the library is run (fuzz_blocks.c). */

@@ -64,10 +64,10 @@ static void add_access(struct code *c) {
 }
 
 /* A helper's arguments: n a number, p and w a range that is read and one that may be written, l its length. */
-static const char *const ARGUMENTS[] = { "", "", "nwl", "npl", "n", "", "plwl", "plpl", "pl", "plwl", "plpl", "pl", "plwl", "n", "n", "" };
+static const char *const ARGUMENTS[] = { "", "", "nwl", "npl", "n", "", "plwl", "plpl", "pl", "plwl", "plpl", "pl", "plwl", "n", "n", "", "plpl", "wlpl", "plwl" };
 
 static void add_call(struct code *c) {
-	unsigned id = 1 + chance(15), room = 0;
+	unsigned id = 1 + chance(18), room = 0;
 	for (unsigned i = 0; ARGUMENTS[id][i]; i++) {
 		char kind = ARGUMENTS[id][i];
 		unsigned from = chance(8);
@@ -138,8 +138,27 @@ static void change_slot(uint8_t *slot) {
 static void change_declaration(uint8_t *code) {
 	int32_t capacity = chance(2) ? (int32_t)chance(65) : some_number();
 	if (!chance(3)) code[-7] = (uint8_t)(1 + chance(3));
-	else if (chance(2)) code[-6] = (uint8_t)capacity, code[-5] = (uint8_t)(capacity >> 8 & 31);
-	else code[-4] = (uint8_t)capacity, code[-3] = (uint8_t)(capacity >> 8 & 31);
+	else if (chance(2)) code[-6] = (uint8_t)capacity, code[-5] = (uint8_t)(capacity >> 8 & (chance(4) ? 31 : 255));
+	else code[-4] = (uint8_t)capacity, code[-3] = (uint8_t)(capacity >> 8 & (chance(4) ? 31 : 255));
+}
+
+/* Gives an image another rule set. In set 3 the number of heads, 0, stands behind each method's code. */
+static void change_rules(const struct class_of *class) {
+	unsigned rules = 1 + (class->rules + chance(2)) % 3;
+	uint8_t *image = fields[IMAGE];
+	for (unsigned i = class->count; i && (rules == 3) != (class->rules == 3); i--) {
+		const struct method *m = &class->methods[i - 1];
+		uint8_t *behind = image + (m->code - image) + 8 * m->slots, *end = image + lengths[IMAGE];
+		if (rules == 3) {
+			if (lengths[IMAGE] + 2 > LONGEST) return;
+			memmove(behind + 2, behind, (size_t)(end - behind));
+			behind[0] = behind[1] = 0, lengths[IMAGE] += 2;
+		} else {
+			memmove(behind, behind + 2, (size_t)(end - behind) - 2);
+			lengths[IMAGE] -= 2;
+		}
+	}
+	image[3] = (uint8_t)('0' + rules);
 }
 
 static void new_image(void) {
@@ -147,9 +166,10 @@ static void new_image(void) {
 	uint8_t *p = fields[IMAGE];
 	make_code(&c);
 	memcpy(p, "RCL1\1\0\0\0\1f\3\x10\0\x10\0\0\0", 17);
-	p[3] = (uint8_t)('1' + chance(2)), p[15] = (uint8_t)c.slots;
+	p[3] = (uint8_t)('1' + chance(3)), p[15] = (uint8_t)c.slots;
 	memcpy(p + 17, c.at, 8 * c.slots);
-	lengths[IMAGE] = 17 + 8 * c.slots;
+	memset(p + 17 + 8 * c.slots, 0, 2);
+	lengths[IMAGE] = 17 + 8 * c.slots + (p[3] == '3' ? 2 : 0);
 	fields[METHOD][0] = 'f', lengths[METHOD] = 1;
 }
 
@@ -174,7 +194,7 @@ static void change_image(void) {
 	case 3: if (cut < m->slots) put_slots(code, m->slots, at, cut, &c); break;
 	case 4: make_code(&c), put_slots(code, m->slots, 0, m->slots, &c); break;
 	case 5: change_declaration(code); break;
-	case 6: fields[IMAGE][3] ^= 3; break;
+	case 6: change_rules(&class); break;
 	default: change_slot(code + 8 * at);
 	}
 }

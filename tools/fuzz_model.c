@@ -87,8 +87,7 @@ static int has_letters(struct slice name) {
 	return 1;
 }
 
-/* By their bytes, and then by their lengths. */
-static int order(struct slice a, struct slice b) {
+int order(struct slice a, struct slice b) {
 	size_t least = a.len < b.len ? a.len : b.len;
 	int by = least ? memcmp(a.at, b.at, least) : 0;
 	return by ? by : (a.len > b.len) - (a.len < b.len);
@@ -102,23 +101,23 @@ static uint32_t read_number(struct slice *rest, int n, unsigned low, unsigned hi
 	return *to < low || *to > high ? refusal : 0;
 }
 
-static uint32_t read_method(struct slice *rest, const struct method *before, struct method *to, int64_t *slot) {
-	unsigned length = 0;
+static uint32_t read_method(struct slice *rest, unsigned rules, const struct method *before, struct method *to, int64_t *slot) {
+	unsigned length = 0, heads = 0, capacity = rules == 3 ? CAPACITY : 4096;
 	uint32_t why = read_number(rest, 1, 1, NAME, 7, &length);
 	if (why) return why;
 	to->name.len = length;
 	if (!(to->name.at = cut(rest, length))) return 1;
 	if (!has_letters(to->name)) return 7;
 	if (before && order(before->name, to->name) >= 0) return 8;
-	if ((why = read_number(rest, 1, 1, 3, 9, &to->flags)) || (why = read_number(rest, 2, 0, CAPACITY, 10, &to->in_cap))) return why;
-	if ((why = read_number(rest, 2, 0, CAPACITY, 10, &to->out_cap)) || (why = read_number(rest, 2, 1, 4096, 10, &to->slots))) return why;
+	if ((why = read_number(rest, 1, 1, 3, 9, &to->flags)) || (why = read_number(rest, 2, 0, capacity, 10, &to->in_cap))) return why;
+	if ((why = read_number(rest, 2, 0, capacity, 10, &to->out_cap)) || (why = read_number(rest, 2, 1, 4096, 10, &to->slots))) return why;
 	if (!(to->code = cut(rest, 8 * (size_t)to->slots))) return 1;
 	for (unsigned i = 0; i < to->slots; i += is_wide(to->code + 8 * i) ? 2 : 1) {
 		*slot = i;
 		if ((why = slot_refusal(to->code + 8 * i, to->slots - i))) return why;
 	}
 	*slot = -1;
-	return 0;
+	return rules == 3 ? read_number(rest, 2, 0, 0, 10, &heads) : 0;
 }
 
 struct where read_class(struct slice image, struct class_of *to) {
@@ -127,12 +126,13 @@ struct where read_class(struct slice image, struct class_of *to) {
 	unsigned count = 0, zero = 0;
 	to->count = 0;
 	if (!magic) why.number = 1;
-	else if (memcmp(magic, "RCL1", 4) && memcmp(magic, "RCL2", 4)) why.number = 2;
+	else if (memcmp(magic, "RCL", 3) || magic[3] < '1' || magic[3] > '3') why.number = 2;
+	else to->rules = magic[3] - '0';
 	if (why.number || (why.number = read_number(&image, 2, 1, METHODS, 10, &count)) || (why.number = read_number(&image, 2, 0, 0, 2, &zero)))
 		return why;
 	while (to->count < count) {
 		struct method *next = &to->methods[to->count];
-		if ((why.number = read_method(&image, to->count ? next - 1 : NULL, next, &why.slot))) return why;
+		if ((why.number = read_method(&image, to->rules, to->count ? next - 1 : NULL, next, &why.slot))) return why;
 		why.method = ++to->count;
 	}
 	why.number = image.len ? 11 : 0;
@@ -157,14 +157,14 @@ static unsigned helpers_in(const struct method *m) {
 	for (unsigned i = 0; i < m->slots; i += is_wide(m->code + 8 * i) ? 2 : 1) {
 		const uint8_t *slot = m->code + 8 * i;
 		size_t id = number_at(slot + 4, 4);
-		if (slot[0] == 0x85 && !slot[1] && id < 16) all |= 1u << id;
+		if (slot[0] == 0x85 && !slot[1] && id < 19) all |= 1u << id;
 	}
 	return all;
 }
 
 int needs_of(const struct method *m) {
 	unsigned all = helpers_in(m), empties = all & 1 << 5 && all & (1 << 3 | 1 << 7 | 1 << 10 | 1 << 14);
-	return empties ? 7 : (all & 0x1e ? 1 : 0) + (all & 0x1c0 ? 2 : 0) + (all & 0x1e00 ? 4 : 0);
+	return empties ? 7 : (all & 0x1e ? 1 : 0) + (all & 0x401c0 ? 2 : 0) + (all & 0x1e00 ? 4 : 0);
 }
 
 int64_t target_of(const uint8_t *slot, int64_t at) {

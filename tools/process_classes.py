@@ -84,6 +84,54 @@ verify - / .method f r 0 0 / call 16 / mov r0, 0 / exit
 => 1 refused method 0 slot 0: 12 UnknownHelper
 verify - / .method f r 16 8 / mov r1, r2 / call 13 / exit
 => 1 refused method 0 slot 1: 13 HelperArgument
+verify - / .rules 3 / .method f r 0 256 / mov r1, 0 / mov r2, r3 / mov r3, 256 / call 2 / jslt r0, 0, +2 /
+    mov r1, r0 / call 13 / exit
+=> 0 f ok 8
+verify - / .rules 2 / .method f r 0 256 / mov r1, 0 / mov r2, r3 / mov r3, 256 / call 2 / jslt r0, 0, +2 /
+    mov r1, r0 / call 13 / exit
+=> 1 refused method 0 slot 6: 13 HelperArgument
+verify - / .rules 3 / .method f r 65535 65535 / add r1, 32767 / ldxb r0, [r1+32767] / exit
+=> 0 f ok 3
+verify - / .rules 3 / .method f r 65534 65535 / add r1, 32767 / ldxb r0, [r1+32767] / exit
+=> 1 refused method 0 slot 1: 10 Bounds
+verify - / .rules 3 / .method f r 65536 0 / mov r0, 0 / exit
+=> 1 line 2: 3 Range
+verify - / .rules 2 / .method f r 4096 4097 / mov r0, 0 / exit
+=> 1 line 2: 3 Range
+verify - / .rules 4 / .method f r 0 0 / mov r0, 0 / exit
+=> 1 line 1: 2 Operand
+verify - / .rules 3 / .method f r 0 0 / call 19 / exit
+=> 1 refused method 0 slot 0: 12 UnknownHelper
+verify - / .rules 2 / .method f r 8 8 / mov r2, 8 / mov r4, 8 / call 17 / exit
+=> 1 refused method 0 slot 2: 12 UnknownHelper
+verify - / .rules 3 / .method f r 8 8 / mov r2, 8 / mov r4, 8 / call 17 / exit
+=> 1 refused method 0 slot 2: 11 ReadOnlyRegion
+verify - / .rules 3 / .method f r 0 8 / stxdw [r10-8], r3 / mov r1, r10 / add r1, -8 / mov r2, 8 / mov r3, r10 /
+    add r3, -16 / mov r4, 8 / call 17 / ldxdw r0, [r10-8] / exit
+=> 1 refused method 0 slot 8: 5 UnsetRead
+verify - / .rules 3 / .method f r 0 8 / stxdw [r10-16], r3 / mov r1, r10 / add r1, -8 / mov r2, 8 / mov r3, r10 /
+    add r3, -16 / mov r4, 8 / call 17 / ldxdw r0, [r10-16] / exit
+=> 1 refused method 0 slot 7: 17 PointerBytes
+run - f / .rules 3 / .method f r 0 0 / stb [r10-8], 97 / stb [r10-16], 98 / mov r1, r10 / add r1, -8 / mov r2, 8 /
+    mov r3, r10 / add r3, -16 / mov r4, 8 / call 16 / exit
+=> 0 code -1 / output - / steps 10 / object absent
+run - f / .rules 3 / .method f r 0 0 / mov r1, r10 / add r1, -8 / mov r2, 8 / mov r3, r10 / add r3, -16 /
+    mov r4, 8 / mov r4, 7 / call 16 / exit
+=> 0 code 1 / output - / steps 9 / object absent
+run - f / .rules 3 / .method f r 0 0 / lddw r1, 0x0807060504030201 / stxdw [r10-16], r1 / mov r1, r10 / add r1, -8 /
+    mov r2, 8 / mov r3, r10 / add r3, -16 / mov r4, 8 / add r1, -7 / call 17 / ldxdw r0, [r10-16] / exit
+=> 0 code 506097522914230529 / output - / steps 12 / object absent
+run - f / .rules 3 / .method f r 0 0 / mov r1, r10 / add r1, -8 / mov r2, 8 / mov r3, r10 / add r3, -16 /
+    mov r4, 8 / mov r2, 7 / call 17 / exit
+=> 0 code -34 / output - / steps 9 / object absent
+run - f / .rules 3 / .method f r 0 8 / mov r1, r3 / mov r2, 0 / mov r4, 8 / call 18 / exit
+=> 0 code -2 / output - / steps 5 / object absent
+run - f / .rules 3 / .method f w 4097 0 / mov r3, r1 / mov r4, 4097 / stb [r10-8], 97 / mov r1, r10 / add r1, -8 /
+    mov r2, 1 / call 7 / exit
+=> 0 code -27 / output - / steps 8 / object absent
+run - f / .rules 3 / .method f w 4096 0 / mov r3, r1 / mov r4, 4096 / stb [r10-8], 97 / mov r1, r10 / add r1, -8 /
+    mov r2, 1 / call 7 / exit
+=> 0 code 0 / output - / steps 8 / object 0 1 0
 verify - / .method f r 0 0 / mov r1, 0 / mov r2, r10 / mov r3, 0 / call 3 / exit
 => 1 refused method 0 slot 3: 14 WriteHelperInReader
 verify - / .method f r 0 0 / call 5 / exit
@@ -240,11 +288,13 @@ CLASS_ROWS = [
     # images of texts, and texts of images
     *(Row("asm - out", stdin=text.encode(), wrote={"out": image}) for text, image in (
         (KEEP_TEXT, KEEP), (LOOSE_TEXT, LOOSE),
-        (".rules 2\n.method f r 0 0\nmov r0, 0\nexit\n", b"RCL2" + TWO[4:]))),
+        (".rules 2\n.method f r 0 0\nmov r0, 0\nexit\n", b"RCL2" + TWO[4:]),
+        (".rules 3\n.method f r 0 0\nmov r0, 0\nexit\n", b"RCL3" + TWO[4:] + bytes(2)))),
     *(Row("dis -", text, stdin=image) for text, image in (
         (".method e r 0 0\nlddw r0, 0x0000000000000001\nexit\n"
          ".method f r 0 0\nmov r0, 0\nmov r0, 0\nexit\n", EF),
         (".rules 2\n.method f r 0 0\nmov r0, 0\nexit\n", b"RCL2" + TWO[4:]),
+        (".rules 3\n.method f r 0 0\nmov r0, 0\nexit\n", b"RCL3" + TWO[4:] + bytes(2)),
         (".method e rw 1 2\nmov r0, 0\nexit\n.method f w 0 4096\nmov r0, 0\nexit\n", BOTH),
         (".method f r 0 0\n" + "mov r0, 0\n" * 500 + "exit\n", FIVE_HUNDRED))),
     Row("dis unset.img", ".method f r 0 0\nexit\n"),
@@ -259,6 +309,10 @@ CLASS_ROWS = [
     Row("run - f --input 61626364", ran(0, "-", 26, "5 1 3"), stdin=MANY),
     Row("run - hello", ran(0, "68656c6c6f", 5, "absent"), stdin=HELLO),
     Row(f"run largest.img {31:064} --input=" + "a5" * 4096, ran(0, "-", 4096, "absent")),
+    Row(f"run largest.img {31:064} --input @-", ran(0, "-", 4096, "absent"), stdin=b"a" * 65535),
+    Row(f"run largest.img {31:064} --input @-", "call refused: 2 InputTooLong\n", "", 1, stdin=b"a" * 65536),
+    # the whole input is copied, and logged with the output
+    *(Row("run copies.txt f --input @-", ran(count, "5a" * count or "-", 12, "absent"), stdin=b"Z" * count) for count in (0, 5, 65535)),
     # raw code that is packed, and is called then
     Row("pack out inc:rw:0:8:inc.bin", wrote={"out": INC_IMAGE}),
     Row("verify -", "inc ok 38\n", stdin=INC_IMAGE),

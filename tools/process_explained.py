@@ -99,6 +99,17 @@ mended by call 3 => jgt r3, 64, end / call 3
     it may be 1 bytes from output + 9223372036854775807 on, of 64: from output + 63 on at most //
     bound what is added to r6, by `jgt` or `and` before the `add` // line 9: stb [r6+0], 1
 mended by jslt r0, 0, end => jgt r0, 63, end
+.method f r 0 0 / call 16 / mov r0, 0 / exit
+=> 1 refused method 0 slot 0: 12 UnknownHelper // method f, IN 0, OUT 0 // call 16 //
+    wanted: the id of a helper, 1 to 15 // see docs/VERIFIER.md, 12 UnknownHelper //
+    the helpers are 1 to 15, and with `.rules 3` to 18; a function of your own is written where it is called //
+    line 2: call 16
+mended by call 16 => call 15
+.rules 3 / .method f r 0 0 / call 19 / mov r0, 0 / exit
+=> 1 refused method 0 slot 0: 12 UnknownHelper // method f, IN 0, OUT 0 // call 19 //
+    wanted: the id of a helper, 1 to 18 // see docs/VERIFIER.md, 12 UnknownHelper //
+    the helpers are 1 to 18; a function of your own is written where it is called // line 3: call 19
+mended by call 19 => call 15
 .method f r 0 0 / call local +1 / exit / mov r0, 0 / exit
 => 1 refused method 0 slot 0: 4 LocalCall // method f, IN 0, OUT 0 // call local +1 //
     wanted: no call within the program // see docs/VERIFIER.md, 4 LocalCall //
@@ -178,7 +189,7 @@ LAST = lines_of(
 
 NO_IMAGE = lines_of(
     "image refused after 0 methods: 1 Truncated // "
-    "wanted: an image, which begins with RCL1 or RCL2, or a class's text in UTF-8 // see docs/IMAGE.md")
+    "wanted: an image, which begins with RCL1, RCL2 or RCL3, or a class's text in UTF-8 // see docs/IMAGE.md")
 
 EXPLAINED_ROWS = [
     *rows_of(EXPLAINED), *mistakes(),

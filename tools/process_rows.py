@@ -31,13 +31,29 @@ LOCK = bytes_of("""52434c31 0100 0000 04 6c6f636b 03 0000 0000 1900
 WIDE = bytes_of("""52434c31 0100 0000 01 66 01 0000 0000 0300
     1800000001000000 0000000000000000 9500000000000000""")
 UNSET = bytes_of("52434c31 0100 0000 01 66 01 0000 0000 0100 9500000000000000")
-# The largest class: 32 methods with names of 64 bytes and 4,096 instructions each.
+# The largest class, which is of rule set 3: 32 methods with names of 64 bytes and 4,096 instructions each.
 NAMES = [f"{n:064}" for n in range(32)]
-LARGEST_TEXT = "".join(
-    f".method {name} rw 4096 4096\n" + "mov r0, 0\n" * 4095 + "exit\n" for name in NAMES)
-LARGEST = b"RCL1" + struct.pack("<HH", 32, 0) + b"".join(
-    b"\x40" + name.encode() + struct.pack("<BHHH", 3, 4096, 4096, 4096)
-    + CODE[:8] * 4095 + CODE[8:] for name in NAMES)
+LARGEST_TEXT = ".rules 3\n" + "".join(
+    f".method {name} rw 65535 65535\n" + "mov r0, 0\n" * 4095 + "exit\n" for name in NAMES)
+LARGEST = b"RCL3" + struct.pack("<HH", 32, 0) + b"".join(
+    b"\x40" + name.encode() + struct.pack("<BHHH", 3, 65535, 65535, 4096)
+    + CODE[:8] * 4095 + CODE[8:] + bytes(2) for name in NAMES)
+# A method of rule set 3 that copies its input to its output, each of up to 65,535 bytes.
+COPIES_TEXT = """.rules 3
+.method f r 65535 65535
+mov r4, r2
+mov r2, r3
+mov r3, r1
+mov r1, r2
+mov r2, 65535
+call 17
+mov r6, r0
+jslt r0, 0, +2
+mov r1, r0
+call 13
+mov r0, r6
+exit
+"""
 # A class whose text is longer than any image: its 32 methods have 4,096 instructions each.
 LARGER_TEXT = "".join(f".method m{n:02} r 0 0\n" + "mov r0, 0\n" * 4095 + "exit\n" for n in range(32))
 # The longest text that there may be.
@@ -109,6 +125,7 @@ FILES = {
     "lines.unsafe": ".method f r 0 0\n" + "\n" * 999_998 + "exit\n",
     "lines.sim": "\n" * 99_999 + "foo\n",
     "largest.txt": LARGEST_TEXT,
+    "copies.txt": COPIES_TEXT,
     "larger.txt": LARGER_TEXT,
     "longest.txt": LONGEST_TEXT,
     "over.txt": LONGEST_TEXT + ";",
@@ -407,6 +424,7 @@ ROWS = [
         ".method f r 0 0\nlddw r0, 0x0000000000000001 ; slot 0\nexit ; slot 2\n"),
     Row("dis --slots two.img", SLOTS),
     Row("pack --rules 2 out f:r:0:0:code", wrote={"out": b"RCL2" + TWO[4:]}),
+    Row("pack --rules 3 out f:r:0:0:code", wrote={"out": b"RCL3" + TWO[4:] + bytes(2)}),
     Row("pack out f:r:0:0:code --rules=1", wrote={"out": TWO}),
     # --explain: of a failure alone
     Row("verify two.img --explain", "f ok 2\n"),
@@ -593,7 +611,7 @@ ROWS = [
         *((f"pack out {method}", method.split()[-1], "<METHOD>...") for method in (
             "f", "f:r:0:0", "f:x:0:0:code", "f:r:65536:0:code", "f:r:0:-1:code", "f:r:00:0:code",
             "f:r:0:+1:code", "f:r:0:0:code g")),
-        ("pack --rules 3 out f:r:0:0:code", "3", "--rules <N>"),
+        ("pack --rules 4 out f:r:0:0:code", "4", "--rules <N>"),
         *((f"run two.img f --caller {number}", number, "--caller <N>")
           for number in ("+7", "007")),
         ("run two.img f --xattr a", "a", "--xattr <NAME=HEX>"),

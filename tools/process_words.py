@@ -31,8 +31,8 @@ MISTAKEN = (
     ("run two.img f --xattr a", "a", "--xattr <NAME=HEX>", "a name, '=' and the value"),
     ("run two.img f --key a=00 --key b", "b", "--key <KEY=HEX>", "a key, '=' and the value"),
     (["run", "two.img", "f", "--key", "a=00", "--key", ""], "", "--key <KEY=HEX>", "a key, '=' and the value"),
-    ("pack out --rules 3 f:r:0:0:code", "3", "--rules <N>", "1 or 2"),
-    ("pack out --rules=02 f:r:0:0:code", "02", "--rules <N>", "1 or 2"),
+    ("pack out --rules 4 f:r:0:0:code", "4", "--rules <N>", "1, 2 or 3"),
+    ("pack out --rules=02 f:r:0:0:code", "02", "--rules <N>", "1, 2 or 3"),
     ("pack out f:r:0:0:code f:x:0:0:code", "f:x:0:0:code", "<METHOD>...", METHOD),
     ("pack out f:r:0:0 g:r:0:0:code", "f:r:0:0", "<METHOD>...", METHOD),
     *((f"pack out {method}", method, "<METHOD>...", METHOD)

@@ -7,7 +7,7 @@
 #include <string.h>
 
 enum { ROOM = 1 << 23 }; /* more than the largest object, or output and edits */
-static uint8_t image[1 << 21], out[ROOM], input[4096], zeros[1 << 16];
+static uint8_t image[1 << 21], out[ROOM], input[65536], zeros[1 << 16];
 
 /* An object is kept as its flat form, and begins as zeros: absent. */
 static uint8_t *find(char *name) {
