@@ -78,6 +78,8 @@ static s64 set(struct entries *its, const void *name, u64 length, const void *va
 {
     if (length < 1 || length > 64)
         return -EINVAL;
+    if (count > 4096)
+        return -EFBIG;
     struct entry *entry = find(its, name, length);
     if (!entry) {
         if (its->count == its->most)
@@ -163,21 +165,40 @@ s64 cls_map_get(const void *key, u64 length, void *to, u64 room) { return get(&n
 s64 cls_map_set(const void *key, u64 length, const void *value, u64 count) { return set(&now.keys, key, length, value, count); }
 s64 cls_map_rm(const void *key, u64 length) { return rm(&now.keys, key, length); }
 
-s64 cls_map_next(const void *key, u64 length, void *to, u64 room)
+static s64 next(struct entries *its, const void *name, u64 length, void *to, u64 room)
 {
     if (length > 64)
         return -EINVAL;
     if (!now.exists)
         return -ENOENT;
-    struct entry *entry = place_of(&now.keys, key, length);
-    if (length && entry < now.keys.at + now.keys.count && order(entry, key, length) == 0)
+    struct entry *entry = place_of(its, name, length);
+    if (length && entry < its->at + its->count && order(entry, name, length) == 0)
         entry++;
-    if (entry == now.keys.at + now.keys.count)
+    if (entry == its->at + its->count)
         return -ENODATA;
     if (entry->name_len > room)
         return -ERANGE;
     memcpy(to, entry->name, entry->name_len);
     return entry->name_len;
+}
+
+s64 cls_map_next(const void *key, u64 length, void *to, u64 room) { return next(&now.keys, key, length, to, room); }
+s64 cls_xattr_next(const void *name, u64 length, void *to, u64 room) { return next(&now.xattrs, name, length, to, room); }
+
+s64 cls_compare(const void *a, u64 a_length, const void *b, u64 b_length)
+{
+    u64 both = a_length < b_length ? a_length : b_length;
+    int by = both ? memcmp(a, b, both) : 0;
+    return by ? (by > 0) - (by < 0) : (a_length > b_length) - (a_length < b_length);
+}
+
+s64 cls_copy(void *to, u64 room, const void *from, u64 length)
+{
+    if (length > room)
+        return -ERANGE;
+    if (length)
+        memmove(to, from, length);
+    return length;
 }
 
 s64 cls_out_len(u64 length)
@@ -199,7 +220,7 @@ s64 cls_create(u64 exclusive)
 s64 cls_caller(void) { return caller; }
 
 /* Calls a method on the object as client number `by`: its code. Memory is as large as its capacities, and comes from malloc, so
-   a sanitizer sees what goes beyond. An error leaves the object as it was. At `output` are 4096 bytes. */
+   a sanitizer sees what goes beyond. An error leaves the object as it was. At `output` are 65535 bytes. */
 s64 native_call(const char *name, u64 by, const void *input, u64 in_len, void *output, u64 *output_len)
 {
     for (running = methods; running && strcmp(running->name, name); running = running->next)
@@ -227,7 +248,7 @@ s64 native_call(const char *name, u64 by, const void *input, u64 in_len, void *o
 int main(int words, char **word)
 {
     for (int n = 1; n + 1 < words; n += 2) {
-        u8 in[4096], out[4096];
+        static u8 in[65535], out[65535];
         u64 in_len = 0, length = 0;
         unsigned byte;
         for (const char *at = word[n + 1]; in_len < sizeof in && sscanf(at, "%2x", &byte) == 1; at += 2)

@@ -23,14 +23,17 @@ typedef long long s64;
 #endif
 
 /* METHOD(name, FLAGS, IN, OUT) { .. } is a method. FLAGS is r (reads), w or rw (may write), as words; IN and OUT, the most
-   bytes of input and output, are constant expressions of 0 to 4096, as sizeof (struct request). It gets
+   bytes of input and output, are constant expressions of 0 to 4096 (65535 in rule set 3), as sizeof (struct request). It gets
      in      IN bytes: the input followed by zeros, which can't be written
      in_len  how long the input is, at most IN
      out     OUT bytes, all zero; the output is as many of them as cls_out_len was told, none if it wasn't called
    and returns its code; a negative one is an error, and drops all that the method did. */
+#ifndef METHOD_MOST
+#define METHOD_MOST 4096
+#endif
 #define METHOD(name, flags, in_cap, out_cap)                                                                              \
-    _Static_assert((in_cap) >= 0 && (in_cap) <= 4096 && (out_cap) >= 0 && (out_cap) <= 4096,                              \
-                   "METHOD(" #name "): IN and OUT are 0 to 4096 bytes");                                                  \
+    _Static_assert((in_cap) >= 0 && (in_cap) <= METHOD_MOST && (out_cap) >= 0 && (out_cap) <= METHOD_MOST,                \
+                   "METHOD(" #name "): IN and OUT are 0 to 4096 bytes, in rule set 3 to 65535");                          \
     METHOD_IS(name, METHOD_FLAGS_##flags, in_cap, out_cap)                                                                \
     static s64 method_##name(const u8 *in, u64 in_len, u8 *out)
 #define METHOD_FLAGS_r 1
@@ -92,6 +95,10 @@ HELPER(12, cls_map_next, const void *key, u64 length, void *to, u64 room)     /*
 HELPER(13, cls_out_len, u64 length)                                           /* 0; the output has so many bytes */
 HELPER(14, cls_create, u64 exclusive)                                         /* 0; EEXIST if it is there and exclusive */
 HELPER(15, cls_caller, void)                                                  /* the number of the client that calls */
+/* Of rule set 3 alone, for lengths that aren't constants. */
+HELPER(16, cls_compare, const void *a, u64 a_length, const void *b, u64 b_length) /* -1, 0, 1: a is below b, equal, above */
+HELPER(17, cls_copy, void *to, u64 room, const void *from, u64 length)        /* length; the two may overlap */
+HELPER(18, cls_xattr_next, const void *name, u64 length, void *to, u64 room)  /* the length of the least xattr above it */
 #undef HELPER
 
 /* clang forgets what it knows of x, and keeps it in one register, so that what is checked is what is used. */
