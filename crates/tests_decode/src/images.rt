@@ -18,10 +18,11 @@ const IMAGE: [u8; 33] = [
 ];
 
 /// A place of the image, the byte that is put there, the methods read whole, and the refusal.
-const REFUSED: [(usize, u8, usize, DecodeError); 24] = [
+const REFUSED: [(usize, u8, usize, DecodeError); 25] = [
     (0, 0x53, 0, DecodeError::Magic),
     (3, 0x30, 0, DecodeError::Magic),
-    (3, 0x33, 0, DecodeError::Magic),
+    (3, 0x33, 0, DecodeError::Truncated),
+    (3, 0x34, 0, DecodeError::Magic),
     (6, 1, 0, DecodeError::Magic),
     (4, 0, 0, DecodeError::Limit),
     (4, 0x21, 0, DecodeError::Limit),
@@ -108,11 +109,66 @@ fn is_read(rt: &impl Abort, alloc: Global, image: &[u8], rules: RuleSet) -> bool
     is_one && class.rules() == rules && is_written_as(alloc, &class, image)
 }
 
-/// The fourth byte of the image tells the rule set.
+/// The fourth byte of the image tells the rule set. In rule set 3 a number of heads follows the code.
 #[test]
 fn read(rt: HostRuntime) {
     assert!(rt; is_read(&rt, rt.alloc(), &IMAGE, RuleSet::One));
     assert!(rt; is_read(&rt, rt.alloc(), &changed(3, 0x32), RuleSet::Two));
+    let three = joined(&rt, rt.alloc(), &changed(3, 0x33), &[0, 0]);
+    assert!(rt; is_read(&rt, rt.alloc(), &three, RuleSet::Three));
+}
+
+/// The last letter of the magic, the capacities of input and output, what stands after the code, and
+/// the refusal with the number of methods read whole.
+#[rattlefmt::skip]
+const RULED: [(u8, [u8; 2], [u8; 2], &[u8], Option<(usize, DecodeError)>); 19] = [
+    (b'1', [0x00, 0x10], [0x00, 0x10], &[], None),
+    (b'1', [0x01, 0x10], [0, 0], &[], Some((0, DecodeError::Limit))),
+    (b'1', [0, 0], [0x01, 0x10], &[], Some((0, DecodeError::Limit))),
+    (b'1', [0, 0], [0, 0], &[0, 0], Some((1, DecodeError::Trailing))),
+    (b'2', [0x00, 0x10], [0x00, 0x10], &[], None),
+    (b'2', [0x01, 0x10], [0, 0], &[], Some((0, DecodeError::Limit))),
+    (b'2', [0, 0], [0x01, 0x10], &[], Some((0, DecodeError::Limit))),
+    (b'2', [0, 0], [0, 0], &[0, 0], Some((1, DecodeError::Trailing))),
+    (b'3', [0, 0], [0, 0], &[0, 0], None),
+    (b'3', [0x01, 0x10], [0, 0], &[0, 0], None),
+    (b'3', [0, 0], [0x01, 0x10], &[0, 0], None),
+    (b'3', [0xff, 0xff], [0xff, 0xff], &[0, 0], None),
+    (b'3', [0, 0], [0, 0], &[], Some((0, DecodeError::Truncated))),
+    (b'3', [0, 0], [0, 0], &[0], Some((0, DecodeError::Truncated))),
+    (b'3', [0, 0], [0, 0], &[1], Some((0, DecodeError::Truncated))),
+    (b'3', [0, 0], [0, 0], &[1, 0], Some((0, DecodeError::Limit))),
+    (b'3', [0, 0], [0, 0], &[0, 1], Some((0, DecodeError::Limit))),
+    (b'3', [0, 0], [0, 0], &[0, 0, 0], Some((1, DecodeError::Trailing))),
+    (b'4', [0, 0], [0, 0], &[0, 0], Some((0, DecodeError::Magic))),
+];
+
+/// The image with that last letter of its magic and those capacities.
+fn with_caps(letter: u8, in_cap: [u8; 2], out_cap: [u8; 2]) -> [u8; 33] {
+    let mut image = IMAGE;
+    image[3] = letter;
+    image[11] = in_cap[0];
+    image[12] = in_cap[1];
+    image[13] = out_cap[0];
+    image[14] = out_cap[1];
+    image
+}
+
+/// True if the image is read and written as it was, or refused so.
+fn is_ruled(alloc: Global, image: &[u8], refusal: Option<(usize, DecodeError)>) -> bool {
+    match read_image(alloc, image) {
+        Ok(class) => refusal.is_none() && is_written_as(alloc, &class, image),
+        Err(error) => refusal == Some((error.methods, error.error)),
+    }
+}
+
+#[test]
+fn rule_sets(rt: HostRuntime) {
+    for (letter, in_cap, out_cap, behind, refusal) in &RULED {
+        let image = with_caps(*letter, *in_cap, *out_cap);
+        let image = joined(&rt, rt.alloc(), &image, *behind);
+        assert!(rt; is_ruled(rt.alloc(), &image, *refusal));
+    }
 }
 
 /// 65 bytes.
@@ -131,6 +187,17 @@ const SECOND: [(&str, u8, u16, u16, Option<DecodeError>); 9] = [
     ("b", 3, 4096, 4096, None),
 ];
 
+/// A rule set, in_cap and out_cap of such a method, and its refusal.
+const WIDE: [(RuleSet, u16, u16, Option<DecodeError>); 7] = [
+    (RuleSet::Two, 4096, 4096, None),
+    (RuleSet::Two, 4097, 0, Some(DecodeError::Limit)),
+    (RuleSet::Two, 0, 4097, Some(DecodeError::Limit)),
+    (RuleSet::Three, 4097, 0, None),
+    (RuleSet::Three, 0, 4097, None),
+    (RuleSet::Three, 65535, 65535, None),
+    (RuleSet::One, 65535, 65535, Some(DecodeError::Limit)),
+];
+
 /// A method whose code is `exit`.
 fn method(rt: &impl Abort, alloc: Global, name: &str, flags: u8, caps: (u16, u16)) -> Method {
     let code = Vec::from_slice(alloc, &[Insn::Exit]).expect(rt, "memory");
@@ -139,13 +206,18 @@ fn method(rt: &impl Abort, alloc: Global, name: &str, flags: u8, caps: (u16, u16
 }
 
 /// The refusal of a class of `a` and a second method.
-fn refusal_of(rt: &impl Abort, alloc: Global, second: Method) -> Option<ImageError> {
+fn refusal_of(
+    rt: &impl Abort,
+    alloc: Global,
+    second: Method,
+    rules: RuleSet,
+) -> Option<ImageError> {
     let mut methods = Vec::new(alloc);
     methods
         .push(method(rt, alloc, "a", 1, (0, 0)))
         .expect(rt, "memory");
     methods.push(second).expect(rt, "memory");
-    ClassImage::new(methods, RuleSet::One).err()
+    ClassImage::new(methods, rules).err()
 }
 
 /// The refusal of a class for its second method.
@@ -158,7 +230,12 @@ fn of_second(error: Option<DecodeError>) -> Option<ImageError> {
 fn classes_are_built(rt: HostRuntime) {
     for (name, flags, in_cap, out_cap, error) in &SECOND {
         let second = method(&rt, rt.alloc(), *name, *flags, (*in_cap, *out_cap));
-        let found = refusal_of(&rt, rt.alloc(), second);
+        let found = refusal_of(&rt, rt.alloc(), second, RuleSet::One);
+        assert!(rt; found == of_second(*error));
+    }
+    for (rules, in_cap, out_cap, error) in &WIDE {
+        let second = method(&rt, rt.alloc(), "b", 1, (*in_cap, *out_cap));
+        let found = refusal_of(&rt, rt.alloc(), second, *rules);
         assert!(rt; found == of_second(*error));
     }
     let (methods, error) = (0, DecodeError::Limit);

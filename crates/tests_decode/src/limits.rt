@@ -21,52 +21,64 @@ fn repeated(rt: &impl Abort, alloc: Global, line: &str, count: usize, behind: &s
     text
 }
 
-/// The lines of a method of 4,096 slots, after the number in its name of 64 bytes.
-fn body(rt: &impl Abort, alloc: Global) -> String {
-    let front = " rw 4096 4096\n";
+/// The lines of a method of 4,096 slots, after the number in its name of 64 bytes. `front` is the end
+/// of its first line.
+fn body(rt: &impl Abort, alloc: Global, front: &str) -> String {
     let movs = repeated(rt, alloc, "mov r0, 0\n", 4095, "exit\n");
     let mut text = String::from_str(alloc, front).expect(rt, "memory");
     text.push_str(&movs).expect(rt, "memory");
     text
 }
 
-/// The canonical text of 32 methods of the longest names and 4,096 slots, and the lines after it.
-fn largest(rt: &impl Abort, alloc: Global, behind: &str) -> String {
-    let mut front = String::from_str(alloc, ".method ").expect(rt, "memory");
-    let name = repeated(rt, alloc, "m", 62, "");
-    front.push_str(&name).expect(rt, "memory");
-    let body = body(rt, alloc);
-    let mut text = String::new(alloc);
-    put_numbered(rt, &mut text, &front, (10, 42), &body);
-    text.push_str(behind).expect(rt, "memory");
-    text
+/// Writes the canonical text of 32 methods of the longest names and 4,096 slots, whose capacities are
+/// those of `front`.
+fn put_largest(rt: &impl Abort, alloc: Global, text: &mut String, front: &str) {
+    let mut name = String::from_str(alloc, ".method ").expect(rt, "memory");
+    let letters = repeated(rt, alloc, "m", 62, "");
+    name.push_str(&letters).expect(rt, "memory");
+    let body = body(rt, alloc, front);
+    put_numbered(rt, text, &name, (10, 42), &body);
 }
 
-/// The text of the class that the image of a class has, if it has the most bytes of any.
-fn text_of_image(alloc: Global, class: &ClassImage) -> Option<String> {
+/// The text of the class that the image of a class has, if it has that many bytes.
+fn text_of_image(alloc: Global, class: &ClassImage, bytes: usize) -> Option<String> {
     let image = write_image(alloc, class).ok()?;
-    if image.len() != 1_050_888 || IMAGE_LIMIT != 1_050_888 {
+    if image.len() != bytes {
         return None;
     }
     disassemble_class(alloc, &read_image(alloc, &image).ok()?).ok()
 }
 
-/// True if the class of the text has the largest image, whose class has this text.
-fn is_kept(alloc: Global, text: &str) -> Option<bool> {
+/// True if the class of the text has an image of that many bytes, whose class has this text.
+fn is_kept(alloc: Global, text: &str, bytes: usize) -> Option<bool> {
     let class = assemble_class(alloc, text).ok()?;
-    Some(text_of_image(alloc, &class)?.as_str() == text)
+    Some(text_of_image(alloc, &class, bytes)?.as_str() == text)
 }
 
+/// The largest class of rule set 1: 8 bytes, and 32 times 8, 64 and 8 * 4,096.
 #[test]
 fn largest_class(rt: HostRuntime) {
-    let text = largest(&rt, rt.alloc(), "");
-    assert!(rt; is_kept(rt.alloc(), &text) == Some(true));
+    let mut text = String::new(rt.alloc());
+    put_largest(&rt, rt.alloc(), &mut text, " rw 4096 4096\n");
+    assert!(rt; is_kept(rt.alloc(), &text, 1_050_888) == Some(true));
+}
+
+/// The largest of all is one of rule set 3: it has 2 bytes a method more.
+#[test]
+fn largest_class_of_set_3(rt: HostRuntime) {
+    let mut text = String::from_str(rt.alloc(), ".rules 3\n").expect(&rt, "memory");
+    put_largest(&rt, rt.alloc(), &mut text, " rw 65535 65535\n");
+    assert!(rt; is_kept(rt.alloc(), &text, 1_050_952) == Some(true));
+    assert!(rt; IMAGE_LIMIT == 1_050_952);
 }
 
 /// The same and one method more.
 #[test]
 fn a_method_too_many(rt: HostRuntime) {
-    let text = largest(&rt, rt.alloc(), ".method n r 0 0\nexit\n");
+    let mut text = String::new(rt.alloc());
+    put_largest(&rt, rt.alloc(), &mut text, " rw 4096 4096\n");
+    text.push_str(".method n r 0 0\nexit\n")
+        .expect(&rt, "memory");
     let (line, fault) = (131105, AsmFault::Range);
     assert!(rt; assemble_class(rt.alloc(), &text).err() == Some(AsmError { line, fault }));
 }

@@ -86,6 +86,9 @@ add r3, -16/mov r4, 8/call 7/exit/ldxdw r1, [r10-16]/mov r0, 0/jeq r1, r6, +1/mo
 .method a rw 16 4096/ja -1/.method b w 0 0/ja +0/exit/
 ; spills// \t.rules  2\t; not 1//.method f r 0 1/stxdw [r10-8], r3/mov r0, 0/exit => \
 .rules 2/.method f r 0 1/stxdw [r10-8], r3/mov r0, 0/exit/
+.rules 3/.method f r 65535 65535/exit/ => .rules 3/.method f r 65535 65535/exit/
+; long// .rules\t3 ; not 2/.method f r 0xffff 4097/exit/.method g w 4096 0/exit => \
+.rules 3/.method f r 65535 4097/exit/.method g w 4096 0/exit/
 line 1: 3 Range => 
 line 1: 3 Range => /.method f r 0 0
 line 1: 1 Word => a:
@@ -113,7 +116,8 @@ line 1: 2 Operand => .rules 0x2/.method f r 0 0/exit
 line 1: 2 Operand => .rules/.method f r 0 0/exit
 line 1: 2 Operand => .rules 2 2/.method f r 0 0/exit
 line 1: 1 Word => .rules2/.method f r 0 0/exit
-line 1: 2 Operand => .rules 3
+line 1: 2 Operand => .rules 4
+line 1: 3 Range => .rules 3
 line 1: 3 Range => .rules 2
 line 1: 3 Range => .rules 2/.method f r 0 0
 line 2: 1 Word => .rules 2/.rules 2/.method f r 0 0/exit
@@ -123,6 +127,21 @@ line 2: 1 Word => .method f r 0 0/.rules 2/exit
 line 3: 1 Word => .method f r 0 0/exit/.rules 3/.method g r 0 0/exit
 line 1: 1 Word => a:/.rules 2/.method f r 0 0/exit
 line 2: 2 Operand => .rules 2/.method f/exit
+line 1: 2 Operand => .rules 4/.method f r 0 0/exit
+line 1: 2 Operand => .rules 03/.method f r 0 0/exit
+line 1: 2 Operand => .rules 0x3/.method f r 0 0/exit
+line 1: 2 Operand => .rules 3 3/.method f r 0 0/exit
+line 1: 3 Range => .method f r 4097 0/exit
+line 2: 3 Range => .rules 2/.method f r 4097 0/exit
+line 2: 3 Range => .rules 2/.method f r 0 4097/exit
+line 2: 3 Range => .rules 2/.method f r 65535 65535/exit
+line 4: 3 Range => .rules 2/.method f r 0 0/exit/.method f r 4097 0/exit
+line 2: 3 Range => .rules 3/.method f r 65536 0/exit
+line 2: 3 Range => .rules 3/.method f r 0 65536/exit
+line 2: 2 Operand => .rules 3/.method f r 65536 x/exit
+line 1: 3 Range => .rules 3/.method f r 5000 0
+line 2: 1 Word => .rules 3/.rules 2/.method f r 5000 0/exit
+line 4: 4 Label => .rules 3/.method f r 5000 0/exit/.method f r 5000 0/exit
 ";
 
 /// True if that text was printed.
@@ -178,7 +197,7 @@ fn methods(rt: HostRuntime) {
 
 #[test]
 fn classes(rt: HostRuntime) {
-    are_right(&rt, rt.alloc(), CLASSES, true, 41);
+    are_right(&rt, rt.alloc(), CLASSES, true, 59);
 }
 
 /// A class with a wide load, which takes two slots, with slots.
@@ -188,6 +207,12 @@ lddw r1, 0x0000000000000010 ; slot 0
 mov r0, 0 ; slot 2
 exit ; slot 3
 .method g w 0 0
+exit ; slot 0
+";
+
+/// A class of rule set 3, with slots.
+const SLOTS_3: &str = ".rules 3
+.method f r 65535 4097
 exit ; slot 0
 ";
 
@@ -205,6 +230,7 @@ const LACK: AsmError = AsmError {
 #[test]
 fn slots(rt: HostRuntime) {
     assert!(rt; is_text(with_slots(rt.alloc(), SLOTS), SLOTS));
+    assert!(rt; is_text(with_slots(rt.alloc(), SLOTS_3), SLOTS_3));
     assert!(rt; is_printed(rt.alloc(), &LACK, "line 0: 5 NoMemory"));
 }
 
