@@ -52,7 +52,8 @@ most_of f arguments limit.Text = longest f (text_in arguments 1)
 -- known or is no signed number
 abbrev pub answers_to : ℕ → Option ℕ → Plain
 answers_to errno None = any
-answers_to errno (Some n) = if nat_lt n (2 ^ 63) then unwrap_or (tighten (signed_ranged (pos 0 -ℤ pos errno) (pos n))) any else any
+answers_to errno (Some n) =
+    if nat_lt n (2 ^ 63) then unwrap_or (tighten (signed_ranged (pos 0 -ℤ pos errno) (pos n))) any else any
 
 -- what a helper that takes such arguments answers in such a range
 abbrev pub ranged_answer : PlainFrame → Option Takes → Option AnswerRange → Plain
