@@ -1,5 +1,6 @@
 //! Verdicts of `verify`: tables of methods, whole classes, and the longest ones.
 
+mod answers;
 mod arithmetic;
 mod branches;
 mod calls;
@@ -8,6 +9,7 @@ mod longest;
 mod methods;
 mod ranges;
 mod spills;
+mod third;
 
 use crate::slots_as_numbers;
 use bpf_decode::{ClassImage, Method, RuleSet, decode};
@@ -16,7 +18,7 @@ use std::process::Abort;
 use verifier::{Refusal, verify};
 
 /// The most bytes that the code of a row has.
-const CODE_ROOM: usize = 96;
+const CODE_ROOM: usize = 128;
 
 /// The value of a hexadecimal digit; 0 of any other byte.
 fn digit(byte: u8) -> u8 {
@@ -139,10 +141,11 @@ fn is_judged(alloc: Global, class: &ClassImage, method: usize, told: &str) -> bo
     }
 }
 
-/// True if `verify` gives that verdict on a class of that rule set and the one method of a row.
+/// True if `verify` gives that verdict on a class of that rule set and the one method of a row;
+/// with `none`, if there is no such class.
 fn is_row_judged(alloc: Global, rules: RuleSet, row: &str, told: &str) -> bool {
     match class(alloc, rules, row) {
-        None => false,
+        None => told == "none",
         Some(class) => is_judged(alloc, &class, 0, told),
     }
 }
@@ -162,16 +165,22 @@ fn check<R: Abort>(rt: &R, alloc: Global, rows: &str, wanted: usize) {
     assert!(rt; count == wanted);
 }
 
-/// Checks rows of both rule sets: of each line the first word is the verdict in set 2, the second
-/// that in set 1.
-fn check_both<R: Abort>(rt: &R, alloc: Global, rows: &str, wanted: usize) {
+/// Checks rows of two rule sets: of each line the first word is the verdict in the later set, the
+/// second that in the earlier one.
+fn check_both<R: Abort>(
+    rt: &R,
+    alloc: Global,
+    sets: (RuleSet, RuleSet),
+    rows: &str,
+    wanted: usize,
+) {
     let mut count = 0usize;
     for row in rows.lines() {
         if !row.starts_with('#') {
-            let (second, rest) = row.split_once(' ').unwrap_or((row, ""));
-            let (first, method) = rest.split_once(' ').unwrap_or((rest, ""));
-            assert!(rt; is_row_judged(alloc, RuleSet::Two, method, second), "{row}");
-            assert!(rt; is_row_judged(alloc, RuleSet::One, method, first), "{row}");
+            let (later, rest) = row.split_once(' ').unwrap_or((row, ""));
+            let (earlier, method) = rest.split_once(' ').unwrap_or((rest, ""));
+            assert!(rt; is_row_judged(alloc, sets.0, method, later), "{row}");
+            assert!(rt; is_row_judged(alloc, sets.1, method, earlier), "{row}");
             count = count.wrapping_add(1);
         }
     }
@@ -181,7 +190,20 @@ fn check_both<R: Abort>(rt: &R, alloc: Global, rows: &str, wanted: usize) {
 #[test]
 fn judges_spills(rt: HostRuntime) {
     slots_as_numbers();
-    check_both(&rt, rt.alloc(), spills::SPILLS, 69);
+    check_both(
+        &rt,
+        rt.alloc(),
+        (RuleSet::Two, RuleSet::One),
+        spills::SPILLS,
+        69,
+    );
+}
+
+#[test]
+fn judges_by_the_third_set(rt: HostRuntime) {
+    let sets = (RuleSet::Three, RuleSet::Two);
+    check_both(&rt, rt.alloc(), sets, third::THIRD, 26);
+    check_both(&rt, rt.alloc(), sets, answers::ANSWERS, 42);
 }
 
 #[test]
