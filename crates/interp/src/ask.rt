@@ -55,6 +55,9 @@ fn answer(
         Helper::OutLen => Ok(helpers::out_len(out_len, number)),
         Helper::Create => Ok(helpers::create(staged, number)),
         Helper::Caller => Ok(helpers::caller(caller)),
+        Helper::Compare => Ok(helpers::compare(memory, first, second)),
+        Helper::Copy => Ok(helpers::copy(memory, first, second)),
+        Helper::XattrNext => Ok(helpers::xattr_next(staged, memory, first, second)),
     }
 }
 
