@@ -1,3 +1,5 @@
+mod AnyHalf
+mod HalfSteps
 mod Keepings
 mod Loads
 mod Order

@@ -92,10 +92,10 @@ widened m z h = of_z_small w64 z (omega arith) (omega arith)
 widened32 : (z : ℤ) → mag z < 2 ^ 31 → cast_unsigned w32 z < 2 ^ 64
 widened32 z h = let s = of_z_small w32 z (omega arith) (omega arith) in omega arith
 
-byte_mag : (m : ℕ) → m < 2 ^ 8 → mag (cast_signed w8 m) < 2 ^ 31
+pub byte_mag : (m : ℕ) → m < 2 ^ 8 → mag (cast_signed w8 m) < 2 ^ 31
 byte_mag m h = let s = mag_signed w8 m h in omega arith
 
-half_mag : (m : ℕ) → m < 2 ^ 16 → mag (cast_signed w16 m) < 2 ^ 31
+pub half_mag : (m : ℕ) → m < 2 ^ 16 → mag (cast_signed w16 m) < 2 ^ 31
 half_mag m h = let s = mag_signed w16 m h in omega arith
 
 word_mag : (m : ℕ) → m < 2 ^ 32 → mag (cast_signed w32 m) < 2 ^ 31

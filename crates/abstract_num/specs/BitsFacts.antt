@@ -2,7 +2,7 @@
 use Rattle.std.specs.Prelude.{ℕ, ◌==◌, not, Bool, false, bit_and, bit_or, bit_xor}
 use Rattle.abstract_num.specs.Masks.{clear}
 use Rattle.abstract_num.specs.declared.fact.Fact.{Fact}
-use Rattle.abstract_num.specs.declared.fact.Fact.TheVariants.{Same, Above, AtLeast, SignedAbove, SignedAtLeast, Meets, Not, NoneOf}
+use Rattle.abstract_num.specs.declared.fact.Fact.TheVariants.{Same, Above, AtLeast, SignedAbove, SignedAtLeast, HalfAbove, HalfAtLeast, Meets, Not, NoneOf}
 
 abbrev pub TwoMasks : Type 0
 TwoMasks = (ℕ × ℕ) × (ℕ × ℕ)
@@ -14,6 +14,8 @@ bits_fact Above v1 m1 v2 m2 = ((v1, m1), (v2, m2))
 bits_fact AtLeast v1 m1 v2 m2 = ((v1, m1), (v2, m2))
 bits_fact SignedAbove v1 m1 v2 m2 = ((v1, m1), (v2, m2))
 bits_fact SignedAtLeast v1 m1 v2 m2 = ((v1, m1), (v2, m2))
+bits_fact HalfAbove v1 m1 v2 m2 = ((v1, m1), (v2, m2))
+bits_fact HalfAtLeast v1 m1 v2 m2 = ((v1, m1), (v2, m2))
 bits_fact Meets v1 m1 v2 m2 = ((v1, m1), (v2, m2))
 bits_fact (Not k) v1 m1 v2 m2 = ((v1, m1), (v2, m2))
 
@@ -34,4 +36,6 @@ denied Above v1 m1 v2 m2 = false
 denied AtLeast v1 m1 v2 m2 = false
 denied SignedAbove v1 m1 v2 m2 = false
 denied SignedAtLeast v1 m1 v2 m2 = false
+denied HalfAbove v1 m1 v2 m2 = false
+denied HalfAtLeast v1 m1 v2 m2 = false
 denied (Not k) v1 m1 v2 m2 = false

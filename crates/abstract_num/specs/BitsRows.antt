@@ -3,7 +3,7 @@ use Rattle.std.specs.Prelude.{ℕ, ◌-◌, ◌^◌, bit_and, bit_or, bit_xor}
 use Rattle.abstract_num.specs.Masks.{clear}
 use Rattle.abstract_num.specs.Meaning.{row_value}
 use Rattle.abstract_num.specs.declared.row.Row.{Row}
-use Rattle.abstract_num.specs.declared.row.Row.TheVariants.{Add, Sub, Mul, Div, Mod, And, Or, Xor, LshBy, RshBy, Rsh, ArshBy, Arsh, Cut}
+use Rattle.abstract_num.specs.declared.row.Row.TheVariants.{Add, Sub, Mul, Div, Mod, And, Or, Xor, LshBy, RshBy, Rsh, ArshBy, Arsh, SignedLshBy, SignedArshBy, Cut}
 
 -- the value, and of the unknown bits those that it doesn't have
 abbrev pub value_first : ℕ → ℕ → ℕ × ℕ
@@ -28,6 +28,8 @@ bits_row Xor v1 m1 v2 m2 = unknown_first (bit_or m1 m2) (bit_xor v1 v2)
 bits_row (LshBy s) v1 m1 v2 m2 = shifted (LshBy s) v1 m1
 bits_row (RshBy s) v1 m1 v2 m2 = shifted (RshBy s) v1 m1
 bits_row (ArshBy s) v1 m1 v2 m2 = shifted (ArshBy s) v1 m1
+bits_row (SignedLshBy s) v1 m1 v2 m2 = shifted (SignedLshBy s) v1 m1
+bits_row (SignedArshBy s) v1 m1 v2 m2 = shifted (SignedArshBy s) v1 m1
 bits_row Cut v1 m1 v2 m2 = shifted Cut v1 m1
 bits_row Add v1 m1 v2 m2 = unknown
 bits_row Sub v1 m1 v2 m2 = unknown

@@ -5,13 +5,16 @@ use Rattle.bpf_decode.specs.declared.operation.OpWidth.TheVariants.{Bits32, Bits
 use Rattle.bpf_decode.specs.declared.operation.Comparison.{Comparison}
 use Rattle.bpf_decode.specs.declared.operation.Comparison.TheVariants as is
 use Rattle.abstract_num.specs.Plain.{Plain}
-use Rattle.abstract_num.specs.Tighten.{tighten}
-use Rattle.abstract_num.specs.Transfer.{is_constant}
+use Rattle.abstract_num.specs.Tighten.{tighten, with_any_half}
+use Rattle.abstract_num.specs.Transfer.{is_constant, cut}
 use Rattle.abstract_num.specs.UnsignedFacts.{unsigned_fact, crosses}
 use Rattle.abstract_num.specs.SignedFacts.{signed_fact, crosses as signs_cross}
 use Rattle.abstract_num.specs.BitsFacts.{bits_fact, denied}
+use Rattle.abstract_num.specs.HalfFacts.{half_fact, crosses as halves_cross}
+use Rattle.abstract_num.specs.declared.precision.Precision.{Precision}
+use Rattle.abstract_num.specs.declared.precision.Precision.TheVariants.{Whole, Halves}
 use Rattle.abstract_num.specs.declared.fact.Fact.{Fact}
-use Rattle.abstract_num.specs.declared.fact.Fact.TheVariants.{Same, Above, AtLeast, SignedAbove, SignedAtLeast, Meets, Not, NoneOf}
+use Rattle.abstract_num.specs.declared.fact.Fact.TheVariants.{Same, Above, AtLeast, SignedAbove, SignedAtLeast, HalfAbove, HalfAtLeast, Meets, Not, NoneOf}
 use Rattle.abstract_num.specs.declared.fact.Edge.{Edge}
 use Rattle.abstract_num.specs.declared.fact.Edge.TheVariants.{Ahead, Turned, Apart, Disjoint}
 
@@ -48,16 +51,19 @@ Pair = Plain × Plain
 abbrev pub leaves_nothing : Fact → Plain → Plain → Bool
 leaves_nothing f x y =
     crosses (unsigned_fact f x.low x.high y.low y.high)
-    || (signs_cross (signed_fact f x.least x.greatest y.least y.greatest) || denied f x.value x.unknown y.value y.unknown)
+    || (signs_cross (signed_fact f x.least x.greatest y.least y.greatest)
+    || (denied f x.value x.unknown y.value y.unknown
+    || halves_cross (half_fact f x.half_least x.half_greatest y.half_least y.half_greatest)))
 
 -- what a fact leaves of both, part by part
 abbrev pub left_of : Fact → Plain → Plain → Pair
 left_of f x y =
     let u = unsigned_fact f x.low x.high y.low y.high in
     let s = signed_fact f x.least x.greatest y.least y.greatest in
-    let b = bits_fact f x.value x.unknown y.value y.unknown in (
-      record { low = u.0.0; high = u.0.1; least = s.0.0; greatest = s.0.1; value = b.0.0; unknown = b.0.1 },
-      record { low = u.1.0; high = u.1.1; least = s.1.0; greatest = s.1.1; value = b.1.0; unknown = b.1.1 },
+    let b = bits_fact f x.value x.unknown y.value y.unknown in
+    let h = half_fact f x.half_least x.half_greatest y.half_least y.half_greatest in (
+      record { low = u.0.0; high = u.0.1; least = s.0.0; greatest = s.0.1; value = b.0.0; unknown = b.0.1; half_least = h.0.0; half_greatest = h.0.1 },
+      record { low = u.1.0; high = u.1.1; least = s.1.0; greatest = s.1.1; value = b.1.0; unknown = b.1.1; half_least = h.1.0; half_greatest = h.1.1 },
     )
 
 abbrev pub by_fact : Fact → Plain → Plain → Option Pair
@@ -93,7 +99,7 @@ is_signed _ = false
 abbrev pub short_end : Comparison → ℕ
 short_end comparison = (if is_signed comparison then 2 ^ 31 else 2 ^ 32)
 
--- a comparison of 32 bits tells nothing of a number that may be longer
+-- of whole numbers a comparison of 32 bits tells nothing of a number that may be longer
 abbrev pub tells : OpWidth → Comparison → Plain → Plain → Bool
 tells Bits64 comparison x y = true
 tells Bits32 comparison x y = nat_lt x.high (short_end comparison) && nat_lt y.high (short_end comparison)
@@ -103,9 +109,40 @@ refined bits comparison taken x y =
     (if tells bits comparison x y then by_edge (edge_of comparison taken) x y else Some (x, y))
 
 -- both tightened once
-abbrev pub tightened : Pair → Option Pair
-tightened s = both (tighten s.0) (tighten s.1)
+abbrev pub tightened : Precision → Pair → Option Pair
+tightened precision s = both (tighten precision s.0) (tighten precision s.1)
 
--- along an edge
-abbrev pub along : OpWidth → Comparison → Bool → Plain → Plain → Option Pair
-along bits comparison taken x y = option_and_then tightened (refined bits comparison taken x y)
+-- the signed facts, of the halves
+abbrev pub half_fact_of : Fact → Fact
+half_fact_of SignedAbove = HalfAbove
+half_fact_of SignedAtLeast = HalfAtLeast
+half_fact_of f = f
+
+abbrev pub half_edge : Edge → Edge
+half_edge (Ahead f) = Ahead (half_fact_of f)
+half_edge (Turned f) = Turned (half_fact_of f)
+half_edge Apart = Apart
+half_edge Disjoint = Disjoint
+
+-- what an edge of a comparison of low halves leaves of two cuts, tightened
+abbrev pub along_cuts : Comparison → Bool → Plain → Plain → Option Pair
+along_cuts comparison taken x y =
+    let edge = half_edge (edge_of comparison taken) in
+    option_and_then (tightened Halves) (option_and_then (λ s. by_edge edge s.0 s.1) (both (cut Halves x) (cut Halves y)))
+
+-- x becomes what is left of its cut, if it was below 2 ^ 32; else its half becomes that one's
+abbrev pub put_back : Plain → Plain → Option Plain
+put_back x c =
+    (if nat_lt x.high (2 ^ 32) then Some c
+    else tighten Halves (record x { half_least = c.half_least; half_greatest = c.half_greatest }))
+
+abbrev pub put_both_back : Plain → Plain → Pair → Option Pair
+put_both_back x y s = both (put_back x s.0) (put_back y s.1)
+
+-- Along an edge. Of whole numbers no half is looked at; with halves a comparison of 32 bits is one of
+-- the cuts.
+abbrev pub along : Precision → OpWidth → Comparison → Bool → Plain → Plain → Option Pair
+along Whole bits comparison taken x y =
+    option_and_then (tightened Whole) (refined bits comparison taken (with_any_half x) (with_any_half y))
+along Halves Bits64 comparison taken x y = option_and_then (tightened Halves) (by_edge (edge_of comparison taken) x y)
+along Halves Bits32 comparison taken x y = option_and_then (put_both_back x y) (along_cuts comparison taken x y)

@@ -1,8 +1,9 @@
 -- The laws of the tables: what the machine computes of held numbers is held by what they give.
-use Rattle.std.specs.Prelude.{◌≡◌, ℕ, ◌^◌, ◌<◌, ◌≤◌, Bool, Option, IsSomeAnd}
+use Rattle.std.specs.Prelude.{◌≡◌, ℕ, ◌^◌, ◌<◌, ◌≤◌, Bool, Option, MatchOption, IsSomeAnd}
 use Rattle.bpf_decode.specs.Arithmetic.{alu_value, neg_value, mov_value, signed_move_value, end_value, is_taken, signed_load_value}
 use Rattle.bpf_decode.specs.Instruction.{byte_count, signed_byte_count}
 use Rattle.bpf_decode.specs.declared.operation.OpWidth.{OpWidth}
+use Rattle.bpf_decode.specs.declared.operation.OpWidth.TheVariants.{Bits32}
 use Rattle.bpf_decode.specs.declared.operation.Arithmetic.{Arithmetic}
 use Rattle.bpf_decode.specs.declared.operation.Arithmetic.TheVariants.{Sub}
 use Rattle.bpf_decode.specs.declared.operation.SignedMove.{SignedMove}
@@ -15,6 +16,8 @@ use Rattle.abstract_num.specs.Plain.{Plain, Number, Holds, any, constant, join, 
 use Rattle.abstract_num.specs.Tighten.{tighten}
 use Rattle.abstract_num.specs.Transfer.{transferred, copied, sign_extended, ordered, ranged, signed_ranged, load_high, signed_low, signed_high}
 use Rattle.abstract_num.specs.Edges.{along}
+use Rattle.abstract_num.specs.declared.precision.Precision.{Precision}
+use Rattle.abstract_num.specs.declared.precision.Precision.TheVariants.{Whole}
 
 -- its numbers are below 2 ^ 64
 pub record Fits (x : Plain) : Type 0 where
@@ -43,39 +46,51 @@ ConstantHolds = (n : ℕ) → n < 2 ^ 64 → Holds (constant n) n
 
 abbrev pub ArithmeticKeeps : Type 0
 ArithmeticKeeps =
-    (bits : OpWidth) (operation : Arithmetic) (x y : Plain) → Fits x → Fits y → (m n : ℕ) → Holds x m → Holds y n →
-    HeldIn (transferred bits operation x y) (alu_value bits operation m n)
+    (precision : Precision) (bits : OpWidth) (operation : Arithmetic) (x y : Plain) →
+    Fits x → Fits y → (m n : ℕ) → Holds x m → Holds y n →
+    HeldIn (transferred precision bits operation x y) (alu_value bits operation m n)
 
 abbrev pub NegativeKeeps : Type 0
-NegativeKeeps = (bits : OpWidth) (x : Plain) → Fits x → (n : ℕ) → Holds x n → HeldIn (transferred bits Sub (constant 0) x) (neg_value bits n)
+NegativeKeeps =
+    (precision : Precision) (bits : OpWidth) (x : Plain) → Fits x → (n : ℕ) → Holds x n →
+    HeldIn (transferred precision bits Sub (constant 0) x) (neg_value bits n)
 
 abbrev pub CopyKeeps : Type 0
-CopyKeeps = (bits : OpWidth) (x : Plain) (n : ℕ) → Holds x n → HeldIn (copied bits x) (mov_value bits n)
+CopyKeeps =
+    (precision : Precision) (bits : OpWidth) (x : Plain) (n : ℕ) → Holds x n →
+    HeldIn (copied precision bits x) (mov_value bits n)
 
 abbrev pub ExtensionKeeps : Type 0
-ExtensionKeeps = (extension : SignedMove) (x : Plain) (n : ℕ) → Holds x n → HeldIn (sign_extended extension x) (signed_move_value extension n)
+ExtensionKeeps =
+    (precision : Precision) (extension : SignedMove) (x : Plain) (n : ℕ) → Holds x n →
+    HeldIn (sign_extended precision extension x) (signed_move_value extension n)
 
 abbrev pub OrderKeeps : Type 0
-OrderKeeps = (order : ByteOrder) (width : EndWidth) (x : Plain) (n : ℕ) → Holds x n → HeldIn (ordered order width x) (end_value order width n)
+OrderKeeps =
+    (precision : Precision) (order : ByteOrder) (width : EndWidth) (x : Plain) (n : ℕ) → Holds x n →
+    HeldIn (ordered precision order width x) (end_value order width n)
 
 abbrev pub RangeKeeps : Type 0
-RangeKeeps = (low high n : ℕ) → n < 2 ^ 64 → low ≤ n → n ≤ high → HeldIn (tighten (ranged low high)) n
+RangeKeeps =
+    (precision : Precision) (low high n : ℕ) → n < 2 ^ 64 → low ≤ n → n ≤ high → HeldIn (tighten precision (ranged low high)) n
 
 abbrev pub LoadKeeps : Type 0
-LoadKeeps = (width : Width) (n : ℕ) → n < 256 ^ byte_count width → HeldIn (tighten (ranged 0 (load_high width))) n
+LoadKeeps =
+    (precision : Precision) (width : Width) (n : ℕ) → n < 256 ^ byte_count width → HeldIn (tighten precision (ranged 0 (load_high width))) n
 
 abbrev pub SignedLoadKeeps : Type 0
 SignedLoadKeeps =
-    (width : SignedWidth) (n : ℕ) → n < 256 ^ signed_byte_count width →
-    HeldIn (tighten (signed_ranged (signed_low width) (signed_high width))) (signed_load_value width n)
+    (precision : Precision) (width : SignedWidth) (n : ℕ) → n < 256 ^ signed_byte_count width →
+    HeldIn (tighten precision (signed_ranged (signed_low width) (signed_high width))) (signed_load_value width n)
 
 abbrev pub TightenKeeps : Type 0
-TightenKeeps = (x : Plain) (n : ℕ) → Holds x n → HeldIn (tighten x) n
+TightenKeeps = (precision : Precision) (x : Plain) (n : ℕ) → Holds x n → HeldIn (tighten precision x) n
 
 abbrev pub EdgeKeeps : Type 0
 EdgeKeeps =
-    (bits : OpWidth) (comparison : Comparison) (taken : Bool) (x y : Plain) (m n : ℕ) → Holds x m → Holds y n → is_taken bits comparison m n ≡ taken →
-    HeldInBoth (along bits comparison taken x y) m n
+    (precision : Precision) (bits : OpWidth) (comparison : Comparison) (taken : Bool) (x y : Plain) (m n : ℕ) →
+    Holds x m → Holds y n → is_taken bits comparison m n ≡ taken →
+    HeldInBoth (along precision bits comparison taken x y) m n
 
 -- what either of two numbers holds, their join holds
 pub record IsUpper (x y : Plain) : Type 0 where
@@ -84,3 +99,22 @@ pub record IsUpper (x y : Plain) : Type 0 where
 
 abbrev pub JoinKeeps : Type 0
 JoinKeeps = (x y : Plain) → IsUpper x y
+
+-- nothing is known of its half
+abbrev pub HasAnyHalf : Plain → Type 0
+HasAnyHalf x = (x.half_least ≡ any.half_least) × (x.half_greatest ≡ any.half_greatest)
+
+-- of what is left
+abbrev pub LeavesAnyHalf : Option Plain → Type 0
+LeavesAnyHalf o = MatchOption o (Unit {0}) HasAnyHalf
+
+-- What whole numbers give has any half, but a copy of 64 bits, which is the number as it is.
+pub record WholeHasAnyHalf : Type 0 where
+  pub tightened : (x : Plain) → LeavesAnyHalf (tighten Whole x)
+  pub arithmetic : (bits : OpWidth) (operation : Arithmetic) (x y : Plain)
+      → LeavesAnyHalf (transferred Whole bits operation x y)
+  pub extensions : (extension : SignedMove) (x : Plain) → LeavesAnyHalf (sign_extended Whole extension x)
+  pub orders : (order : ByteOrder) (width : EndWidth) (x : Plain) → LeavesAnyHalf (ordered Whole order width x)
+  pub copies : (x : Plain) → LeavesAnyHalf (copied Whole Bits32 x)
+  pub edges : (bits : OpWidth) (comparison : Comparison) (taken : Bool) (x y : Plain)
+      → MatchOption (along Whole bits comparison taken x y) (Unit {0}) (λ s. HasAnyHalf s.0 × HasAnyHalf s.1)

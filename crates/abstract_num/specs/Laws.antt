@@ -1,11 +1,20 @@
 -- The laws of the number's join and order.
 use Rattle.std.specs.Prelude.{◌≡◌, ℕ}
-use Rattle.abstract_num.specs.Parts.{joined_urange, joined_srange, joined_bits}
+use Rattle.abstract_num.specs.Parts.{joined_urange, joined_srange, joined_bits, joined_half}
 use Rattle.abstract_num.specs.Plain.{Number, Holds, Below, view}
 
 abbrev pub joined : Number → Number → Number
 joined x y =
-    record { first = joined_urange x.first y.first; second = record { first = joined_srange x.second.first y.second.first; second = joined_bits x.second.second y.second.second } }
+    record {
+      first = joined_urange x.first y.first;
+      second = record {
+        first = joined_srange x.second.first y.second.first;
+        second = record {
+          first = joined_bits x.second.second.first y.second.second.first;
+          second = joined_half x.second.second.second y.second.second.second;
+        };
+      };
+    }
 
 abbrev pub JoinCommutes : Type 0
 JoinCommutes = (x y : Number) → joined x y ≡ joined y x

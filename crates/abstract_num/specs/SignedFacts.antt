@@ -3,7 +3,7 @@ use Rattle.std.specs.Prelude.{ℤ, pos, ◌+ℤ◌, ◌-ℤ◌, int_le, int_lt, 
 use Rattle.std.specs.Int.{int_min, int_max}
 use Rattle.abstract_num.specs.Signed.{signed}
 use Rattle.abstract_num.specs.declared.fact.Fact.{Fact}
-use Rattle.abstract_num.specs.declared.fact.Fact.TheVariants.{Same, Above, AtLeast, SignedAbove, SignedAtLeast, Meets, Not, NoneOf}
+use Rattle.abstract_num.specs.declared.fact.Fact.TheVariants.{Same, Above, AtLeast, SignedAbove, SignedAtLeast, HalfAbove, HalfAtLeast, Meets, Not, NoneOf}
 
 abbrev pub TwoSigned : Type 0
 TwoSigned = (ℤ × ℤ) × (ℤ × ℤ)
@@ -19,6 +19,8 @@ signed_fact SignedAtLeast p q r s = ((int_max p r, q), (r, int_min s q))
 signed_fact (Not k) p q r s = ((p +ℤ if_at p (signed k), q -ℤ if_at q (signed k)), (r, s))
 signed_fact Above p q r s = ((p, q), (r, s))
 signed_fact AtLeast p q r s = ((p, q), (r, s))
+signed_fact HalfAbove p q r s = ((p, q), (r, s))
+signed_fact HalfAtLeast p q r s = ((p, q), (r, s))
 signed_fact Meets p q r s = ((p, q), (r, s))
 signed_fact (NoneOf k) p q r s = ((p, q), (r, s))
 

@@ -1,7 +1,7 @@
 -- What a fact leaves of two unsigned ranges [a, b] and [c, d]: their ends after.
 use Rattle.std.specs.Prelude.{ℕ, ◌+◌, ◌-◌, ◌==◌, ◌||◌, min, max, nat_lt, Bool, if◌then◌else◌}
 use Rattle.abstract_num.specs.declared.fact.Fact.{Fact}
-use Rattle.abstract_num.specs.declared.fact.Fact.TheVariants.{Same, Above, AtLeast, SignedAbove, SignedAtLeast, Meets, Not, NoneOf}
+use Rattle.abstract_num.specs.declared.fact.Fact.TheVariants.{Same, Above, AtLeast, SignedAbove, SignedAtLeast, HalfAbove, HalfAtLeast, Meets, Not, NoneOf}
 
 abbrev pub TwoRanges : Type 0
 TwoRanges = (ℕ × ℕ) × (ℕ × ℕ)
@@ -17,6 +17,8 @@ unsigned_fact AtLeast a b c d = ((max a c, b), (c, min d b))
 unsigned_fact (Not k) a b c d = ((a + if_at a k, b - if_at b k), (c, d))
 unsigned_fact SignedAbove a b c d = ((a, b), (c, d))
 unsigned_fact SignedAtLeast a b c d = ((a, b), (c, d))
+unsigned_fact HalfAbove a b c d = ((a, b), (c, d))
+unsigned_fact HalfAtLeast a b c d = ((a, b), (c, d))
 unsigned_fact Meets a b c d = ((a, b), (c, d))
 unsigned_fact (NoneOf k) a b c d = ((a, b), (c, d))
 

@@ -2,7 +2,7 @@
 use Rattle.std.specs.Prelude.{ℕ, ◌+◌, ◌-◌, ◌*◌, ◌/◌, ◌%◌, ◌^◌, min, max, nat_lt, nat_le, if◌then◌else◌}
 use Rattle.std.specs.Int.Count.{count_leading_zeros}
 use Rattle.abstract_num.specs.declared.row.Row.{Row}
-use Rattle.abstract_num.specs.declared.row.Row.TheVariants.{Add, Sub, Mul, Div, Mod, And, Or, Xor, LshBy, RshBy, Rsh, ArshBy, Arsh, Cut}
+use Rattle.abstract_num.specs.declared.row.Row.TheVariants.{Add, Sub, Mul, Div, Mod, And, Or, Xor, LshBy, RshBy, Rsh, ArshBy, Arsh, SignedLshBy, SignedArshBy, Cut}
 
 abbrev pub ends : ℕ → ℕ → ℕ × ℕ
 ends a b = (a, b)
@@ -32,4 +32,6 @@ unsigned_row (RshBy s) a b c d = ends (a / power s) (b / power s)
 unsigned_row Rsh a b c d = ends 0 b
 unsigned_row (ArshBy s) a b c d = (if nat_lt b (2 ^ 63) then ends (a / power s) (b / power s) else all)
 unsigned_row Arsh a b c d = (if nat_lt b (2 ^ 63) then ends 0 b else all)
+unsigned_row (SignedLshBy s) a b c d = (if nat_lt (b * power s) (2 ^ 64) then ends (a * power s) (b * power s) else all)
+unsigned_row (SignedArshBy s) a b c d = (if nat_lt b (2 ^ 63) then ends (a / power s) (b / power s) else all)
 unsigned_row Cut a b c d = (if nat_lt b (2 ^ 32) then ends a b else ends 0 (2 ^ 32 - 1))

@@ -12,6 +12,9 @@ pub trait Domain: Copy {
     /// The numbers that a value holds.
     ghost holds: { Self → ℕ → Type 0 };
 
+    /// The numbers that the constant of a second number holds: for most kinds, that number alone.
+    ghost alike: { ℕ → ℕ → Type 0 } = { λ k n. k ≡ n };
+
     /// The join of two values.
     ghost joined: { Self → Self → Self };
 
@@ -28,9 +31,9 @@ pub trait Domain: Copy {
     fn top() -> Self
         ensures { (n : ℕ) → n < 2 ^ 64 → holds result n };
 
-    /// The value that holds `n` alone.
+    /// The least value that holds `n`.
     fn constant(n: u64) -> Self
-        ensures { (k : ℕ) → holds result k ↔ (k ≡ n) };
+        ensures { (k : ℕ) → holds result k ↔ alike k n };
 
     /// An upper bound of both.
     fn join(self, other: Self) -> Self
@@ -47,6 +50,8 @@ pub trait Domain: Copy {
     /// Refines both values by the fact. None if nothing is left of one of them.
     fn refine(fact: Fact, left: Self, right: Self) -> Option<(Self, Self)>
         ensures { refines fact left right result };
+
+    ghost alike_itself: { (n : ℕ) → n < 2 ^ 64 → alike n n };
 
     ghost join_commutes: { (x y : Self) → joined x y ≡ joined y x };
 

@@ -11,6 +11,10 @@ pub enum Fact {
     SignedAbove,
     /// The first is at least the second, as signed numbers.
     SignedAtLeast,
+    /// The low half of the first is above that of the second, as signed numbers.
+    HalfAbove,
+    /// The low half of the first is at least that of the second, as signed numbers.
+    HalfAtLeast,
     /// They have a set bit in common.
     Meets,
     /// The first isn't this number.

@@ -1,4 +1,4 @@
-ghost use Rattle.abstract_num.specs.Keeping.{NumbersFit, ConstantsFit, AnyHolds, ConstantHolds, ArithmeticKeeps, NegativeKeeps, CopyKeeps, ExtensionKeeps, OrderKeeps, RangeKeeps, LoadKeeps, SignedLoadKeeps, TightenKeeps, EdgeKeeps, JoinKeeps};
+ghost use Rattle.abstract_num.specs.Keeping.{NumbersFit, ConstantsFit, AnyHolds, ConstantHolds, ArithmeticKeeps, NegativeKeeps, CopyKeeps, ExtensionKeeps, OrderKeeps, RangeKeeps, LoadKeeps, SignedLoadKeeps, TightenKeeps, EdgeKeeps, JoinKeeps, WholeHasAnyHalf};
 ghost use Rattle.abstract_num.specs.Laws.{JoinCommutes, JoinAssociates, JoinOfSame, JoinIsAbove, BelowIsReflexive, BelowIsTransitive, BelowHolds};
 
 /// A law, proved when the crate is checked; a call does nothing. The join of numbers is a
@@ -35,4 +35,10 @@ pub fn keeping_laws()
     ensures tighten { TightenKeeps }
     ensures edges { EdgeKeeps }
     ensures join { JoinKeeps }
+{}
+
+/// A law. With `Precision::Whole` an answer has any half, but a copy of 64 bits, which is the number
+/// as it is.
+pub fn whole_laws()
+    ensures { WholeHasAnyHalf }
 {}

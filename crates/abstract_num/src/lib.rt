@@ -1,5 +1,6 @@
 //! Abstract numbers: what is known of a whole number below `2^64`, as an unsigned range, a signed
-//! range and known bits.
+//! range, known bits and a half, the range of its low 32 bits as a signed number. With
+//! `Precision::Whole` the half of every answer is any one.
 //!
 //! `Domain` is the trait of such values, with its laws; `Product` of any two lawful parts is
 //! lawful. `arithmetic` and its like answer by the tables of specs/ and keep every number that was
@@ -11,9 +12,11 @@
 mod bits;
 mod domain;
 mod fact;
+mod half;
 mod holding;
 mod laws;
 mod number;
+mod precision;
 mod product;
 mod refining;
 mod row;
@@ -25,12 +28,14 @@ mod urange;
 pub use bits::Bits;
 pub use domain::Domain;
 pub use fact::Fact;
+pub use half::Half;
 pub use holding::domain_of_numbers;
-pub use laws::{join_laws, keeping_laws, order_laws};
+pub use laws::{join_laws, keeping_laws, order_laws, whole_laws};
 pub use number::{
     Number, any, between, constant, highest, holds, is_below, join, loaded, loaded_signed,
     signed_between,
 };
+pub use precision::Precision;
 pub use product::Product;
 pub use refining::refine;
 pub use row::Row;

@@ -18,6 +18,8 @@ impl<A: Domain, B: Domain> Domain for Product<A, B> {
 
     ghost holds = { λ p n. A.holds p.first n × B.holds p.second n };
 
+    ghost alike = { λ k n. A.alike k n × B.alike k n };
+
     ghost joined = { λ p q. record { first = A.joined p.first q.first; second = B.joined p.second q.second } };
 
     ghost below = { λ p q. A.below p.first q.first × B.below p.second q.second };
@@ -81,6 +83,8 @@ impl<A: Domain, B: Domain> Domain for Product<A, B> {
             },
         }
     }
+
+    ghost alike_itself = { λ n h. (A.alike_itself n h, B.alike_itself n h) };
 
     ghost join_commutes = { λ p q. ap₂ (λ a b. record { first = a; second = b }) (A.join_commutes p.first q.first) (B.join_commutes p.second q.second) };
 

@@ -1,13 +1,16 @@
 ghost use Rattle.std.specs.Prelude.{◌≡◌, ℕ, IsSomeAnd, MatchOption, Some, None};
 ghost use Rattle.bpf_decode.specs.Arithmetic.{is_taken};
 ghost use Rattle.abstract_num.specs.Plain.{Gives, GivesBoth, Holds, view};
-ghost use Rattle.abstract_num.specs.Edges.{along, by_edge, by_fact, edge_of, is_signed, other_than, refined, short_end, tells};
+ghost use Rattle.abstract_num.specs.Edges.{along, along_cuts, by_edge, by_fact, edge_of, half_edge, half_fact_of, is_signed, other_than, put_back, refined, short_end, tells, tightened};
+ghost use Rattle.bpf_decode.specs.declared.operation.OpWidth.TheVariants.{Bits32, Bits64};
+ghost use Rattle.abstract_num.specs.declared.precision.Precision.TheVariants.{Whole, Halves};
 
 use crate::domain::Domain;
 use crate::fact::{Edge, Fact};
 use crate::number::Number;
-use crate::tightening::tighten;
-use crate::transfer::is_constant;
+use crate::precision::Precision;
+use crate::tightening::{tighten, with_any_half};
+use crate::transfer::{cut, is_constant};
 use bpf_decode::{Comparison, OpWidth};
 
 /// The relation between both numbers if the comparison holds (`taken`), or if it doesn't.
@@ -130,7 +133,7 @@ fn short_end(comparison: Comparison) -> u64
     }
 }
 
-/// True if the comparison refines its numbers: one of 32 bits does so only if both are so small
+/// True if the comparison refines its numbers, without halves: one of 32 bits does so only if both are so small
 /// that their low halves compare as they do.
 #[inline(always)]
 fn tells(bits: OpWidth, comparison: Comparison, x: Number, y: Number) -> bool
@@ -163,27 +166,134 @@ fn refined(
     }
 }
 
-/// Refines both numbers along the comparison's edge, and tightens each once.
+/// Tightens each once.
 #[inline(always)]
-fn along(
+fn tightened(precision: Precision, both: (Number, Number)) -> Option<(Number, Number)>
+    ensures { GivesBoth (tightened precision (view both.0, view both.1)) result }
+{
+    let Some(a) = tighten(precision, both.0) else {
+        return None;
+    };
+    let Some(b) = tighten(precision, both.1) else {
+        return None;
+    };
+    Some((a, b))
+}
+
+/// The signed facts become facts of the halves.
+#[inline(always)]
+fn half_fact_of(fact: Fact) -> Fact
+    ensures { result ≡ half_fact_of fact }
+{
+    match fact {
+        Fact::SignedAbove => Fact::HalfAbove,
+        Fact::SignedAtLeast => Fact::HalfAtLeast,
+        _ => fact,
+    }
+}
+
+/// The relation between two cuts, of which the low halves were compared.
+#[inline(always)]
+fn half_edge(edge: Edge) -> Edge
+    ensures { result ≡ half_edge edge }
+{
+    match edge {
+        Edge::Ahead(fact) => Edge::Ahead(half_fact_of(fact)),
+        Edge::Turned(fact) => Edge::Turned(half_fact_of(fact)),
+        Edge::Apart => Edge::Apart,
+        Edge::Disjoint => Edge::Disjoint,
+    }
+}
+
+/// Refines the cuts of both numbers along the edge of a comparison of low halves.
+fn along_cuts(comparison: Comparison, taken: bool, x: Number, y: Number) -> Option<(Number, Number)>
+    ensures { GivesBoth (along_cuts comparison taken (view x) (view y)) result }
+{
+    let Some(a) = cut(Precision::Halves, x) else {
+        return None;
+    };
+    let Some(b) = cut(Precision::Halves, y) else {
+        return None;
+    };
+    let Some(both) = by_edge(half_edge(edge_of(comparison, taken)), a, b) else {
+        return None;
+    };
+    tightened(Precision::Halves, both)
+}
+
+/// The number after what is left of its cut is known.
+// A cut says nothing of the upper half of a longer number.
+fn put_back(x: Number, cut: Number) -> Option<Number>
+    ensures { Gives (put_back (view x) (view cut)) result }
+{
+    if x.unsigned().high < 1 << 32 {
+        Some(cut)
+    } else {
+        let whole = Number::of(x.unsigned(), x.signed(), x.bits(), cut.half());
+        tighten(Precision::Halves, whole)
+    }
+}
+
+/// Refines both numbers along the edge of a comparison of 32 bits, with halves.
+fn along32(comparison: Comparison, taken: bool, x: Number, y: Number) -> Option<(Number, Number)>
+    ensures { GivesBoth (along Halves Bits32 comparison taken (view x) (view y)) result }
+{
+    let Some(both) = along_cuts(comparison, taken, x, y) else {
+        return None;
+    };
+    let Some(a) = put_back(x, both.0) else {
+        return None;
+    };
+    let Some(b) = put_back(y, both.1) else {
+        return None;
+    };
+    Some((a, b))
+}
+
+/// Refines both numbers along the edge of a comparison of 64 bits, with halves.
+fn along64(comparison: Comparison, taken: bool, x: Number, y: Number) -> Option<(Number, Number)>
+    ensures { GivesBoth (along Halves Bits64 comparison taken (view x) (view y)) result }
+{
+    let Some(both) = by_edge(edge_of(comparison, taken), x, y) else {
+        return None;
+    };
+    tightened(Precision::Halves, both)
+}
+
+/// Refines both numbers along the comparison's edge without their halves, and tightens each once.
+#[inline(always)]
+fn along_whole(
     bits: OpWidth,
     comparison: Comparison,
     taken: bool,
     x: Number,
     y: Number,
 ) -> Option<(Number, Number)>
-    ensures { GivesBoth (along bits comparison taken (view x) (view y)) result }
+    ensures { GivesBoth (along Whole bits comparison taken (view x) (view y)) result }
 {
-    let Some(both) = refined(bits, comparison, taken, x, y) else {
+    let Some(both) = refined(bits, comparison, taken, with_any_half(x), with_any_half(y)) else {
         return None;
     };
-    let Some(a) = tighten(both.0) else {
-        return None;
-    };
-    let Some(b) = tighten(both.1) else {
-        return None;
-    };
-    Some((a, b))
+    tightened(Precision::Whole, both)
+}
+
+/// Refines both numbers along the comparison's edge, and tightens each once.
+#[inline(always)]
+fn along(
+    precision: Precision,
+    bits: OpWidth,
+    comparison: Comparison,
+    taken: bool,
+    x: Number,
+    y: Number,
+) -> Option<(Number, Number)>
+    ensures { GivesBoth (along precision bits comparison taken (view x) (view y)) result }
+{
+    match (precision, bits) {
+        (Precision::Whole, _) => along_whole(bits, comparison, taken, x, y),
+        (Precision::Halves, OpWidth::Bits64) => along64(comparison, taken, x, y),
+        (Precision::Halves, OpWidth::Bits32) => along32(comparison, taken, x, y),
+    }
 }
 
 /// Refines both numbers of a comparison along the edge on which it holds (`taken`) or doesn't: by
@@ -191,15 +301,16 @@ fn along(
 /// this way is held after; None says that there is no such pair. For a register that is compared
 /// with itself, call `tighten` on its number instead.
 pub fn refine(
+    precision: Precision,
     bits: OpWidth,
     comparison: Comparison,
     taken: bool,
     x: Number,
     y: Number,
 ) -> Option<(Number, Number)>
-    ensures table { GivesBoth (along bits comparison taken (view x) (view y)) result }
+    ensures table { GivesBoth (along precision bits comparison taken (view x) (view y)) result }
     ensures keeps { (m n : ℕ) → Holds (view x) m → Holds (view y) n → is_taken bits comparison m n ≡ taken
         → IsSomeAnd result (λ s. Holds (view s.0) m × Holds (view s.1) n) }
 {
-    along(bits, comparison, taken, x, y)
+    along(precision, bits, comparison, taken, x, y)
 }

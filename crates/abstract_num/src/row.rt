@@ -21,6 +21,10 @@ pub enum Row {
     ArshBy(u32),
     /// ARSH by a count that isn't constant.
     Arsh,
+    /// LSH by a constant count, whose signed range counts.
+    SignedLshBy(u32),
+    /// ARSH by a constant count, whose signed range counts.
+    SignedArshBy(u32),
     /// The low 32 bits of the first number.
     Cut,
 }
@@ -32,6 +36,8 @@ pub enum RowAnswer {
     Exact(u64),
     /// Each part is answered by this row.
     By(Row),
+    /// LSH by 32, whose signed range comes from the first number's half.
+    Raised,
     /// Any number.
     All,
 }

@@ -13,7 +13,7 @@ use Rattle.abstract_num.specs.Refined.{IsRefined}
 use Rattle.abstract_num.specs.BitsFacts.{TwoMasks, bits_fact, conflict, common, denied}
 use Rattle.abstract_num.specs.proved.BitsRows.{Agrees, IsMask, at}
 use Rattle.abstract_num.specs.declared.fact.Fact.{Fact}
-use Rattle.abstract_num.specs.declared.fact.Fact.TheVariants.{Same, Above, AtLeast, SignedAbove, SignedAtLeast, Meets, Not, NoneOf}
+use Rattle.abstract_num.specs.declared.fact.Fact.TheVariants.{Same, Above, AtLeast, SignedAbove, SignedAtLeast, HalfAbove, HalfAtLeast, Meets, Not, NoneOf}
 use Rattle.abstract_num.specs.declared.bits.Bits.{Bits}
 
 abbrev pub AreMasks : TwoMasks → Bits × Bits → Type 0
@@ -61,6 +61,8 @@ bits_fact_keeps Above v1 m1 v2 m2 k n p q h = (refl, p, q)
 bits_fact_keeps AtLeast v1 m1 v2 m2 k n p q h = (refl, p, q)
 bits_fact_keeps SignedAbove v1 m1 v2 m2 k n p q h = (refl, p, q)
 bits_fact_keeps SignedAtLeast v1 m1 v2 m2 k n p q h = (refl, p, q)
+bits_fact_keeps HalfAbove v1 m1 v2 m2 k n p q h = (refl, p, q)
+bits_fact_keeps HalfAtLeast v1 m1 v2 m2 k n p q h = (refl, p, q)
 bits_fact_keeps (Not c) v1 m1 v2 m2 k n p q h = (refl, p, q)
 
 in_mask : (z : Bits) (e : ℕ × ℕ) (n : ℕ) → IsMask z e → Agrees e n → n < 2 ^ 64 → InBits z n

@@ -14,7 +14,7 @@ use Rattle.abstract_num.specs.proved.RowsFit.{row_value_fits}
 use Rattle.abstract_num.specs.Parts.{InBits}
 use Rattle.abstract_num.specs.BitsRows.{bits_row, unknown}
 use Rattle.abstract_num.specs.declared.row.Row.{Row}
-use Rattle.abstract_num.specs.declared.row.Row.TheVariants.{Add, Sub, Mul, Div, Mod, And, Or, Xor, LshBy, RshBy, Rsh, ArshBy, Arsh, Cut}
+use Rattle.abstract_num.specs.declared.row.Row.TheVariants.{Add, Sub, Mul, Div, Mod, And, Or, Xor, LshBy, RshBy, Rsh, ArshBy, Arsh, SignedLshBy, SignedArshBy, Cut}
 use Rattle.abstract_num.specs.declared.bits.Bits.{Bits}
 
 and_shl : (a b k : ℕ) → bit_and (a * 2 ^ k) (b * 2 ^ k) ≡ bit_and a b * 2 ^ k
@@ -99,9 +99,11 @@ xor_keeps v1 m1 v2 m2 k n a f g p q =
     same_from_bits (clear (bit_xor k n) u) (clear v u)
     (λ i. omega (arith, bit_at_clear (bit_xor k n) u i, bit_at_clear v u i, bit_at_xor k n i, bit_at_xor v1 v2 i, bit_at_or m1 m2 i, at k v1 m1 p i, at n v2 m2 q i, bit_at-lt k i, bit_at-lt n i, bit_at-lt m1 i, bit_at-lt m2 i))
 
+pub lsh_agrees : (s v m n : ℕ) → clear n m ≡ v → Agrees (bits_row (LshBy s) v m 0 0) (row_value (LshBy s) n 0)
+lsh_agrees s v m n p = clear_mod _ _ 64 ∙ ap (λ v. v % 2 ^ 64) (clear_shl n m (s % 64) ∙ ap (λ v. v * 2 ^ (s % 64)) p)
+
 lsh_by_keeps : (s : ℕ) → Keeps (LshBy s)
-lsh_by_keeps s v1 m1 v2 m2 k n a f g p q =
-    clear_mod _ _ 64 ∙ ap (λ v. v % 2 ^ 64) (clear_shl k m1 (s % 64) ∙ ap (λ v. v * 2 ^ (s % 64)) p)
+lsh_by_keeps s v1 m1 v2 m2 k n a f g p q = lsh_agrees s v1 m1 k p
 
 rsh_by_keeps : (s : ℕ) → Keeps (RshBy s)
 rsh_by_keeps s v1 m1 v2 m2 k n a f g p q = clear_shr k m1 (s % 64) ∙ ap (λ v. v / 2 ^ (s % 64)) p
@@ -137,6 +139,8 @@ bits_row_keeps (RshBy s) v1 m1 v2 m2 k n a f g p q = rsh_by_keeps s v1 m1 v2 m2 
 bits_row_keeps Rsh v1 m1 v2 m2 k n a f g p q = unknown_keeps (row_value Rsh k n) (row_value_fits Rsh k n f g)
 bits_row_keeps (ArshBy s) v1 m1 v2 m2 k n a f g p q = arsh_by_keeps s v1 m1 v2 m2 k n a f g p q
 bits_row_keeps Arsh v1 m1 v2 m2 k n a f g p q = unknown_keeps (row_value Arsh k n) (row_value_fits Arsh k n f g)
+bits_row_keeps (SignedLshBy s) v1 m1 v2 m2 k n a f g p q = lsh_by_keeps s v1 m1 v2 m2 k n a f g p q
+bits_row_keeps (SignedArshBy s) v1 m1 v2 m2 k n a f g p q = arsh_by_keeps s v1 m1 v2 m2 k n a f g p q
 bits_row_keeps Cut v1 m1 v2 m2 k n a f g p q = cut_keeps v1 m1 v2 m2 k n a f g p q
 
 -- the value and the unknown bits

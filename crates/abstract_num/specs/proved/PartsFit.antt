@@ -10,6 +10,7 @@ use Rattle.abstract_num.specs.Masks.{clear}
 use Rattle.abstract_num.specs.declared.urange.URange.{URange}
 use Rattle.abstract_num.specs.declared.srange.SRange.{SRange}
 use Rattle.abstract_num.specs.declared.bits.Bits.{Bits}
+use Rattle.abstract_num.specs.declared.half.Half.{Half}
 
 pub hull_ordered : (x y : URange) → min x.low y.low ≤ max x.high y.high
 hull_ordered x y = omega (arith, x.ordered)
@@ -19,6 +20,9 @@ hull_fits x y = omega (arith, x.fits, y.fits)
 
 pub signed_hull_ordered : (x y : SRange) → int_min x.low y.low ≤ℤ int_max x.high y.high
 signed_hull_ordered x y = omega (arith, ints, clamps)
+
+pub half_hull_ordered : (x y : Half) → int_min x.low y.low ≤ℤ int_max x.high y.high
+half_hull_ordered x y = omega (arith, ints, clamps)
 
 pub bit_at_clear : (n m i : ℕ) → bit_at (clear n m) i ≡ bit_at n i - bit_at m i
 bit_at_clear n m i =

@@ -1,13 +1,14 @@
 -- Proved; nothing here need be believed.
 -- The laws of joining ranges.
 use Rattle.std.specs.Prelude.{◌≡◌, ℕ, ℤ, ◌^◌, ◌<◌, ◌≤◌, ◌≤ℤ◌}
-use Rattle.std.proofs.Common.{arith, ap, subst}
+use Rattle.std.proofs.Common.{arith, ap, subst, refl}
 use Rattle.std.proofs.Props.{props}
 use mathlib.Core.Path.{ap₂}
 use Rattle.std.proofs.lemmas.Int.{ints, clamps}
-use Rattle.abstract_num.specs.Parts.{InURange, InSRange, joined_urange, joined_srange, BelowURange, BelowSRange}
+use Rattle.abstract_num.specs.Parts.{InURange, InSRange, InHalf, HaveSameHalf, joined_urange, joined_srange, joined_half, BelowURange, BelowSRange, BelowHalf}
 use Rattle.abstract_num.specs.declared.urange.URange.{URange}
 use Rattle.abstract_num.specs.declared.srange.SRange.{SRange}
+use Rattle.abstract_num.specs.declared.half.Half.{Half}
 
 abbrev urange_of : (a b : ℕ) → a ≤ b → b < 2 ^ 64 → URange
 urange_of a b o f = record { low = a; high = b; ordered = o; fits = f }
@@ -76,3 +77,43 @@ srange_join_is_above x y = (omega (arith, ints, clamps), omega (arith, ints, cla
 
 pub srange_below_holds : (x y : SRange) → BelowSRange x y → (n : ℕ) → InSRange x n → InSRange y n
 srange_below_holds x y b n h = (omega (arith, ints), omega (arith, ints), omega arith)
+
+-- a number is like itself
+pub same_number_itself : (n : ℕ) → n < 2 ^ 64 → n ≡ n
+same_number_itself n h = refl
+
+pub same_half_itself : (n : ℕ) → n < 2 ^ 64 → HaveSameHalf n n
+same_half_itself n h = (h, refl)
+
+abbrev half_of : (a b : ℤ) → a ≤ℤ b → Half
+half_of a b o = record { low = a; high = b; ordered = o }
+
+half_same_from : (a b c d : ℤ) (o : a ≤ℤ b) → a ≡ c → b ≡ d → (o' : c ≤ℤ d) → half_of a b o ≡ half_of c d o'
+half_same_from a b c d o p q =
+    subst (λ (w : ℤ). (o' : w ≤ℤ d) → half_of a b o ≡ half_of w d o') p
+    (subst (λ (w : ℤ). (o' : a ≤ℤ w) → half_of a b o ≡ half_of a w o') q
+    (λ o'. ap (half_of a b) (signed_order_once a b o o')))
+
+-- two halves of the same ends are the same
+pub half_same : (x y : Half) → x.low ≡ y.low → x.high ≡ y.high → x ≡ y
+half_same x y p q = half_same_from x.low x.high y.low y.high x.ordered p q y.ordered
+
+pub half_join_commutes : (x y : Half) → joined_half x y ≡ joined_half y x
+half_join_commutes x y =
+    half_same (joined_half x y) (joined_half y x) (omega (arith, ints, clamps)) (omega (arith, ints, clamps))
+
+pub half_join_associates : (x y z : Half) → joined_half (joined_half x y) z ≡ joined_half x (joined_half y z)
+half_join_associates x y z =
+    half_same (joined_half (joined_half x y) z) (joined_half x (joined_half y z)) (omega (arith, ints, clamps)) (omega (arith, ints, clamps))
+
+pub half_join_of_same : (x : Half) → joined_half x x ≡ x
+half_join_of_same x = half_same (joined_half x x) x (omega (arith, ints, clamps)) (omega (arith, ints, clamps))
+
+pub half_join_is_above : (x y : Half) → BelowHalf x (joined_half x y)
+half_join_is_above x y = (omega (arith, ints, clamps), omega (arith, ints, clamps))
+
+le_through : (a b c : ℤ) → a ≤ℤ b → b ≤ℤ c → a ≤ℤ c
+le_through a b c p q = omega (arith, ints)
+
+pub half_below_holds : (x y : Half) → BelowHalf x y → (n : ℕ) → InHalf x n → InHalf y n
+half_below_holds x y b n h = (le_through _ _ _ b.0 h.0, le_through _ _ _ h.1 b.1, h.2)

@@ -7,7 +7,7 @@ use Rattle.std.proofs.lemmas.Nat.{and_le_l, or_lt, xor_lt, shr_le}
 use Rattle.abstract_num.specs.proved.Shifts.{arsh_lt}
 use Rattle.abstract_num.specs.Meaning.{row_value}
 use Rattle.abstract_num.specs.declared.row.Row.{Row}
-use Rattle.abstract_num.specs.declared.row.Row.TheVariants.{Add, Sub, Mul, Div, Mod, And, Or, Xor, LshBy, RshBy, Rsh, ArshBy, Arsh, Cut}
+use Rattle.abstract_num.specs.declared.row.Row.TheVariants.{Add, Sub, Mul, Div, Mod, And, Or, Xor, LshBy, RshBy, Rsh, ArshBy, Arsh, SignedLshBy, SignedArshBy, Cut}
 
 pub row_value_fits : (r : Row) (m n : ℕ) → m < 2 ^ 64 → n < 2 ^ 64 → row_value r m n < 2 ^ 64
 row_value_fits Add m n p q = omega arith
@@ -23,4 +23,6 @@ row_value_fits (RshBy k) m n p q = omega (arith, shr_le m (k % 64))
 row_value_fits Rsh m n p q = omega (arith, shr_le m (n % 64))
 row_value_fits (ArshBy k) m n p q = arsh_lt (k % 64) m p
 row_value_fits Arsh m n p q = arsh_lt (n % 64) m p
+row_value_fits (SignedLshBy k) m n p q = omega arith
+row_value_fits (SignedArshBy k) m n p q = arsh_lt (k % 64) m p
 row_value_fits Cut m n p q = omega arith

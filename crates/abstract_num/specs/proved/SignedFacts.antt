@@ -12,7 +12,7 @@ use Rattle.abstract_num.specs.Signed.{signed}
 use Rattle.abstract_num.specs.SignedFacts.{TwoSigned, if_at, signed_fact, crosses}
 use Rattle.abstract_num.specs.proved.SignedRows.{SignedBetween, IsReach}
 use Rattle.abstract_num.specs.declared.fact.Fact.{Fact}
-use Rattle.abstract_num.specs.declared.fact.Fact.TheVariants.{Same, Above, AtLeast, SignedAbove, SignedAtLeast, Meets, Not, NoneOf}
+use Rattle.abstract_num.specs.declared.fact.Fact.TheVariants.{Same, Above, AtLeast, SignedAbove, SignedAtLeast, HalfAbove, HalfAtLeast, Meets, Not, NoneOf}
 use Rattle.abstract_num.specs.declared.srange.SRange.{SRange}
 
 abbrev pub AreReaches : TwoSigned → SRange × SRange → Type 0
@@ -89,6 +89,8 @@ signed_fact_keeps (Not k) p q r s m n a b c d l h =
     ((not_low p (signed m) (signed k) a apart, not_high q (signed m) (signed k) b apart), (c, d))
 signed_fact_keeps Above p q r s m n a b c d l h = ((a, b), (c, d))
 signed_fact_keeps AtLeast p q r s m n a b c d l h = ((a, b), (c, d))
+signed_fact_keeps HalfAbove p q r s m n a b c d l h = ((a, b), (c, d))
+signed_fact_keeps HalfAtLeast p q r s m n a b c d l h = ((a, b), (c, d))
 signed_fact_keeps Meets p q r s m n a b c d l h = ((a, b), (c, d))
 signed_fact_keeps (NoneOf k) p q r s m n a b c d l h = ((a, b), (c, d))
 

@@ -1,17 +1,20 @@
 -- Proved; nothing here need be believed.
 -- The signed part keeps every number.
-use Rattle.std.specs.Prelude.{ℕ, ℤ, pos, negsuc, ◌+ℤ◌, ◌-ℤ◌, ◌≤ℤ◌, FitsSigned, ◌+◌, ◌-◌, ◌%◌, ◌^◌, ◌≡◌, ◌<◌, ◌&&◌, true, false}
+use Rattle.std.specs.Prelude.{ℕ, ℤ, pos, negsuc, ◌+ℤ◌, ◌-ℤ◌, ◌*ℤ◌, ◌≤ℤ◌, FitsSigned, ◌+◌, ◌-◌, ◌*◌, ◌%◌, ◌^◌, ◌≡◌, ◌<◌, ◌&&◌, true, false}
 use Rattle.std.proofs.Common.{◌∙◌, arith}
-use Rattle.std.proofs.lemmas.Int.{ints, wrapping_add-bits, wrapping_sub-bits, int_wrap_fits}
-use Rattle.std.specs.Int.{w64}
+use Rattle.std.proofs.lemmas.Int.{ints, wrapping_add-bits, wrapping_sub-bits, int_wrap_fits, to_z-of_z}
+use Rattle.std.proofs.lemmas.Nat.{pow_pos}
+use Rattle.std.specs.Int.{w64, int_shr}
 use Rattle.abstract_num.specs.proved.Cases.{cond_both, and_first, and_second, bool_no}
+use Rattle.abstract_num.specs.proved.Scaled.{times_mono, shr_mono, shifted_fits, signed_times, raised_is}
+use Rattle.abstract_num.specs.UnsignedRows.{power}
 use Rattle.abstract_num.specs.Meaning.{row_value}
 use Rattle.abstract_num.specs.proved.RowsFit.{row_value_fits}
 use Rattle.abstract_num.specs.Parts.{InSRange}
-use Rattle.abstract_num.specs.Signed.{signed}
+use Rattle.abstract_num.specs.Signed.{signed, signed_half}
 use Rattle.abstract_num.specs.SignedRows.{ends, all, fits, ends_that_fit, signed_row}
 use Rattle.abstract_num.specs.declared.row.Row.{Row}
-use Rattle.abstract_num.specs.declared.row.Row.TheVariants.{Add, Sub, Mul, Div, Mod, And, Or, Xor, LshBy, RshBy, Rsh, ArshBy, Arsh, Cut}
+use Rattle.abstract_num.specs.declared.row.Row.TheVariants.{Add, Sub, Mul, Div, Mod, And, Or, Xor, LshBy, RshBy, Rsh, ArshBy, Arsh, SignedLshBy, SignedArshBy, Cut}
 use Rattle.abstract_num.specs.declared.srange.SRange.{SRange}
 
 -- n is between two ends as a signed number
@@ -70,6 +73,16 @@ between_sub a b x y p q = omega (arith, ints)
 le_through : (a b c : ℤ) → a ≤ℤ b → b ≤ℤ c → a ≤ℤ c
 le_through a b c p q = omega (arith, ints)
 
+-- times 2 to the count
+pub lsh_between : (k : ℕ) (p q : ℤ) (m : ℕ) → m < 2 ^ 64 → p ≤ℤ signed m → signed m ≤ℤ q → SignedBetween (ends_that_fit (p *ℤ pos (power k)) (q *ℤ pos (power k))) (m * 2 ^ (k % 64) % 2 ^ 64)
+lsh_between k p q m f a b =
+    let t = power k in
+    let low : (p *ℤ pos t) ≤ℤ (signed m *ℤ pos t) = times_mono t p (signed m) a in
+    let high : (signed m *ℤ pos t) ≤ℤ (q *ℤ pos t) = times_mono t (signed m) q b in
+    ends_keep (p *ℤ pos t) (q *ℤ pos t) (m * t % 2 ^ 64) (omega arith)
+    (λ l h. let e = signed_times m t (pow_pos (k % 64)) f (fits_between (signed m *ℤ pos t) (le_through _ _ _ l low) (le_through _ _ _ high h)) in
+    (rw e low, rw e high))
+
 -- what a row gives of numbers between the ends
 abbrev Keeps : Row → Type 0
 Keeps k = (p q r s : ℤ) (m n : ℕ) → m < 2 ^ 64 → n < 2 ^ 64 → p ≤ℤ signed m → signed m ≤ℤ q → r ≤ℤ signed n → signed n ≤ℤ s
@@ -94,6 +107,21 @@ sub_keeps p q r s m n f g a b c d =
 other_keeps : (k : Row) (m n : ℕ) → m < 2 ^ 64 → n < 2 ^ 64 → SignedBetween all (row_value k m n)
 other_keeps k m n f g = signed_all_keeps (row_value k m n) (row_value_fits k m n f g)
 
+lsh_keeps : (k : ℕ) → Keeps (SignedLshBy k)
+lsh_keeps k p q r s m n f g a b c d = lsh_between k p q m f a b
+
+-- divided by 2 to the count, rounded down
+arsh_keeps : (k : ℕ) → Keeps (SignedArshBy k)
+arsh_keeps k p q r s m n f g a b c d =
+    let e : signed (row_value (SignedArshBy k) m n) ≡ int_shr (signed m) (k % 64) = to_z-of_z w64 (int_shr (signed m) (k % 64)) (shifted_fits (k % 64) m f) in
+    (rw e (shr_mono (2 ^ (k % 64)) p (signed m) (pow_pos (k % 64)) a), rw e (shr_mono (2 ^ (k % 64)) (signed m) q (pow_pos (k % 64)) b))
+
+-- times 2 ^ 32, where the low half lies between the ends
+pub raised_between : (h k : ℤ) (m : ℕ) → h ≤ℤ signed_half m → signed_half m ≤ℤ k → SignedBetween (h *ℤ pos (2 ^ 32), k *ℤ pos (2 ^ 32)) (m * 2 ^ 32 % 2 ^ 64)
+raised_between h k m a b =
+    let e = raised_is m in
+    (rw e (times_mono (2 ^ 32) h (signed_half m) a), rw e (times_mono (2 ^ 32) (signed_half m) k b))
+
 pub signed_row_keeps : (k : Row) → Keeps k
 signed_row_keeps Add p q r s m n f g a b c d = add_keeps p q r s m n f g a b c d
 signed_row_keeps Sub p q r s m n f g a b c d = sub_keeps p q r s m n f g a b c d
@@ -108,6 +136,8 @@ signed_row_keeps (RshBy k) p q r s m n f g a b c d = other_keeps (RshBy k) m n f
 signed_row_keeps Rsh p q r s m n f g a b c d = other_keeps Rsh m n f g
 signed_row_keeps (ArshBy k) p q r s m n f g a b c d = other_keeps (ArshBy k) m n f g
 signed_row_keeps Arsh p q r s m n f g a b c d = other_keeps Arsh m n f g
+signed_row_keeps (SignedLshBy k) p q r s m n f g a b c d = lsh_keeps k p q r s m n f g a b c d
+signed_row_keeps (SignedArshBy k) p q r s m n f g a b c d = arsh_keeps k p q r s m n f g a b c d
 signed_row_keeps Cut p q r s m n f g a b c d = other_keeps Cut m n f g
 
 -- the range from the one end to the other

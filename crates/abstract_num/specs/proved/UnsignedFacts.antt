@@ -9,7 +9,7 @@ use Rattle.abstract_num.specs.Refined.{IsRefined}
 use Rattle.abstract_num.specs.UnsignedFacts.{TwoRanges, if_at, unsigned_fact, crosses}
 use Rattle.abstract_num.specs.proved.UnsignedRows.{Between, IsSpan}
 use Rattle.abstract_num.specs.declared.fact.Fact.{Fact}
-use Rattle.abstract_num.specs.declared.fact.Fact.TheVariants.{Same, Above, AtLeast, SignedAbove, SignedAtLeast, Meets, Not, NoneOf}
+use Rattle.abstract_num.specs.declared.fact.Fact.TheVariants.{Same, Above, AtLeast, SignedAbove, SignedAtLeast, HalfAbove, HalfAtLeast, Meets, Not, NoneOf}
 use Rattle.abstract_num.specs.declared.urange.URange.{URange}
 
 abbrev pub AreSpans : TwoRanges → URange × URange → Type 0
@@ -34,6 +34,8 @@ unsigned_fact_keeps AtLeast a b c d m n p q r s h = ((omega arith, omega arith),
 unsigned_fact_keeps (Not k) a b c d m n p q r s h = ((not_low a k m p h.0, not_high b k m q h.0), (r, s))
 unsigned_fact_keeps SignedAbove a b c d m n p q r s h = ((p, q), (r, s))
 unsigned_fact_keeps SignedAtLeast a b c d m n p q r s h = ((p, q), (r, s))
+unsigned_fact_keeps HalfAbove a b c d m n p q r s h = ((p, q), (r, s))
+unsigned_fact_keeps HalfAtLeast a b c d m n p q r s h = ((p, q), (r, s))
 unsigned_fact_keeps Meets a b c d m n p q r s h = ((p, q), (r, s))
 unsigned_fact_keeps (NoneOf k) a b c d m n p q r s h = ((p, q), (r, s))
 

@@ -11,7 +11,7 @@ use Rattle.abstract_num.specs.proved.RowsFit.{row_value_fits}
 use Rattle.abstract_num.specs.Parts.{InURange}
 use Rattle.abstract_num.specs.UnsignedRows.{ends, all, digits, power, unsigned_row}
 use Rattle.abstract_num.specs.declared.row.Row.{Row}
-use Rattle.abstract_num.specs.declared.row.Row.TheVariants.{Add, Sub, Mul, Div, Mod, And, Or, Xor, LshBy, RshBy, Rsh, ArshBy, Arsh, Cut}
+use Rattle.abstract_num.specs.declared.row.Row.TheVariants.{Add, Sub, Mul, Div, Mod, And, Or, Xor, LshBy, RshBy, Rsh, ArshBy, Arsh, SignedLshBy, SignedArshBy, Cut}
 use Rattle.abstract_num.specs.declared.urange.URange.{URange}
 
 -- n is between two ends
@@ -72,12 +72,15 @@ xor_keeps a b c d m n f g p q r s =
     let small : bit_xor m n < 2 ^ k = xor_lt k m n (omega arith) (omega arith) in
     (zero-le, omega arith)
 
-lsh_by_keeps : (k : ℕ) → Keeps (LshBy k)
-lsh_by_keeps k a b c d m n f g p q r s =
+pub lsh_between : (k a b m : ℕ) → a ≤ m → m ≤ b → Between (unsigned_row (LshBy k) a b 0 0) (row_value (LshBy k) m 0)
+lsh_between k a b m p q =
     let same : power k ≤ power k = omega arith in
     let low : a * power k ≤ m * power k = mul-le _ _ _ _ p same in
     let high : m * power k ≤ b * power k = mul-le _ _ _ _ q same in
     grind arith
+
+lsh_by_keeps : (k : ℕ) → Keeps (LshBy k)
+lsh_by_keeps k a b c d m n f g p q r s = lsh_between k a b m p q
 
 rsh_by_keeps : (k : ℕ) → Keeps (RshBy k)
 rsh_by_keeps k a b c d m n f g p q r s =
@@ -128,6 +131,8 @@ unsigned_row_keeps (RshBy k) = rsh_by_keeps k
 unsigned_row_keeps Rsh = rsh_keeps
 unsigned_row_keeps (ArshBy k) = arsh_by_keeps k
 unsigned_row_keeps Arsh = arsh_keeps
+unsigned_row_keeps (SignedLshBy k) = lsh_by_keeps k
+unsigned_row_keeps (SignedArshBy k) = arsh_by_keeps k
 unsigned_row_keeps Cut = cut_keeps
 
 -- the range from the one end to the other

@@ -7,6 +7,7 @@ use crate::row::Row;
 
 impl Domain for Bits {
     ghost use Rattle.abstract_num.specs.Parts.{InBits, joined_bits, BelowBits};
+    ghost use Rattle.abstract_num.specs.proved.Ranges.{same_number_itself};
     ghost use Rattle.abstract_num.specs.proved.KnownBits.{bits_join_commutes, bits_join_associates, bits_join_of_same, bits_join_is_above, bits_below_holds};
     ghost use Rattle.abstract_num.specs.proved.BitsRows.{BitsMove, bits_move_sound};
     ghost use Rattle.abstract_num.specs.proved.BitsFacts.{BitsRefine, bits_refine_sound};
@@ -53,9 +54,9 @@ impl Domain for Bits {
             Row::And => rows::and(left, right),
             Row::Or => rows::or(left, right),
             Row::Xor => rows::xor(left, right),
-            Row::LshBy(by) => rows::lsh(left, by),
+            Row::LshBy(by) | Row::SignedLshBy(by) => rows::lsh(left, by),
             Row::RshBy(by) => rows::rsh(left, by),
-            Row::ArshBy(by) => rows::arsh(left, by),
+            Row::ArshBy(by) | Row::SignedArshBy(by) => rows::arsh(left, by),
             Row::Cut => rows::cut(left),
             // The table keeps no known bit for the other rows.
             _ => rows::every(),
@@ -71,6 +72,8 @@ impl Domain for Bits {
             _ => Some((left, right)),
         }
     }
+
+    ghost alike_itself = { same_number_itself };
 
     ghost join_commutes = { bits_join_commutes };
 

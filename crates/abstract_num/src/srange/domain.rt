@@ -7,7 +7,7 @@ use crate::srange::{SRange, edges, rows};
 
 impl Domain for SRange {
     ghost use Rattle.abstract_num.specs.Parts.{InSRange, joined_srange, BelowSRange};
-    ghost use Rattle.abstract_num.specs.proved.Ranges.{srange_join_commutes, srange_join_associates, srange_join_of_same, srange_join_is_above, srange_below_holds};
+    ghost use Rattle.abstract_num.specs.proved.Ranges.{same_number_itself, srange_join_commutes, srange_join_associates, srange_join_of_same, srange_join_is_above, srange_below_holds};
     ghost use Rattle.abstract_num.specs.proved.SignedRows.{SRangeMoves, srange_moves_sound};
     ghost use Rattle.abstract_num.specs.proved.SignedFacts.{SRangeRefines, srange_refines_sound};
 
@@ -51,6 +51,8 @@ impl Domain for SRange {
         match row {
             Row::Add => rows::add(left, right),
             Row::Sub => rows::sub(left, right),
+            Row::SignedLshBy(by) => rows::lsh(left, by),
+            Row::SignedArshBy(by) => rows::arsh(left, by),
             // The table keeps no signed range for the other rows.
             _ => rows::every(),
         }
@@ -66,6 +68,8 @@ impl Domain for SRange {
             _ => Some((left, right)),
         }
     }
+
+    ghost alike_itself = { same_number_itself };
 
     ghost join_commutes = { srange_join_commutes };
 

@@ -1,4 +1,5 @@
-ghost use Rattle.std.specs.Prelude.{◌≡◌};
+ghost use Rattle.std.specs.Prelude.{◌≡◌, ◌^◌, ◌≤◌, pos};
+ghost use Rattle.abstract_num.specs.proved.Scaled.{IsScaled};
 ghost use Rattle.abstract_num.specs.SignedRows.{all, signed_row};
 ghost use Rattle.abstract_num.specs.proved.SignedRows.{IsReach};
 
@@ -40,4 +41,59 @@ pub(super) fn sub(left: SRange, right: SRange) -> SRange
         return every();
     };
     SRange { low, high }
+}
+
+/// 2 to `by`.
+#[inline(always)]
+fn power(by: u32) -> i64
+    requires { by ≤ 32 }
+    ensures { result ≡ pos (2 ^ by) }
+{
+    (1u64 << by).cast_signed()
+}
+
+/// `n` times 2 to `by`, or none if that doesn't fit.
+#[inline(always)]
+fn doubled(n: i64, by: u32) -> Option<i64>
+    requires { by ≤ 32 }
+    ensures { IsScaled n by result }
+{
+    n.checked_mul(power(by))
+}
+
+/// `n` times 2 to `by`, or none if that doesn't fit.
+// 2 to 63 is no signed number: half of the shift at a time.
+#[inline(always)]
+fn scaled(n: i64, by: u32) -> Option<i64>
+    requires { by ≤ 63 }
+    ensures { IsScaled n by result }
+{
+    let first = by / 2;
+    match doubled(n, first) {
+        Some(part) => doubled(part, by - first),
+        None => None,
+    }
+}
+
+#[inline(always)]
+pub(super) fn lsh(left: SRange, by: u32) -> SRange
+    ensures { IsReach result (signed_row (Row.SignedLshBy by) left.low left.high left.low left.high) }
+{
+    let Some(low) = scaled(left.low, by % 64) else {
+        return every();
+    };
+    let Some(high) = scaled(left.high, by % 64) else {
+        return every();
+    };
+    SRange { low, high }
+}
+
+#[inline(always)]
+pub(super) fn arsh(left: SRange, by: u32) -> SRange
+    ensures { IsReach result (signed_row (Row.SignedArshBy by) left.low left.high left.low left.high) }
+{
+    SRange {
+        low: left.low >> (by % 64),
+        high: left.high >> (by % 64),
+    }
 }

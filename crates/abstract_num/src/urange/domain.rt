@@ -7,7 +7,7 @@ use crate::urange::{URange, edges, rows};
 
 impl Domain for URange {
     ghost use Rattle.abstract_num.specs.Parts.{InURange, joined_urange, BelowURange};
-    ghost use Rattle.abstract_num.specs.proved.Ranges.{urange_join_commutes, urange_join_associates, urange_join_of_same, urange_join_is_above, urange_below_holds};
+    ghost use Rattle.abstract_num.specs.proved.Ranges.{same_number_itself, urange_join_commutes, urange_join_associates, urange_join_of_same, urange_join_is_above, urange_below_holds};
     ghost use Rattle.abstract_num.specs.proved.UnsignedRows.{URangeMoves, urange_moves_sound};
     ghost use Rattle.abstract_num.specs.proved.UnsignedFacts.{URangeRefines, urange_refines_sound};
 
@@ -54,10 +54,10 @@ impl Domain for URange {
             Row::And => rows::span(0, left.high.min(right.high)),
             Row::Or => rows::or(left, right),
             Row::Xor => rows::xor(left, right),
-            Row::LshBy(by) => rows::lsh(left, by),
+            Row::LshBy(by) | Row::SignedLshBy(by) => rows::lsh(left, by),
             Row::RshBy(by) => rows::rsh(left, by),
             Row::Rsh => rows::span(0, left.high),
-            Row::ArshBy(by) => rows::arsh(left, by),
+            Row::ArshBy(by) | Row::SignedArshBy(by) => rows::arsh(left, by),
             Row::Arsh => rows::arsh_by_any(left),
             Row::Cut => rows::cut(left),
         }
@@ -73,6 +73,8 @@ impl Domain for URange {
             _ => Some((left, right)),
         }
     }
+
+    ghost alike_itself = { same_number_itself };
 
     ghost join_commutes = { urange_join_commutes };
 

@@ -8,4 +8,4 @@ returns-clause-holds c =
     let low : FitsSigned w64 c.args.low = search rules in
     let high : FitsSigned w64 c.args.high = search rules in
     let table = simp to_z-of_z at c.signed_tightened.ensures in
-    signed_range_holds c.args.low c.args.high c.signed_tightened.result table
+    signed_range_holds c.args.precision c.args.low c.args.high c.signed_tightened.result table

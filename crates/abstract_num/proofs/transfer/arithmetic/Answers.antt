@@ -9,5 +9,5 @@ pub returns-clause-keeps : goal.returns-clause-keeps
 returns-clause-keeps c = λ m n h k.
     let x = view c.args.x in
     let y = view c.args.y in
-    from_table (transferred c.args.bits c.args.operation x y) c.transferred.result (alu_value c.args.bits c.args.operation m n) c.transferred.ensures
-    (transferred_keeps c.args.bits c.args.operation x y (view_fits c.args.x) (view_fits c.args.y) m n h k)
+    from_table (transferred c.args.precision c.args.bits c.args.operation x y) c.transferred.result (alu_value c.args.bits c.args.operation m n) c.transferred.ensures
+    (transferred_keeps c.args.precision c.args.bits c.args.operation x y (view_fits c.args.x) (view_fits c.args.y) m n h k)

@@ -7,4 +7,4 @@ use Rattle.abstract_num.proofs.transfer.copied.Goals as goal
 
 pub returns-clause-keeps : goal.returns-clause-keeps
 returns-clause-keeps c = λ n h.
-    from_table (copied c.args.bits (view c.args.x)) c.copy.result (mov_value c.args.bits n) c.copy.ensures (copied_keeps c.args.bits (view c.args.x) n h)
+    from_table (copied c.args.precision c.args.bits (view c.args.x)) c.copy.result (mov_value c.args.bits n) c.copy.ensures (copied_keeps c.args.precision c.args.bits (view c.args.x) n h)

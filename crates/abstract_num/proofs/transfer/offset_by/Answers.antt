@@ -10,6 +10,6 @@ use Rattle.abstract_num.proofs.transfer.offset_by.Goals as goal
 pub returns-then-is_constant : goal.returns-then-is_constant
 returns-then-is_constant c =
     let small : c.alu-moved.result < 2 ^ 64 = search rules in
-    offset-constant (view c.args.x.now) c.args.distance c.alu-moved.result (sym c.is_constant.ensures ∙ c.if-is_constant.true)
+    offset-constant c.args.precision (view c.args.x.now) c.args.distance c.alu-moved.result (sym c.is_constant.ensures ∙ c.if-is_constant.true)
     (c.alu-moved.ensures ∙ ap (λ (u : URange). alu_value Bits64 Add u.low c.args.distance) c.unsigned.ensures) small
-    ∙ ap Some (sym c.constant.ensures.table)
+    ∙ ap Some (sym c.known.ensures)

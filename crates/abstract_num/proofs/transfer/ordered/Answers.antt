@@ -7,5 +7,5 @@ use Rattle.abstract_num.proofs.transfer.ordered.Goals as goal
 
 pub returns-clause-keeps : goal.returns-clause-keeps
 returns-clause-keeps c = λ n h.
-    from_table (ordered c.args.order c.args.width (view c.args.x)) c.reordered.result (end_value c.args.order c.args.width n) c.reordered.ensures
-    (ordered_keeps c.args.order c.args.width (view c.args.x) n h)
+    from_table (ordered c.args.precision c.args.order c.args.width (view c.args.x)) c.reordered.result (end_value c.args.order c.args.width n) c.reordered.ensures
+    (ordered_keeps c.args.precision c.args.order c.args.width (view c.args.x) n h)

@@ -7,5 +7,5 @@ use Rattle.abstract_num.proofs.transfer.sign_extended.Goals as goal
 
 pub returns-clause-keeps : goal.returns-clause-keeps
 returns-clause-keeps c = λ n h.
-    from_table (sign_extended c.args.extension (view c.args.x)) c.extended.result (signed_move_value c.args.extension n) c.extended.ensures
-    (sign_extended_keeps c.args.extension (view c.args.x) n h)
+    from_table (sign_extended c.args.precision c.args.extension (view c.args.x)) c.extended.result (signed_move_value c.args.extension n) c.extended.ensures
+    (sign_extended_keeps c.args.precision c.args.extension (view c.args.x) n h)
