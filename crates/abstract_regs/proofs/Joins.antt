@@ -14,6 +14,7 @@ use Rattle.abstract_regs.specs.declared.kind.Kind.TheVariants as code
 use Rattle.abstract_regs.specs.Kind.{PlainKind, Unset, Num, Ptr, HoldsKind, same_region, join_kind}
 use Rattle.abstract_regs.specs.Frame.{join_each, HoldsEach}
 use Rattle.abstract_regs.specs.Seen.{seen}
+use Rattle.abstract_regs.proofs.LinkJoins.{joins_left, joins_right}
 use Rattle.abstract_regs.specs.Laws.{BelowKind, JoinCommutes, JoinAssociates, JoinOfSame, JoinIsAbove, JoinsHold}
 
 same_means : (r q : Region) → same_region r q ≡ true → r ≡ q
@@ -211,4 +212,4 @@ module _ (law : JoinKeeps) where
   each_right (x ∷ f) (y ∷ g) (c ∷ cs) h = (kind_right x y c h.0, each_right f g cs h.1)
 
   pub joins_hold : JoinsHold
-  joins_hold f g = record { left = each_left f.registers g.registers; right = each_right f.registers g.registers; slots_left = each_left f.slots g.slots; slots_right = each_right f.slots g.slots }
+  joins_hold f g = record { left = each_left f.registers g.registers; right = each_right f.registers g.registers; slots_left = each_left f.slots g.slots; slots_right = each_right f.slots g.slots; links_left = joins_left f g; links_right = joins_right f g }

@@ -1,10 +1,12 @@
--- What a frame holds before an instruction, a frame along an edge holds after it.
-use Rattle.std.proofs.Common.{◌≡◌, ℕ, ℤ, pos, negsuc, zero, suc, ◌+◌, ◌*◌, ◌%◌, ◌^◌, ◌<◌, List, [], ◌∷◌, ◌++◌, length, Option, Some, None, Bool, true, false, refl, inl, inr, ap, ◌∙◌, sym, subst, arith, drop, IsSomeAnd}
+-- What a frame holds before an instruction, a frame along an edge holds after it, where its links are those
+-- after it already.
+use Rattle.std.proofs.Common.{◌≡◌, ℕ, ℤ, pos, negsuc, zero, suc, ◌+◌, ◌*◌, ◌%◌, ◌^◌, ◌<◌, ◌≤◌, List, [], ◌∷◌, ◌++◌, length, Option, Some, None, Bool, true, false, refl, inl, inr, ap, ◌∙◌, sym, subst, arith, drop, IsSomeAnd}
 use Rattle.std.specs.Prelude.{slice_get, slice_set, ◌==◌, FitsSigned, if◌then◌else◌}
 use Rattle.std.specs.Int.{w16, w32}
 use Rattle.std.specs.Option.{option_map}
 use Rattle.std.proofs.lemmas.Bool.{false≢true, eqb-true}
 use Rattle.std.proofs.lemmas.Option.{none-some, same_Some}
+use Rattle.std.proofs.lemmas.List.{length-set}
 use Rattle.bpf_decode.specs.declared.insn.Operand.{Operand}
 use Rattle.bpf_decode.specs.declared.insn.Operand.TheVariants.{Immediate, Register}
 use Rattle.bpf_decode.specs.declared.insn.Insn.{Insn}
@@ -24,7 +26,7 @@ use Rattle.bpf_decode.specs.declared.operation.Comparison.{Comparison}
 use Rattle.bpf_decode.specs.Arithmetic.{alu_value, neg_value, mov_value, signed_move_value, end_value, is_taken, compared}
 use Rattle.bpf_decode.specs.declared.operation.OpWidth.TheVariants.{Bits64}
 use Rattle.bpf_decode.specs.declared.operation.Arithmetic.TheVariants.{Add}
-use Rattle.bpf_decode.specs.Instruction.{byte_count, signed_byte_count, OperandFits}
+use Rattle.bpf_decode.specs.Instruction.{byte_count, signed_byte_count, Fits, OperandFits}
 use Rattle.bpf_decode.specs.Jump.{branch_to}
 use Rattle.bpf_decode.specs.Values.{extended, moves_pointer, is_addition, alu_values, mov_values}
 use Rattle.abstract_num.specs.Plain.{Plain, Holds, constant}
@@ -38,10 +40,12 @@ use Rattle.abstract_regs.specs.Kind.{PlainKind, Unset, Num, Ptr, HoldsKind, alu_
 use Rattle.abstract_regs.specs.declared.content.Content.TheVariants.{Nothing, Pointer}
 use Rattle.abstract_regs.specs.Slots.{stack_place, stack_range, touches, access_span, range_span, whole_slot, slot_kind, spoiled, stored, meets}
 use Rattle.abstract_regs.specs.Frame.{PlainFrame, or_unset, kind_at, with_kind, room_span, after_store, after_call, operand_kind, HoldsEach}
-use Rattle.abstract_regs.specs.Flow.{target, edge_to, computed, with_both, along_edge, loaded_kind, flow}
-use Rattle.abstract_regs.specs.Moves.{value_at, operand_in, with_value, Touched, Reached, IsNumber, Loads, Stores, Overwrites, Overwritten, Reaches, KindFits, EachFits, AllowsRoom, Keeps}
+use Rattle.abstract_regs.specs.Links.{told}
+use Rattle.abstract_regs.specs.Flow.{target, edge_to, computed, with_both, along_edge, loaded_kind, edges_of}
+use Rattle.abstract_regs.specs.Moves.{value_at, operand_in, with_value, Touched, Reached, IsNumber, HoldsLinks, Loads, Stores, Overwrites, Overwritten, Reaches, KindFits, EachFits, AllowsRoom, Allows, Moves}
 use Rattle.abstract_regs.proofs.SlotLemmas.{at_start, spoiled_holds, set_holds, inside_of, held_slot, all_numbers, access_touches, range_touches, whole_is, one_place}
 use Rattle.abstract_regs.specs.Seen.{seen, seen_each}
+use Rattle.abstract_regs.proofs.Heard.{Stands, IsLeft, NumberLaws, both_told}
 
 -- the laws of numbers
 pub record Laws : Type 0 where
@@ -67,13 +71,13 @@ pub each_fits : NumbersFit → (ks : List Kind) → EachFits (seen_each ks)
 each_fits fit [] = tt
 each_fits fit (k ∷ ks) = (kind_fits fit k, each_fits fit ks)
 
-fits_at : (xs : List PlainKind) (r : ℕ) → EachFits xs → KindFits (or_unset (slice_get xs r))
+pub fits_at : (xs : List PlainKind) (r : ℕ) → EachFits xs → KindFits (or_unset (slice_get xs r))
 fits_at [] r h = tt
 fits_at (x ∷ xs) zero h = h.0
 fits_at (x ∷ xs) (suc r) h = fits_at xs r h.1
 
 -- a register that is set has a value of its kind
-held_at : (xs : List PlainKind) (cs : List (Option Value)) (r : ℕ) (v : Value) → HoldsEach xs cs → value_at cs r ≡ Some v → HoldsKind (or_unset (slice_get xs r)) (Some v)
+pub held_at : (xs : List PlainKind) (cs : List (Option Value)) (r : ℕ) (v : Value) → HoldsEach xs cs → value_at cs r ≡ Some v → HoldsKind (or_unset (slice_get xs r)) (Some v)
 held_at [] cs r v h e = tt
 held_at (x ∷ xs) [] r v h e = absurd h
 held_at (x ∷ xs) (c ∷ cs) zero v h e = subst (HoldsKind x) e h.0
@@ -123,11 +127,11 @@ chosen true x y e = same_Some x y e
 chosen false x y e = absurd (none-some y e)
 
 module _ (law : Laws) where
-  operand_fits : (f : PlainFrame) (source : Operand) → OperandFits source → EachFits f.registers → KindFits (operand_kind f source)
+  pub operand_fits : (f : PlainFrame) (source : Operand) → OperandFits source → EachFits f.registers → KindFits (operand_kind f source)
   operand_fits f (Immediate imm) fit h = law.constants_fit (extended imm) (extended_small imm fit)
   operand_fits f (Register r) fit h = fits_at f.registers r h
 
-  operand_held : (f : PlainFrame) (cs : List (Option Value)) (source : Operand) (v : Value) → OperandFits source → HoldsEach f.registers cs → operand_in cs source ≡ Some v → HoldsKind (operand_kind f source) (Some v)
+  pub operand_held : (f : PlainFrame) (cs : List (Option Value)) (source : Operand) (v : Value) → OperandFits source → HoldsEach f.registers cs → operand_in cs source ≡ Some v → HoldsKind (operand_kind f source) (Some v)
   operand_held f cs (Immediate imm) v fit h e =
       subst (λ (u : Value). HoldsKind (Num (constant (extended imm))) (Some u)) (same_Some _ v e) (law.constant (extended imm) (extended_small imm fit))
   operand_held f cs (Register r) v fit h e = held_at f.registers cs r v h e
@@ -202,16 +206,25 @@ module _ (law : Laws) where
 
   -- a frame along the edge is true of the registers and the slots
   abbrev LeftFrame : Option PlainFrame → List (Option Value) → List (Option Value) → Type 0
-  LeftFrame o cs vs = IsSomeAnd o (λ g. HoldsEach g.registers cs × HoldsEach g.slots vs)
+  LeftFrame o cs vs = IsLeft o cs vs
 
-  with_immediate : (f : PlainFrame) (dst : ℕ) (imm : ℤ) (o : Option (PlainKind × PlainKind)) (cs vs : List (Option Value)) (m n : ℕ) → HoldsEach f.registers cs → HoldsEach f.slots vs → value_at cs dst ≡ Some (values.Num m) → LeftBoth o m n → LeftFrame (option_map (with_both f dst (Immediate imm)) o) cs vs
-  with_immediate f dst imm None cs vs m n h k e l = absurd l
-  with_immediate f dst imm (Some s) cs vs m n h k e l = (keep_each f.registers cs dst s.0 (values.Num m) h e l.0, k)
+  number_laws : NumberLaws
+  number_laws = record { constants_fit = law.constants_fit; constant = law.constant; arithmetic = law.arithmetic; edges = law.edges }
 
-  with_register : (f : PlainFrame) (dst r : ℕ) (o : Option (PlainKind × PlainKind)) (cs vs : List (Option Value)) (m n : ℕ) → HoldsEach f.registers cs → HoldsEach f.slots vs → value_at cs dst ≡ Some (values.Num m) → value_at cs r ≡ Some (values.Num n) → LeftBoth o m n → LeftFrame (option_map (with_both f dst (Register r)) o) cs vs
-  with_register f dst r None cs vs m n h k e g l = absurd l
-  with_register f dst r (Some s) cs vs m n h k e g l =
-      (keep_each (slice_set f.registers dst s.0) cs r s.1 (values.Num n) (keep_each f.registers cs dst s.0 (values.Num m) h e l.0) g l.1, k)
+  with_immediate : (f : PlainFrame) (dst : ℕ) (imm : ℤ) (o : Option (PlainKind × PlainKind)) (cs vs : List (Option Value)) (m n : ℕ) → Stands cs vs f → value_at cs dst ≡ Some (values.Num m) → LeftBoth o m n → LeftFrame (option_map (with_both f dst (Immediate imm)) o) cs vs
+  with_immediate f dst imm None cs vs m n h e l = absurd l
+  with_immediate f dst imm (Some s) cs vs m n h e l =
+      record { holds = keep_each f.registers cs dst s.0 (values.Num m) h.holds e l.0; slots = h.slots; links = h.links; eleven = length-set f.registers dst s.0 ∙ h.eleven }
+
+  with_register : (f : PlainFrame) (dst r : ℕ) (o : Option (PlainKind × PlainKind)) (cs vs : List (Option Value)) (m n : ℕ) → Stands cs vs f → value_at cs dst ≡ Some (values.Num m) → value_at cs r ≡ Some (values.Num n) → LeftBoth o m n → LeftFrame (option_map (with_both f dst (Register r)) o) cs vs
+  with_register f dst r None cs vs m n h e g l = absurd l
+  with_register f dst r (Some s) cs vs m n h e g l =
+      record {
+        holds = keep_each (slice_set f.registers dst s.0) cs r s.1 (values.Num n) (keep_each f.registers cs dst s.0 (values.Num m) h.holds e l.0) g l.1;
+        slots = h.slots;
+        links = h.links;
+        eleven = length-set (slice_set f.registers dst s.0) r s.1 ∙ length-set f.registers dst s.0 ∙ h.eleven;
+      }
 
   low_same : (n : ℕ) → n % 2 ^ 32 % 2 ^ 32 ≡ n % 2 ^ 32
   low_same n = omega arith
@@ -224,43 +237,45 @@ module _ (law : Laws) where
   num_same : (m n : ℕ) → values.Num m ≡ values.Num n → m ≡ n
   num_same m n e = cc
 
-  edge_left : (bits : OpWidth) (comparison : Comparison) (taken : Bool) (dst : ℕ) (source : Operand) (f : PlainFrame) (cs vs : List (Option Value)) (m n : ℕ) → OperandFits source → HoldsEach f.registers cs → HoldsEach f.slots vs → value_at cs dst ≡ Some (values.Num m) → operand_in cs source ≡ Some (values.Num n) → is_taken bits comparison m n ≡ taken → LeftFrame (along_edge bits comparison taken dst source f) cs vs
-  edge_left bits comparison taken dst (Immediate imm) f cs vs m n fit h sl e g t =
+  edge_left : (bits : OpWidth) (comparison : Comparison) (taken : Bool) (dst : ℕ) (source : Operand) (f : PlainFrame) (cs vs : List (Option Value)) (m n : ℕ) → dst ≤ 10 → OperandFits source → Stands cs vs f → value_at cs dst ≡ Some (values.Num m) → operand_in cs source ≡ Some (values.Num n) → is_taken bits comparison m n ≡ taken → LeftFrame (along_edge bits comparison taken dst source f) cs vs
+  edge_left bits comparison taken dst (Immediate imm) f cs vs m n le fit h e g t =
       let same : extended imm ≡ n = num_same (extended imm) n (same_Some _ _ g) in
       let k = mov_value bits (extended imm) in
       let small = mov_small bits (extended imm) (extended_small imm fit) in
       let t' : is_taken bits comparison m k ≡ taken = low_taken bits comparison m (extended imm) ∙ ap (is_taken bits comparison m) same ∙ t in
-      with_immediate f dst imm _ cs vs m k h sl e
-      (along_left bits comparison taken false (kind_at f dst) (Num (constant k)) m k (λ s. absurd (false≢true s)) (held_at f.registers cs dst _ h e) (law.constant k small) t')
-  edge_left bits comparison taken dst (Register r) f cs vs m n fit h sl e g t =
-      with_register f dst r _ cs vs m n h sl e g
+      both_told number_laws _ cs vs dst (Immediate imm) m n
+      (with_immediate f dst imm _ cs vs m k h e
+      (along_left bits comparison taken false (kind_at f dst) (Num (constant k)) m k (λ s. absurd (false≢true s)) (held_at f.registers cs dst _ h.holds e) (law.constant k small) t')) le fit e g
+  edge_left bits comparison taken dst (Register r) f cs vs m n le fit h e g t =
+      both_told number_laws _ cs vs dst (Register r) m n
+      (with_register f dst r _ cs vs m n h e g
       (along_left bits comparison taken (dst == r) (kind_at f dst) (kind_at f r) m n
-      (λ s. num_same m n (same_Some _ _ (sym e ∙ ap (value_at cs) (eqb-true dst r s) ∙ g))) (held_at f.registers cs dst _ h e) (held_at f.registers cs r _ h g) t)
+      (λ s. num_same m n (same_Some _ _ (sym e ∙ ap (value_at cs) (eqb-true dst r s) ∙ g))) (held_at f.registers cs dst _ h.holds e) (held_at f.registers cs r _ h.holds g) t)) le fit e g
 
   reach_first : (a b : Option PlainFrame) (t s q : ℕ) (cs vs : List (Option Value)) → q ≡ t → LeftFrame a cs vs → Reaches (edge_to t a ++ edge_to s b) q cs vs
   reach_first None b t s q cs vs e l = absurd l
-  reach_first (Some g) b t s q cs vs e l = record { frame = g; there = inl (e, refl); holds = l.0; slots = l.1 }
+  reach_first (Some g) b t s q cs vs e l = record { frame = g; there = inl (e, refl); holds = l.holds; slots = l.slots; links = l.links }
 
   reach_second : (a b : Option PlainFrame) (t s q : ℕ) (cs vs : List (Option Value)) → q ≡ s → LeftFrame b cs vs → Reaches (edge_to t a ++ edge_to s b) q cs vs
   reach_second a None t s q cs vs e l = absurd l
-  reach_second None (Some g) t s q cs vs e l = record { frame = g; there = inl (e, refl); holds = l.0; slots = l.1 }
-  reach_second (Some f) (Some g) t s q cs vs e l = record { frame = g; there = inr (inl (e, refl)); holds = l.0; slots = l.1 }
+  reach_second None (Some g) t s q cs vs e l = record { frame = g; there = inl (e, refl); holds = l.holds; slots = l.slots; links = l.links }
+  reach_second (Some f) (Some g) t s q cs vs e l = record { frame = g; there = inr (inl (e, refl)); holds = l.holds; slots = l.slots; links = l.links }
 
   reach_edge : (taken : Bool) (a b : Option PlainFrame) (p q distance : ℕ) (t : ℕ) (cs vs : List (Option Value)) → branch_to true p distance ≡ t → q ≡ branch_to taken p distance → (taken ≡ true → LeftFrame a cs vs) → (taken ≡ false → LeftFrame b cs vs) → Reaches (edge_to t a ++ edge_to (p + 1) b) q cs vs
   reach_edge true a b p q distance t cs vs s e f g = reach_first a b t (p + 1) q cs vs (e ∙ s) (f refl)
   reach_edge false a b p q distance t cs vs s e f g = reach_second a b t (p + 1) q cs vs e (g refl)
 
-  arrives : (o : Option PlainKind) (next q : ℕ) (f : PlainFrame) (dst : ℕ) (cs ds vs ws : List (Option Value)) (v : Value) → HoldsEach f.registers cs → HoldsEach f.slots vs → Left o v → q ≡ next → ds ≡ with_value cs dst v → ws ≡ vs → Reaches (computed next f dst o) q ds ws
-  arrives None next q f dst cs ds vs ws v h k l e d u = absurd l
-  arrives (Some x) next q f dst cs ds vs ws v h k l e d u =
-      record { frame = with_kind f dst x; there = inl (e, refl); holds = subst (HoldsEach (slice_set f.registers dst x)) (sym d) (set_each f.registers cs dst x v h l); slots = subst (HoldsEach f.slots) (sym u) k }
+  arrives : (o : Option PlainKind) (next q : ℕ) (f : PlainFrame) (dst : ℕ) (cs ds vs ws : List (Option Value)) (v : Value) → HoldsEach f.registers cs → HoldsEach f.slots vs → HoldsLinks f ds ws → Left o v → q ≡ next → ds ≡ with_value cs dst v → ws ≡ vs → Reaches (computed next f dst o) q ds ws
+  arrives None next q f dst cs ds vs ws v h k n l e d u = absurd l
+  arrives (Some x) next q f dst cs ds vs ws v h k n l e d u =
+      record { frame = with_kind f dst x; there = inl (e, refl); holds = subst (HoldsEach (slice_set f.registers dst x)) (sym d) (set_each f.registers cs dst x v h l); slots = subst (HoldsEach f.slots) (sym u) k; links = n }
 
-  stays : (f : PlainFrame) (a q : ℕ) (cs ds vs ws : List (Option Value)) → HoldsEach f.registers cs → HoldsEach f.slots ws → q ≡ a → ds ≡ cs → Reaches ((a, f) ∷ []) q ds ws
-  stays f a q cs ds vs ws h k e d = record { frame = f; there = inl (e, refl); holds = subst (HoldsEach f.registers) (sym d) h; slots = k }
+  stays : (f : PlainFrame) (a q : ℕ) (cs ds vs ws : List (Option Value)) → HoldsEach f.registers cs → HoldsEach f.slots ws → HoldsLinks f ds ws → q ≡ a → ds ≡ cs → Reaches ((a, f) ∷ []) q ds ws
+  stays f a q cs ds vs ws h k n e d = record { frame = f; there = inl (e, refl); holds = subst (HoldsEach f.registers) (sym d) h; slots = k; links = n }
 
   -- ---- the stack
 
-  extended_small16 : (z : ℤ) → FitsSigned w16 z → extended z < 2 ^ 64
+  pub extended_small16 : (z : ℤ) → FitsSigned w16 z → extended z < 2 ^ 64
   extended_small16 (pos n) h = let b = h.sfits in omega arith
   extended_small16 (negsuc n) h = omega arith
 
@@ -407,41 +422,48 @@ module _ (law : Laws) where
   room_left f cs vs ws long h sl (Some k) ok over =
       range_left f.slots vs ws long sl (kind_at f k) (kind_at f (k + 1)) over.0 over.1 over.2 (held_at f.registers cs k _ h over.3) (held_at f.registers cs (k + 1) _ h over.4) ok.0 ok.1 over.5
 
-  pub keeps : (f : PlainFrame) → EachFits f.registers → (room : Option ℕ) (answer : Plain) (i : Insn) (p : ℕ) → Keeps room answer i p f
-  keeps f fits room answer (Alu bits operation dst source) p fit allows cs ds vs ws q long h sl m =
-      arrives _ (p + 1) q f dst cs ds vs ws m.2 h sl
+  pub edges_keep : (f : PlainFrame) → EachFits f.registers → length f.registers ≡ 11 → (room : Option ℕ) (answer : Plain) (i : Insn) (p : ℕ) → Fits i → Allows room i f → (cs ds vs ws : List (Option Value)) (q : ℕ) → length f.slots ≡ length vs → HoldsEach f.registers cs → HoldsEach f.slots vs → HoldsLinks f ds ws → Moves room answer i p cs vs q ds ws → Reaches (edges_of room answer i p f) q ds ws
+  edges_keep f fits eleven room answer (Alu bits operation dst source) p fit allows cs ds vs ws q long h sl links m =
+      arrives _ (p + 1) q f dst cs ds vs ws m.2 h sl links
       (alu_left bits operation (kind_at f dst) (operand_kind f source) m.0 m.1 m.2 (fits_at f.registers dst fits) (operand_fits f source fit.1 fits) (held_at f.registers cs dst m.0 h m.3) (operand_held f cs source m.1 fit.1 h m.4) m.5) m.6 m.7 m.8
-  keeps f fits room answer (Neg bits dst) p fit allows cs ds vs ws q long h sl m =
-      arrives _ (p + 1) q f dst cs ds vs ws _ h sl (neg_left bits (kind_at f dst) m.0 (fits_at f.registers dst fits) (held_at f.registers cs dst _ h m.1)) m.2 m.3 m.4
-  keeps f fits room answer (Mov bits dst source) p fit allows cs ds vs ws q long h sl m =
-      arrives _ (p + 1) q f dst cs ds vs ws m.1 h sl (mov_left bits (operand_kind f source) m.0 m.1 (operand_held f cs source m.0 fit.1 h m.2) m.3) m.4 m.5 m.6
-  keeps f fits room answer (MovSigned extension dst src) p fit allows cs ds vs ws q long h sl m =
-      arrives _ (p + 1) q f dst cs ds vs ws _ h sl (signed_move_left extension (kind_at f src) m.0 (held_at f.registers cs src _ h m.1)) m.2 m.3 m.4
-  keeps f fits room answer (End order width dst) p fit allows cs ds vs ws q long h sl m =
-      arrives _ (p + 1) q f dst cs ds vs ws _ h sl (end_left order width (kind_at f dst) m.0 (held_at f.registers cs dst _ h m.1)) m.2 m.3 m.4
-  keeps f fits room answer (LoadWide dst value) p fit allows cs ds vs ws q long h sl m =
-      arrives (Some (Num (constant value))) (p + 2) q f dst cs ds vs ws (values.Num value) h sl (law.constant value fit.1) m.0 m.1 m.2
-  keeps f fits room answer (Load width dst base offset) p fit allows cs ds vs ws q long h sl m =
-      arrives _ (p + 1) q f dst cs ds vs ws m.2 h sl
+  edges_keep f fits eleven room answer (Neg bits dst) p fit allows cs ds vs ws q long h sl links m =
+      arrives _ (p + 1) q f dst cs ds vs ws _ h sl links (neg_left bits (kind_at f dst) m.0 (fits_at f.registers dst fits) (held_at f.registers cs dst _ h m.1)) m.2 m.3 m.4
+  edges_keep f fits eleven room answer (Mov bits dst source) p fit allows cs ds vs ws q long h sl links m =
+      arrives _ (p + 1) q f dst cs ds vs ws m.1 h sl links (mov_left bits (operand_kind f source) m.0 m.1 (operand_held f cs source m.0 fit.1 h m.2) m.3) m.4 m.5 m.6
+  edges_keep f fits eleven room answer (MovSigned extension dst src) p fit allows cs ds vs ws q long h sl links m =
+      arrives _ (p + 1) q f dst cs ds vs ws _ h sl links (signed_move_left extension (kind_at f src) m.0 (held_at f.registers cs src _ h m.1)) m.2 m.3 m.4
+  edges_keep f fits eleven room answer (End order width dst) p fit allows cs ds vs ws q long h sl links m =
+      arrives _ (p + 1) q f dst cs ds vs ws _ h sl links (end_left order width (kind_at f dst) m.0 (held_at f.registers cs dst _ h m.1)) m.2 m.3 m.4
+  edges_keep f fits eleven room answer (LoadWide dst value) p fit allows cs ds vs ws q long h sl links m =
+      arrives (Some (Num (constant value))) (p + 2) q f dst cs ds vs ws (values.Num value) h sl links (law.constant value fit.1) m.0 m.1 m.2
+  edges_keep f fits eleven room answer (Load width dst base offset) p fit allows cs ds vs ws q long h sl links m =
+      arrives _ (p + 1) q f dst cs ds vs ws m.2 h sl links
       (load_left f.slots vs long sl width (kind_at f base) (extended offset) m.0 m.1 m.2 (extended_small16 offset fit.2) (fits_at f.registers base fits) (held_at f.registers cs base _ h m.3) m.4 allows) m.5 m.6 m.7
-  keeps f fits room answer (LoadSigned width dst base offset) p fit allows cs ds vs ws q long h sl m =
-      arrives _ (p + 1) q f dst cs ds vs ws _ h sl
+  edges_keep f fits eleven room answer (LoadSigned width dst base offset) p fit allows cs ds vs ws q long h sl links m =
+      arrives _ (p + 1) q f dst cs ds vs ws _ h sl links
       (left_num _ _ (law.signed_loads width m.2 (signed_small f.slots vs long sl (signed_byte_count width) (kind_at f base) (extended offset) m.0 m.1 m.2 (extended_small16 offset fit.2) (fits_at f.registers base fits) (held_at f.registers cs base _ h m.3) m.4 allows.0.0 allows.0.1 allows.1))) m.5 m.6 m.7
-  keeps f fits room answer (Store width base offset source) p fit allows cs ds vs ws q long h sl m =
+  edges_keep f fits eleven room answer (Store width base offset source) p fit allows cs ds vs ws q long h sl links m =
       stays (after_store f (kind_at f base) (extended offset) (byte_count width) (operand_kind f source)) (p + 1) q cs ds vs ws h
-      (store_left f.slots vs ws long sl (byte_count width) (kind_at f base) (operand_kind f source) (extended offset) m.0 m.1 m.2 (extended_small16 offset fit.1) (fits_at f.registers base fits) (held_at f.registers cs base _ h m.3) (operand_held f cs source m.2 fit.2 h m.4) m.5 allows) m.6 m.7
-  keeps f fits room answer (Jump offset) p fit allows cs ds vs ws q long h sl m = stays f (target p offset) q cs ds vs ws h (subst (HoldsEach f.slots) (sym m.2) sl) m.0 m.1
-  keeps f fits room answer (JumpLong distance) p fit allows cs ds vs ws q long h sl m = stays f (target p distance) q cs ds vs ws h (subst (HoldsEach f.slots) (sym m.2) sl) m.0 m.1
-  keeps f fits room answer (Branch bits comparison dst source offset) p fit allows cs ds vs ws q long h sl m =
-      subst (λ (xs : List (Option Value)). Reaches (flow room answer (Branch bits comparison dst source offset) p f) q xs ws) (sym m.5)
+      (store_left f.slots vs ws long sl (byte_count width) (kind_at f base) (operand_kind f source) (extended offset) m.0 m.1 m.2 (extended_small16 offset fit.1) (fits_at f.registers base fits) (held_at f.registers cs base _ h m.3) (operand_held f cs source m.2 fit.2 h m.4) m.5 allows) links m.6 m.7
+  edges_keep f fits eleven room answer (Jump offset) p fit allows cs ds vs ws q long h sl links m = stays f (target p offset) q cs ds vs ws h (subst (HoldsEach f.slots) (sym m.2) sl) links m.0 m.1
+  edges_keep f fits eleven room answer (JumpLong distance) p fit allows cs ds vs ws q long h sl links m = stays f (target p distance) q cs ds vs ws h (subst (HoldsEach f.slots) (sym m.2) sl) links m.0 m.1
+  edges_keep f fits eleven room answer (Branch bits comparison dst source offset) p fit allows cs ds vs ws q long h sl links m =
+      let stands : Stands cs ws f = record {
+        holds = h;
+        slots = subst (HoldsEach f.slots) (sym m.6) sl;
+        links = subst (λ (xs : List (Option Value)). HoldsLinks f xs ws) m.5 links;
+        eleven = eleven;
+      } in
+      subst (λ (xs : List (Option Value)). Reaches (edges_of room answer (Branch bits comparison dst source offset) p f) q xs ws) (sym m.5)
       (reach_edge (is_taken bits comparison m.0 m.1) (along_edge bits comparison true dst source f) (along_edge bits comparison false dst source f) p q (extended offset) (target p offset) cs ws refl m.4
-      (edge_left bits comparison true dst source f cs ws m.0 m.1 fit.2 h (subst (HoldsEach f.slots) (sym m.6) sl) m.2 m.3) (edge_left bits comparison false dst source f cs ws m.0 m.1 fit.2 h (subst (HoldsEach f.slots) (sym m.6) sl) m.2 m.3))
-  keeps f fits room answer (Call helper) p fit allows cs ds vs ws q long h sl m =
+      (edge_left bits comparison true dst source f cs ws m.0 m.1 fit.0 fit.2 stands m.2 m.3) (edge_left bits comparison false dst source f cs ws m.0 m.1 fit.0 fit.2 stands m.2 m.3))
+  edges_keep f fits eleven room answer (Call helper) p fit allows cs ds vs ws q long h sl links m =
       record {
         frame = after_call room answer f;
         there = inl (m.2, refl);
         holds = subst (HoldsEach (after_call room answer f).registers) (sym m.3) (m.1, (tt, (tt, (tt, (tt, (tt, drop_each 6 f.registers cs h))))));
         slots = room_left f cs vs ws long h sl room allows m.4;
+        links = links;
       }
-  keeps f fits room answer (CallLocal distance) p fit allows cs ds vs ws q long h sl m = absurd m
-  keeps f fits room answer Exit p fit allows cs ds vs ws q long h sl m = absurd m
+  edges_keep f fits eleven room answer (CallLocal distance) p fit allows cs ds vs ws q long h sl links m = absurd m
+  edges_keep f fits eleven room answer Exit p fit allows cs ds vs ws q long h sl links m = absurd m

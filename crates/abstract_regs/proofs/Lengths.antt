@@ -1,19 +1,25 @@
--- Instructions and joins keep the number of slots.
-use Rattle.std.proofs.Common.{◌≡◌, ℕ, suc, ◌+◌, List, [], ◌∷◌, ◌++◌, Option, Some, None, true, false, refl, ap, ◌∙◌, arith, length, ⊎_elim}
-use Rattle.std.specs.Option.{option_map}
+-- Instructions and joins keep the number of slots, and edges the links.
+use Rattle.std.proofs.Common.{◌≡◌, ℕ, suc, ◌+◌, List, [], ◌∷◌, ◌++◌, Option, Some, None, true, false, refl, ap, ◌∙◌, sym, subst, arith, length, ⊎_elim}
+use Rattle.std.specs.Prelude.{◌==◌}
+use Rattle.std.specs.Option.{option_map, option_and_then}
+use Rattle.std.proofs.lemmas.Bool.{cond_both}
 use Rattle.std.proofs.lemmas.List.{length-set}
 use Rattle.bpf_decode.specs.declared.insn.Operand.{Operand}
 use Rattle.bpf_decode.specs.declared.insn.Operand.TheVariants.{Immediate, Register}
+use Rattle.bpf_decode.specs.declared.insn.Insn.{Insn}
 use Rattle.bpf_decode.specs.declared.insn.Insn.TheVariants.{Alu, Neg, Mov, MovSigned, End, LoadWide, Load, LoadSigned, Store, Jump, JumpLong, Branch, Call, CallLocal, Exit}
 use Rattle.bpf_decode.specs.Instruction.{byte_count}
 use Rattle.bpf_decode.specs.Values.{extended}
-use Rattle.abstract_num.specs.Plain.{constant}
-use Rattle.abstract_regs.specs.Kind.{PlainKind, Num}
+use Rattle.abstract_num.specs.Plain.{Plain, constant}
+use Rattle.abstract_regs.specs.Kind.{PlainKind, Unset, Num, Ptr}
 use Rattle.abstract_regs.specs.Slots.{Span, stack_place, access_span, whole_slot, spoiled, stored}
 use Rattle.abstract_regs.specs.Frame.{PlainFrame, kind_at, with_kind, room_span, after_store, after_call, operand_kind, join_each}
-use Rattle.abstract_regs.specs.Flow.{target, edge_to, with_both, along_edge}
+use Rattle.abstract_regs.specs.Link.{is_linked, link_in}
+use Rattle.abstract_regs.specs.Links.{links_after, relinked, told_kinds, tell_all, tell_kind, tell, told}
+use Rattle.abstract_regs.specs.Flow.{target, edge_to, with_both, along_edge, edges_of, flow}
 use Rattle.abstract_regs.specs.Moves.{Among}
 use Rattle.abstract_regs.specs.Laws.{FlowsKeepSlots, JoinsKeepSlots}
+use Rattle.abstract_regs.proofs.Heard.{told_long}
 
 length_spoiled : (span : Option Span) (j : ℕ) (xs : List PlainKind) → length (spoiled span j xs) ≡ length xs
 length_spoiled span j [] = refl
@@ -23,50 +29,95 @@ length_stored : (xs : List PlainKind) (o : Option ℕ) (span : Option Span) (x :
 length_stored xs None span x = length_spoiled span 0 xs
 length_stored xs (Some j) span x = length-set xs j x
 
--- a frame that goes along an edge, which may be dead
-abbrev Each : ℕ → Option PlainFrame → Type 0
-Each n None = Unit {0}
-Each n (Some h) = length h.slots ≡ n
+-- ---- what edges leave as it is
 
-one : (q a n : ℕ) (g : PlainFrame) (o : Option PlainFrame) → Each n o → Among q g (edge_to a o) → length g.slots ≡ n
-one q a n g None h e = absurd e
-one q a n g (Some f) h e = ⊎_elim (λ (here : (q ≡ a) × (g ≡ f)). ap (λ (k : PlainFrame). length k.slots) here.1 ∙ h) (λ (x : ⊥). absurd x) e
+-- the number of slots, and the links
+pub record Same (f g : PlainFrame) : Type 0 where
+  pub slots : length g.slots ≡ length f.slots
+  pub links : g.links ≡ f.links
 
-two : (q a b n : ℕ) (g : PlainFrame) (o u : Option PlainFrame) → Each n o → Each n u → Among q g (edge_to a o ++ edge_to b u) → length g.slots ≡ n
-two q a b n g None u h k e = one q b n g u k e
-two q a b n g (Some f) u h k e =
-    ⊎_elim (λ (here : (q ≡ a) × (g ≡ f)). ap (λ (k : PlainFrame). length k.slots) here.1 ∙ h) (λ (later : Among q g (edge_to b u)). one q b n g u k later) e
+-- of a frame that goes along an edge, which may be dead
+abbrev Each : (PlainFrame → Type 0) → Option PlainFrame → Type 0
+Each P None = Unit {0}
+Each P (Some h) = P h
 
-each_computed : (f : PlainFrame) (d : ℕ) (o : Option PlainKind) → Each (length f.slots) (option_map (with_kind f d) o)
+one : (P : PlainFrame → Type 0) (q a : ℕ) (g : PlainFrame) (o : Option PlainFrame) → Each P o → Among q g (edge_to a o) → P g
+one P q a g None h e = absurd e
+one P q a g (Some f) h e = ⊎_elim (λ (here : (q ≡ a) × (g ≡ f)). subst P (sym here.1) h) (λ (x : ⊥). absurd x) e
+
+two : (P : PlainFrame → Type 0) (q a b : ℕ) (g : PlainFrame) (o u : Option PlainFrame) → Each P o → Each P u → Among q g (edge_to a o ++ edge_to b u) → P g
+two P q a b g None u h k e = one P q b g u k e
+two P q a b g (Some f) u h k e =
+    ⊎_elim (λ (here : (q ≡ a) × (g ≡ f)). subst P (sym here.1) h) (λ (later : Among q g (edge_to b u)). one P q b g u k later) e
+
+each_computed : (f : PlainFrame) (d : ℕ) (o : Option PlainKind) → Each (Same f) (option_map (with_kind f d) o)
 each_computed f d None = tt
-each_computed f d (Some x) = refl
+each_computed f d (Some x) = record { slots = refl; links = refl }
 
-each_both : (f : PlainFrame) (d : ℕ) (source : Operand) (o : Option (PlainKind × PlainKind)) → Each (length f.slots) (option_map (with_both f d source) o)
+each_both : (f : PlainFrame) (d : ℕ) (source : Operand) (o : Option (PlainKind × PlainKind)) → Each (Same f) (option_map (with_both f d source) o)
 each_both f d source None = tt
-each_both f d (Immediate imm) (Some s) = refl
-each_both f d (Register r) (Some s) = refl
+each_both f d (Immediate imm) (Some s) = record { slots = refl; links = refl }
+each_both f d (Register r) (Some s) = record { slots = refl; links = refl }
+
+all_same : (f g : PlainFrame) (o u : Option (List PlainKind)) → Same f g → ((ys : List PlainKind) → u ≡ Some ys → length ys ≡ length g.slots) → Each (Same f) (option_and_then (λ xs. option_map (λ ys. record { registers = xs; slots = ys; links = g.links }) u) o)
+all_same f g None u h e = tt
+all_same f g (Some xs) None h e = tt
+all_same f g (Some xs) (Some ys) h e = record { slots = e ys refl ∙ h.slots; links = h.links }
+
+kind_same : (f g : PlainFrame) (x : PlainKind) (r : ℕ) → Same f g → Each (Same f) (tell_kind x r g)
+kind_same f g Unset r h = h
+kind_same f g (Num z) r h =
+    cond_both (is_linked (link_in g.links r).form) (tell_all z (link_in g.links r) r g) (Some g) (Each (Same f))
+    (λ _. all_same f g (told_kinds z (link_in g.links r) r g.links 0 g.registers) (told_kinds z (link_in g.links r) r g.links 11 g.slots) h
+    (λ ys e. told_long z (link_in g.links r) r g.links 11 g.slots ys e)) (λ _. h)
+kind_same f g (Ptr q k) r h = h
+
+tell_same : (f g : PlainFrame) (r : ℕ) → Same f g → Each (Same f) (tell r g)
+unfolding tell
+tell_same f g r h = kind_same f g (kind_at g r) r h
+
+then_same : (f : PlainFrame) (r : ℕ) (o : Option PlainFrame) → Each (Same f) o → Each (Same f) (option_and_then (tell r) o)
+then_same f r None h = tt
+then_same f r (Some g) h = tell_same f g r h
+
+told_same : (f g : PlainFrame) (d : ℕ) (source : Operand) → Same f g → Each (Same f) (told d source g)
+unfolding told
+told_same f g d (Immediate imm) h = tell_same f g d h
+told_same f g d (Register r) h =
+    cond_both (d == r) (tell d g) (option_and_then (tell r) (tell d g)) (Each (Same f)) (λ _. tell_same f g d h) (λ _. then_same f r (tell d g) (tell_same f g d h))
+
+each_told : (f : PlainFrame) (d : ℕ) (source : Operand) (o : Option PlainFrame) → Each (Same f) o → Each (Same f) (option_and_then (told d source) o)
+each_told f d source None h = tt
+each_told f d source (Some g) h = told_same f g d source h
+
+edges_same : (room : Option ℕ) (answer : Plain) (i : Insn) (p q : ℕ) (f g : PlainFrame) → Among q g (edges_of room answer i p f) → Same f g
+edges_same room answer (Alu bits operation d x) p q f g e = one (Same f) q (p + 1) g _ (each_computed f d _) e
+edges_same room answer (Neg bits d) p q f g e = one (Same f) q (p + 1) g _ (each_computed f d _) e
+edges_same room answer (Mov bits d x) p q f g e = one (Same f) q (p + 1) g _ (each_computed f d _) e
+edges_same room answer (MovSigned extension d src) p q f g e = one (Same f) q (p + 1) g _ (each_computed f d _) e
+edges_same room answer (End order width d) p q f g e = one (Same f) q (p + 1) g _ (each_computed f d _) e
+edges_same room answer (LoadWide d value) p q f g e = one (Same f) q (p + 2) g (option_map (with_kind f d) (Some (Num (constant value)))) (each_computed f d (Some (Num (constant value)))) e
+edges_same room answer (Load width d from offset) p q f g e = one (Same f) q (p + 1) g _ (each_computed f d _) e
+edges_same room answer (LoadSigned width d from offset) p q f g e = one (Same f) q (p + 1) g _ (each_computed f d _) e
+edges_same room answer (Store width to offset x) p q f g e =
+    let place = stack_place (kind_at f to) (extended offset) in
+    one (Same f) q (p + 1) g (Some (after_store f (kind_at f to) (extended offset) (byte_count width) (operand_kind f x)))
+    (record { slots = length_stored f.slots (whole_slot place (byte_count width)) (access_span place (byte_count width)) (operand_kind f x); links = refl }) e
+edges_same room answer (Jump offset) p q f g e = one (Same f) q (target p offset) g (Some f) (record { slots = refl; links = refl }) e
+edges_same room answer (JumpLong distance) p q f g e = one (Same f) q (target p distance) g (Some f) (record { slots = refl; links = refl }) e
+edges_same room answer (Branch bits comparison d x offset) p q f g e =
+    two (Same f) q (target p offset) (p + 1) g (along_edge bits comparison true d x f) (along_edge bits comparison false d x f)
+    (each_told f d x _ (each_both f d x _)) (each_told f d x _ (each_both f d x _)) e
+edges_same room answer (Call helper) p q f g e =
+    one (Same f) q (p + 1) g (Some (after_call room answer f)) (record { slots = length_spoiled (room_span f room) 0 f.slots; links = refl }) e
+edges_same room answer (CallLocal distance) p q f g e = absurd e
+edges_same room answer Exit p q f g e = absurd e
 
 pub flows_keep : FlowsKeepSlots
-flows_keep room answer (Alu bits operation d x) p q f g e = one q (p + 1) (length f.slots) g _ (each_computed f d _) e
-flows_keep room answer (Neg bits d) p q f g e = one q (p + 1) (length f.slots) g _ (each_computed f d _) e
-flows_keep room answer (Mov bits d x) p q f g e = one q (p + 1) (length f.slots) g _ (each_computed f d _) e
-flows_keep room answer (MovSigned extension d src) p q f g e = one q (p + 1) (length f.slots) g _ (each_computed f d _) e
-flows_keep room answer (End order width d) p q f g e = one q (p + 1) (length f.slots) g _ (each_computed f d _) e
-flows_keep room answer (LoadWide d value) p q f g e = one q (p + 2) (length f.slots) g (option_map (with_kind f d) (Some (Num (constant value)))) (each_computed f d (Some (Num (constant value)))) e
-flows_keep room answer (Load width d from offset) p q f g e = one q (p + 1) (length f.slots) g _ (each_computed f d _) e
-flows_keep room answer (LoadSigned width d from offset) p q f g e = one q (p + 1) (length f.slots) g _ (each_computed f d _) e
-flows_keep room answer (Store width to offset x) p q f g e =
-    let place = stack_place (kind_at f to) (extended offset) in
-    one q (p + 1) (length f.slots) g (Some (after_store f (kind_at f to) (extended offset) (byte_count width) (operand_kind f x)))
-    (length_stored f.slots (whole_slot place (byte_count width)) (access_span place (byte_count width)) (operand_kind f x)) e
-flows_keep room answer (Jump offset) p q f g e = one q (target p offset) (length f.slots) g (Some f) refl e
-flows_keep room answer (JumpLong distance) p q f g e = one q (target p distance) (length f.slots) g (Some f) refl e
-flows_keep room answer (Branch bits comparison d x offset) p q f g e =
-    two q (target p offset) (p + 1) (length f.slots) g (along_edge bits comparison true d x f) (along_edge bits comparison false d x f) (each_both f d x _) (each_both f d x _) e
-flows_keep room answer (Call helper) p q f g e =
-    one q (p + 1) (length f.slots) g (Some (after_call room answer f)) (length_spoiled (room_span f room) 0 f.slots) e
-flows_keep room answer (CallLocal distance) p q f g e = absurd e
-flows_keep room answer Exit p q f g e = absurd e
+flows_keep room answer i p q f g e = let same = edges_same room answer i p q (relinked room i p f) g e in same.slots
+
+pub flow_links : (room : Option ℕ) (answer : Plain) (i : Insn) (p q : ℕ) (f g : PlainFrame) → Among q g (flow room answer i p f) → g.links ≡ links_after room i p f
+flow_links room answer i p q f g e = let same = edges_same room answer i p q (relinked room i p f) g e in same.links
 
 length_join : (xs ys : List PlainKind) → length ys ≡ length xs → length (join_each xs ys) ≡ length xs
 length_join [] ys e = refl

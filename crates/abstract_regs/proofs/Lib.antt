@@ -1,8 +1,17 @@
 mod Joins
+mod LinkForms
+pub mod LinkLists
+mod LinkTruth
+pub mod Told
+pub mod Forks
+mod Heard
 pub mod SlotLemmas
 pub mod SlotLists
 mod Lengths
+mod Names
+mod LinkJoins
 mod Keeping
+mod LinkKeeping
 mod Known
 mod Places
 pub mod Flat

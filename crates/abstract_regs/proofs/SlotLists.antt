@@ -123,5 +123,5 @@ set_both_again (x ∷ xs) (suc d) zero a b c e = ap (λ t. e ∷ t) (set_again x
 set_both_again (x ∷ xs) (suc d) (suc q) a b c e = ap (λ t. x ∷ t) (set_both_again xs d q a b c e)
 
 pub both_again : (f : PlainFrame) (dst : ℕ) (source : Operand) (s t : PlainKind × PlainKind) → with_both (with_both f dst source s) dst source t ≡ with_both f dst source t
-both_again f dst (Immediate imm) s t = ap (λ (xs : List PlainKind). record { registers = xs; slots = f.slots }) (set_again f.registers dst s.0 t.0)
-both_again f dst (Register q) s t = ap (λ (xs : List PlainKind). record { registers = xs; slots = f.slots }) (set_both_again f.registers dst q s.0 s.1 t.0 t.1)
+both_again f dst (Immediate imm) s t = ap (λ (xs : List PlainKind). record { registers = xs; slots = f.slots; links = f.links }) (set_again f.registers dst s.0 t.0)
+both_again f dst (Register q) s t = ap (λ (xs : List PlainKind). record { registers = xs; slots = f.slots; links = f.links }) (set_both_again f.registers dst q s.0 s.1 t.0 t.1)

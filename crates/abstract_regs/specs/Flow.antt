@@ -1,6 +1,6 @@
 -- The flow: where an instruction that no rule refuses goes on, and the frame along each edge.
 use Rattle.std.specs.Prelude.{ℕ, ℤ, ◌+◌, List, [], ◌∷◌, ◌++◌, Option, Some, None, Bool, true, false, ◌==◌}
-use Rattle.std.specs.Option.{option_map}
+use Rattle.std.specs.Option.{option_map, option_and_then}
 use Rattle.bpf_decode.specs.declared.insn.Operand.{Operand}
 use Rattle.bpf_decode.specs.declared.insn.Operand.TheVariants.{Immediate, Register}
 use Rattle.bpf_decode.specs.declared.insn.Insn.{Insn}
@@ -15,6 +15,7 @@ use Rattle.abstract_num.specs.Tighten.{tighten}
 use Rattle.abstract_num.specs.Transfer.{ranged, signed_ranged, load_high, signed_low, signed_high}
 use Rattle.abstract_regs.specs.Kind.{PlainKind, Num, alu_kind, neg_kind, mov_kind, signed_move_kind, end_kind, along_kinds}
 use Rattle.abstract_regs.specs.Frame.{PlainFrame, kind_at, with_kind, after_call, kept_kind, after_store, operand_kind, compared_kind}
+use Rattle.abstract_regs.specs.Links.{told, relinked}
 
 -- where a jump at slot p goes: its distance counts from the slot after it (RFC 9669 section 4.3)
 abbrev pub target : ℕ → ℤ → ℕ
@@ -40,10 +41,11 @@ with_operand f (Register r) y = with_kind f r y
 abbrev pub with_both : PlainFrame → ℕ → Operand → PlainKind × PlainKind → PlainFrame
 with_both f dst source s = with_operand (with_kind f dst s.0) source s.1
 
--- the frame along the edge of a comparison where it holds, or where it doesn't
+-- The frame along the edge of a comparison where it holds, or where it doesn't: with what is left of both
+-- kinds, and then of what these tell of linked places.
 abbrev pub along_edge : OpWidth → Comparison → Bool → ℕ → Operand → PlainFrame → Option PlainFrame
 along_edge bits comparison taken dst source f =
-    option_map (with_both f dst source) (along_kinds bits comparison taken (same_register dst source) (kind_at f dst) (compared_kind bits f source))
+    option_and_then (told dst source) (option_map (with_both f dst source) (along_kinds bits comparison taken (same_register dst source) (kind_at f dst) (compared_kind bits f source)))
 
 -- what a load gives: what is known of the slot that it is, as it stands, or else a number of that
 -- many bytes
@@ -51,22 +53,26 @@ abbrev pub loaded_kind : Option PlainKind → Option PlainKind → Option PlainK
 loaded_kind (Some x) number = Some x
 loaded_kind None number = number
 
--- `room` is the first register of the range that a helper writes, `answer` the number that it leaves
--- in register 0
-abbrev pub flow : Option ℕ → Plain → Insn → ℕ → PlainFrame → List (ℕ × PlainFrame)
-flow room answer (Alu bits operation dst source) p f = computed (p + 1) f dst (alu_kind bits operation (kind_at f dst) (operand_kind f source))
-flow room answer (Neg bits dst) p f = computed (p + 1) f dst (neg_kind bits (kind_at f dst))
-flow room answer (Mov bits dst source) p f = computed (p + 1) f dst (mov_kind bits (operand_kind f source))
-flow room answer (MovSigned extension dst src) p f = computed (p + 1) f dst (signed_move_kind extension (kind_at f src))
-flow room answer (End order width dst) p f = computed (p + 1) f dst (end_kind order width (kind_at f dst))
-flow room answer (LoadWide dst value) p f = computed (p + 2) f dst (Some (Num (constant value)))
-flow room answer (Load width dst base offset) p f = computed (p + 1) f dst (loaded_kind (kept_kind f (kind_at f base) (extended offset) (byte_count width)) (option_map Num (tighten (ranged 0 (load_high width)))))
-flow room answer (LoadSigned width dst base offset) p f = computed (p + 1) f dst (option_map Num (tighten (signed_ranged (signed_low width) (signed_high width))))
-flow room answer (Store width base offset source) p f = (p + 1, after_store f (kind_at f base) (extended offset) (byte_count width) (operand_kind f source)) ∷ []
-flow room answer (Jump offset) p f = (target p offset, f) ∷ []
-flow room answer (JumpLong distance) p f = (target p distance, f) ∷ []
-flow room answer (Branch bits comparison dst source offset) p f =
+-- The edges of an instruction, with the links as they stand. `room` is the first register of the range
+-- that a helper writes, `answer` the number that it leaves in register 0.
+abbrev pub edges_of : Option ℕ → Plain → Insn → ℕ → PlainFrame → List (ℕ × PlainFrame)
+edges_of room answer (Alu bits operation dst source) p f = computed (p + 1) f dst (alu_kind bits operation (kind_at f dst) (operand_kind f source))
+edges_of room answer (Neg bits dst) p f = computed (p + 1) f dst (neg_kind bits (kind_at f dst))
+edges_of room answer (Mov bits dst source) p f = computed (p + 1) f dst (mov_kind bits (operand_kind f source))
+edges_of room answer (MovSigned extension dst src) p f = computed (p + 1) f dst (signed_move_kind extension (kind_at f src))
+edges_of room answer (End order width dst) p f = computed (p + 1) f dst (end_kind order width (kind_at f dst))
+edges_of room answer (LoadWide dst value) p f = computed (p + 2) f dst (Some (Num (constant value)))
+edges_of room answer (Load width dst base offset) p f = computed (p + 1) f dst (loaded_kind (kept_kind f (kind_at f base) (extended offset) (byte_count width)) (option_map Num (tighten (ranged 0 (load_high width)))))
+edges_of room answer (LoadSigned width dst base offset) p f = computed (p + 1) f dst (option_map Num (tighten (signed_ranged (signed_low width) (signed_high width))))
+edges_of room answer (Store width base offset source) p f = (p + 1, after_store f (kind_at f base) (extended offset) (byte_count width) (operand_kind f source)) ∷ []
+edges_of room answer (Jump offset) p f = (target p offset, f) ∷ []
+edges_of room answer (JumpLong distance) p f = (target p distance, f) ∷ []
+edges_of room answer (Branch bits comparison dst source offset) p f =
     edge_to (target p offset) (along_edge bits comparison true dst source f) ++ edge_to (p + 1) (along_edge bits comparison false dst source f)
-flow room answer (Call helper) p f = (p + 1, after_call room answer f) ∷ []
-flow room answer (CallLocal distance) p f = []
-flow room answer Exit p f = []
+edges_of room answer (Call helper) p f = (p + 1, after_call room answer f) ∷ []
+edges_of room answer (CallLocal distance) p f = []
+edges_of room answer Exit p f = []
+
+-- the edges of an instruction, with the links that it leaves
+abbrev pub flow : Option ℕ → Plain → Insn → ℕ → PlainFrame → List (ℕ × PlainFrame)
+flow room answer i p f = edges_of room answer i p (relinked room i p f)

@@ -11,12 +11,16 @@ use Rattle.abstract_num.specs.Plain.{Plain, constant}
 use Rattle.abstract_num.specs.Tighten.{tighten}
 use Rattle.abstract_num.specs.Transfer.{ranged}
 use Rattle.abstract_regs.specs.Kind.{PlainKind, Unset, Num, Ptr, HoldsKind, join_kind}
+use Rattle.abstract_regs.specs.declared.link.Link.{Link}
+use Rattle.abstract_regs.specs.Link.{no_link, join_links}
 use Rattle.abstract_regs.specs.Slots.{Span, stack_place, stack_range, access_span, whole_slot, slot_kind, spoiled, stored}
 
--- by register, and by slot of the stack: in rule set 1 there are none
+-- Kinds by register, and by slot of the stack: in rule set 1 there are none. Links by place, that is by
+-- register and then by slot: in rule sets 1 and 2 there are none.
 pub record PlainFrame : Type 0 where
   pub registers : List PlainKind
   pub slots : List PlainKind
+  pub links : List Link
 
 abbrev pub or_unset : Option PlainKind → PlainKind
 or_unset None = Unset
@@ -26,7 +30,7 @@ abbrev pub kind_at : PlainFrame → ℕ → PlainKind
 kind_at f r = or_unset (slice_get f.registers r)
 
 abbrev pub with_kind : PlainFrame → ℕ → PlainKind → PlainFrame
-with_kind f r x = record { registers = slice_set f.registers r x; slots = f.slots }
+with_kind f r x = record { registers = slice_set f.registers r x; slots = f.slots; links = f.links }
 
 abbrev pub join_each : List PlainKind → List PlainKind → List PlainKind
 join_each [] ys = []
@@ -35,19 +39,21 @@ join_each (x ∷ xs) (y ∷ ys) = join_kind x y ∷ join_each xs ys
 
 -- what two flows that meet leave
 abbrev pub join : PlainFrame → PlainFrame → PlainFrame
-join f g = record { registers = join_each f.registers g.registers; slots = join_each f.slots g.slots }
+join f g = record { registers = join_each f.registers g.registers; slots = join_each f.slots g.slots; links = join_links f.links g.links }
 
 abbrev pub number_kind : Option Plain → PlainKind
 number_kind None = Unset
 number_kind (Some n) = Num n
 
 -- As a method begins: 1 points to the input, 2 is its length, at most in_cap, 3 points to the
--- output, 10 to the end of the stack. So many slots are known: each is the number 0.
-abbrev pub entry_frame : ℕ → ℕ → ℕ → PlainFrame
-entry_frame in_cap stack count = record {
+-- output, 10 to the end of the stack. So many slots are known: each is the number 0. So many places may
+-- be linked: none is.
+abbrev pub entry_frame : ℕ → ℕ → ℕ → ℕ → PlainFrame
+entry_frame in_cap stack count places = record {
   registers =
       Unset ∷ Ptr Input (constant 0) ∷ number_kind (tighten (ranged 0 in_cap)) ∷ Ptr Output (constant 0) ∷ Unset ∷ Unset ∷ Unset ∷ Unset ∷ Unset ∷ Unset ∷ Ptr Stack (constant stack) ∷ [];
   slots = replicate count (Num (constant 0));
+  links = replicate places no_link;
 }
 
 -- the bytes of the stack that a helper may write, where the first register of its writable range is
@@ -58,11 +64,15 @@ room_span f (Some r) = stack_range (kind_at f r) (kind_at f (r + 1))
 
 -- with other slots
 abbrev pub with_slots : PlainFrame → List PlainKind → PlainFrame
-with_slots f xs = record { registers = f.registers; slots = xs }
+with_slots f xs = record { registers = f.registers; slots = xs; links = f.links }
+
+-- with other links
+abbrev pub with_links : PlainFrame → List Link → PlainFrame
+with_links f ls = record { registers = f.registers; slots = f.slots; links = ls }
 
 -- a helper answers such a number in register 0 and leaves registers 1 to 5 unset
 abbrev pub after_answer : Plain → PlainFrame → PlainFrame
-after_answer answer f = record { registers = Num answer ∷ Unset ∷ Unset ∷ Unset ∷ Unset ∷ Unset ∷ drop 6 f.registers; slots = f.slots }
+after_answer answer f = record { registers = Num answer ∷ Unset ∷ Unset ∷ Unset ∷ Unset ∷ Unset ∷ drop 6 f.registers; slots = f.slots; links = f.links }
 
 -- and it overwrites what its writable range may be
 abbrev pub after_call : Option ℕ → Plain → PlainFrame → PlainFrame

@@ -1,5 +1,5 @@
 -- The laws of the join of frames, and that a join holds what either part holds.
-use Rattle.std.specs.Prelude.{◌≡◌, ℕ, ◌+◌, ◌%◌, ◌^◌, ◌<◌, ◌≤◌, List, [], ◌∷◌, Option, Some, None, true, false, length, replicate, is_some}
+use Rattle.std.specs.Prelude.{◌≡◌, ◌⊎◌, ℕ, ◌+◌, ◌%◌, ◌^◌, ◌<◌, ◌≤◌, List, [], ◌∷◌, Option, Some, None, true, false, length, replicate, is_some}
 use Rattle.abstract_num.specs.Plain.{Plain, Holds, Below}
 use Rattle.abstract_num.specs.Keeping.{Fits}
 use Rattle.bpf_decode.specs.declared.region.Region.TheVariants.{Input, Output, Stack}
@@ -12,7 +12,9 @@ use Rattle.abstract_regs.specs.Slots.{stack_range, meets}
 use Rattle.bpf_decode.specs.declared.region.Region.{Region}
 use Rattle.abstract_regs.specs.Frame.{PlainFrame, kept_kind, join_each, join, entry_frame, HoldsEach}
 use Rattle.abstract_regs.specs.Flow.{flow}
-use Rattle.abstract_regs.specs.Moves.{Among, KindFits, AllowsLoad, LoadIsKnown, Reached, IsSlot, IsNumber, value_at}
+use Rattle.abstract_regs.specs.declared.link.Link.{Link}
+use Rattle.abstract_regs.specs.Link.{no_link, join_links}
+use Rattle.abstract_regs.specs.Moves.{Among, KindFits, AllowsLoad, LoadIsKnown, Reached, IsSlot, IsNumber, HoldsLinks, NamesBelow, value_at}
 use Rattle.abstract_regs.specs.Seen.{seen_each}
 use Rattle.bpf_decode.specs.declared.insn.Insn.{Insn}
 
@@ -48,24 +50,49 @@ JoinOfSame = (xs : List Kind) → join_each (seen_each xs) (seen_each xs) ≡ se
 abbrev pub JoinIsAbove : Type 0
 JoinIsAbove = (xs ys : List Kind) → length xs ≡ length ys → BelowEach (seen_each xs) (join_each (seen_each xs) (seen_each ys))
 
+-- Links have these laws too: each link of the join is none, or the same in either frame.
+abbrev pub BelowLinks : List Link → List Link → Type 0
+BelowLinks ls [] = Unit {0}
+BelowLinks [] (m ∷ ms) = ⊥
+BelowLinks (l ∷ ls) (m ∷ ms) = ((m ≡ no_link) ⊎ (l ≡ m)) × BelowLinks ls ms
+
+abbrev pub LinksCommute : Type 0
+LinksCommute = (ls ms : List Link) → length ls ≡ length ms → join_links ls ms ≡ join_links ms ls
+
+abbrev pub LinksAssociate : Type 0
+LinksAssociate =
+    (ls ms ns : List Link) → length ls ≡ length ms → length ms ≡ length ns →
+    join_links (join_links ls ms) ns ≡ join_links ls (join_links ms ns)
+
+abbrev pub LinksOfSame : Type 0
+LinksOfSame = (ls : List Link) → join_links ls ls ≡ ls
+
+abbrev pub LinksAreAbove : Type 0
+LinksAreAbove = (ls ms : List Link) → length ls ≡ length ms → BelowLinks ls (join_links ls ms)
+
 -- What either of two frames holds, their join holds.
 pub record JoinHolds (f g : PlainFrame) : Type 0 where
   pub left : (cs : List (Option Value)) → HoldsEach f.registers cs → HoldsEach (join f g).registers cs
   pub right : (cs : List (Option Value)) → HoldsEach g.registers cs → HoldsEach (join f g).registers cs
   pub slots_left : (vs : List (Option Value)) → HoldsEach f.slots vs → HoldsEach (join f g).slots vs
   pub slots_right : (vs : List (Option Value)) → HoldsEach g.slots vs → HoldsEach (join f g).slots vs
+  pub links_left : (cs vs : List (Option Value)) → HoldsLinks f cs vs → HoldsLinks (join f g) cs vs
+  pub links_right : (cs vs : List (Option Value)) → HoldsLinks g cs vs → HoldsLinks (join f g) cs vs
 
 abbrev pub JoinsHold : Type 0
 JoinsHold = (f g : PlainFrame) → JoinHolds f g
 
--- What a method begins with, an input of n bytes and a stack of zeros: the entry frame holds it.
-pub record EntryIsHeld (in_cap stack count n : ℕ) : Type 0 where
-  pub registers : HoldsEach (entry_frame in_cap stack count).registers
+-- What a method begins with, an input of n bytes and a stack of zeros: the entry frame holds it. No place
+-- is linked.
+pub record EntryIsHeld (in_cap stack count places n : ℕ) : Type 0 where
+  pub registers : HoldsEach (entry_frame in_cap stack count places).registers
       (None ∷ Some (values.Ptr Input 0) ∷ Some (values.Num n) ∷ Some (values.Ptr Output 0) ∷ None ∷ None ∷ None ∷ None ∷ None ∷ None ∷ Some (values.Ptr Stack stack) ∷ [])
-  pub slots : HoldsEach (entry_frame in_cap stack count).slots (replicate count (Some (values.Num 0)))
+  pub slots : HoldsEach (entry_frame in_cap stack count places).slots (replicate count (Some (values.Num 0)))
+  pub links : (cs vs : List (Option Value)) → HoldsLinks (entry_frame in_cap stack count places) cs vs
+  pub names : (p : ℕ) → NamesBelow p (entry_frame in_cap stack count places)
 
 abbrev pub EntryHolds : Type 0
-EntryHolds = (in_cap stack count n : ℕ) → in_cap < 2 ^ 64 → stack < 2 ^ 64 → n ≤ in_cap → EntryIsHeld in_cap stack count n
+EntryHolds = (in_cap stack count places n : ℕ) → in_cap < 2 ^ 64 → stack < 2 ^ 64 → n ≤ in_cap → EntryIsHeld in_cap stack count places n
 
 -- An access that fits by an offset stays within the first so many bytes, at every place that the
 -- offset holds.
@@ -88,6 +115,24 @@ FlowsKeepSlots =
 
 abbrev pub JoinsKeepSlots : Type 0
 JoinsKeepSlots = (f g : PlainFrame) → length g.slots ≡ length f.slots → length (join f g).slots ≡ length f.slots
+
+-- And the number of places that may be linked.
+abbrev pub FlowsKeepLinks : Type 0
+FlowsKeepLinks =
+    (room : Option ℕ) (answer : Plain) (i : Insn) (p q : ℕ) (f g : PlainFrame) → Among q g (flow room answer i p f) → length g.links ≡ length f.links
+
+abbrev pub JoinsKeepLinks : Type 0
+JoinsKeepLinks = (f g : PlainFrame) → length g.links ≡ length f.links → length (join f g).links ≡ length f.links
+
+-- The names that links have after an instruction at slot p are below every later slot, if those before
+-- it are below p. A join has no others.
+abbrev pub FlowsKeepNames : Type 0
+FlowsKeepNames =
+    (room : Option ℕ) (answer : Plain) (i : Insn) (p q : ℕ) (f g : PlainFrame) → NamesBelow p f → Among q g (flow room answer i p f) →
+    (n : ℕ) → p < n → NamesBelow n g
+
+abbrev pub JoinsKeepNames : Type 0
+JoinsKeepNames = (f g : PlainFrame) (p : ℕ) → NamesBelow p f → NamesBelow p (join f g)
 
 -- Of a load that the rules leave, what it reads is known, wherever it is.
 abbrev pub LoadsAreKnown : Type 0

@@ -21,6 +21,9 @@ use Rattle.abstract_regs.specs.declared.content.Content.TheVariants.{Nothing, Po
 use Rattle.abstract_regs.specs.Slots.{stack_place, access_span, meets}
 use Rattle.abstract_regs.specs.Frame.{PlainFrame, kind_at, operand_kind, kept_kind, HoldsEach}
 use Rattle.abstract_regs.specs.Flow.{target, flow}
+use Rattle.abstract_regs.specs.declared.link.Link.{Link}
+use Rattle.abstract_regs.specs.Link.{link_in, HoldsLink, NameBelow}
+use Rattle.abstract_regs.specs.Links.{slot_place}
 
 abbrev pub flat_option : Option (Option Value) → Option Value
 flat_option None = None
@@ -36,6 +39,22 @@ operand_in cs (Register r) = value_at cs r
 
 abbrev pub with_value : List (Option Value) → ℕ → Value → List (Option Value)
 with_value cs r v = slice_set cs r (Some v)
+
+-- ---- links
+
+-- the links of a frame are true, where the names have these numbers
+pub record LinksAre (links : List Link) (cs vs : List (Option Value)) (numbers : ℕ → ℕ) : Type 0 where
+  pub registers : (r : ℕ) → r ≤ 10 → HoldsLink numbers (link_in links r) (value_at cs r)
+  pub slots : (j : ℕ) → HoldsLink numbers (link_in links (slot_place j)) (value_at vs j)
+
+-- The names can have such numbers that the links of a frame are true of the registers cs and of the
+-- slots vs.
+abbrev pub HoldsLinks : PlainFrame → List (Option Value) → List (Option Value) → Type 0
+HoldsLinks f cs vs = (numbers : ℕ → ℕ) × LinksAre f.links cs vs numbers
+
+-- Each name of a frame's links is below p: no instruction from slot p on has given it yet.
+abbrev pub NamesBelow : ℕ → PlainFrame → Type 0
+NamesBelow p f = (place : ℕ) → NameBelow p (link_in f.links place)
 
 -- ---- slots of the stack, by their values: a number, a place, or none where a place was
 -- overwritten in part
@@ -120,12 +139,13 @@ abbrev pub Among : ℕ → PlainFrame → List (ℕ × PlainFrame) → Type 0
 Among q g [] = ⊥
 Among q g (edge ∷ edges) = ((q ≡ edge.0) × (g ≡ edge.1)) ⊎ Among q g edges
 
--- an edge to that slot, whose frame is true of the registers
+-- an edge to that slot, whose frame is true of the registers and of the slots
 pub record Reaches (edges : List (ℕ × PlainFrame)) (q : ℕ) (ds ws : List (Option Value)) : Type 0 where
   pub frame : PlainFrame
   pub there : Among q frame edges
   pub holds : HoldsEach frame.registers ds
   pub slots : HoldsEach frame.slots ws
+  pub links : HoldsLinks frame ds ws
 
 -- The numbers of a frame are below 2 ^ 64.
 abbrev pub KindFits : PlainKind → Type 0
@@ -157,10 +177,11 @@ Allows room (Store width base offset source) f =
 Allows room (Call helper) f = AllowsRoom room f
 Allows room i f = Unit {0}
 
--- What a frame held before an instruction, a frame along an edge holds after it.
+-- What a frame held before an instruction, a frame along an edge holds after it. The frame's links have
+-- no names that the instruction gives.
 abbrev pub Keeps : Option ℕ → Plain → Insn → ℕ → PlainFrame → Type 0
 Keeps room answer i p f =
-    Fits i → Allows room i f → (cs ds vs ws : List (Option Value)) (q : ℕ) → length f.slots ≡ length vs → HoldsEach f.registers cs → HoldsEach f.slots vs → Moves room answer i p cs vs q ds ws → Reaches (flow room answer i p f) q ds ws
+    Fits i → Allows room i f → NamesBelow p f → (cs ds vs ws : List (Option Value)) (q : ℕ) → length f.slots ≡ length vs → HoldsEach f.registers cs → HoldsEach f.slots vs → HoldsLinks f cs vs → Moves room answer i p cs vs q ds ws → Reaches (flow room answer i p f) q ds ws
 
 -- Each slot that w bytes reach is a number, or they are a slot that has a value.
 abbrev pub LoadIsKnown : List (Option Value) → Region → ℕ → ℕ → Type 0

@@ -1,5 +1,5 @@
 ghost use Rattle.std.specs.Prelude.{◌≡◌, ℕ, ◌<◌, ◌+◌, ◌++◌, ◌^◌, Some, true, false};
-ghost use Rattle.std.specs.Option.{option_map};
+ghost use Rattle.std.specs.Option.{option_map, option_and_then};
 ghost use Rattle.bpf_decode.specs.Instruction.{slot_count, byte_count};
 ghost use Rattle.bpf_decode.specs.Values.{extended};
 ghost use Rattle.abstract_num.specs.Plain.{view};
@@ -9,7 +9,8 @@ ghost use Rattle.abstract_regs.specs.Kind as plain;
 ghost use Rattle.abstract_regs.specs.Seen.{seen, seen_both};
 ghost use Rattle.abstract_regs.specs.Frame.{kind_at, kept_kind, operand_kind};
 ghost use Rattle.abstract_regs.specs.Kind.{alu_kind};
-ghost use Rattle.abstract_regs.specs.Flow.{edge_to, computed, same_register, with_operand, with_both, along_edge, loaded_kind, flow};
+ghost use Rattle.abstract_regs.specs.Links.{told};
+ghost use Rattle.abstract_regs.specs.Flow.{edge_to, computed, same_register, with_operand, with_both, along_edge, loaded_kind, edges_of, flow};
 ghost use Rattle.abstract_regs.specs.Moves.{EachFits, Keeps};
 ghost use Rattle.abstract_regs.specs.Edged.{with_edges, refined};
 ghost use Rattle.abstract_regs.specs.declared.kind.Kinds.{Kinds};
@@ -44,7 +45,7 @@ impl Frame {
         slot: usize,
         fallen: &mut Kinds,
     ) -> Edges
-        requires { slot < 2 ^ 62 }
+        requires { slot < 2 ^ 32 }
         ensures table { flow room (view answer.now) insn.now slot self.old ≡ with_edges result fallen.new (slot + slot_count insn.now) self.new }
         // A frame along an edge holds after it the values that were held before it.
         ensures keeps { Keeps room (view answer.now) insn.now slot self.old }
@@ -53,14 +54,15 @@ impl Frame {
         // For the proof: the tables of numbers keep what is held, and the frame's numbers fit.
         keeping_laws();
         self.fits();
+        self.relink(room, insn, slot as u32);
         self.flow_on(room, answer, insn, slot, fallen)
     }
 
-    /// The same, by the table alone.
+    /// The edges, with the links as they stand.
     #[rattlefmt::skip]
     fn flow_on(&mut self, room: Option<u8>, answer: &Number, insn: &Insn, slot: usize, fallen: &mut Kinds) -> Edges
         requires { slot < 2 ^ 62 }
-        ensures { flow room (view answer.now) insn.now slot self.old ≡ with_edges result fallen.new (slot + slot_count insn.now) self.new }
+        ensures { edges_of room (view answer.now) insn.now slot self.old ≡ with_edges result fallen.new (slot + slot_count insn.now) self.new }
     {
         match *insn {
             Insn::Alu { bits, operation, dst, source } => {
@@ -217,31 +219,41 @@ impl Frame {
         fallen: Option<Kinds>,
         place: &mut Kinds,
     ) -> Edges
-        ensures { (next : ℕ) → edge_to target (option_map (with_both self.old dst source.now) (option_map seen_both taken)) ++ edge_to next (option_map (with_both self.old dst source.now) (option_map seen_both fallen)) ≡ with_edges result place.new next self.new }
+        ensures { (next : ℕ) → edge_to target (option_and_then (told dst source.now) (option_map (with_both self.old dst source.now) (option_map seen_both taken))) ++ edge_to next (option_and_then (told dst source.now) (option_map (with_both self.old dst source.now) (option_map seen_both fallen))) ≡ with_edges result place.new next self.new }
     {
         match taken {
             None => match fallen {
                 None => Edges::Leaves,
                 Some(kinds) => {
                     self.put_both(dst, source, kinds);
-                    Edges::Falls
+                    if self.tell_both(dst, source) {
+                        Edges::Falls
+                    } else {
+                        Edges::Leaves
+                    }
                 }
             },
             Some(kinds) => match fallen {
                 None => {
                     self.put_both(dst, source, kinds);
-                    Edges::Jumps(target)
+                    if self.tell_both(dst, source) {
+                        Edges::Jumps(target)
+                    } else {
+                        Edges::Leaves
+                    }
                 }
                 Some(others) => {
                     self.put_both(dst, source, kinds);
                     *place = others;
-                    Edges::Branches(
-                        target,
-                        Compared {
-                            dst,
-                            source: *source,
-                        },
-                    )
+                    let compared = Compared {
+                        dst,
+                        source: *source,
+                    };
+                    if self.is_told(dst, source) {
+                        Edges::Forks(target, compared)
+                    } else {
+                        Edges::Branches(target, compared)
+                    }
                 }
             },
         }

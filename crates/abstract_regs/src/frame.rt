@@ -1,4 +1,4 @@
-ghost use Rattle.std.specs.Prelude.{◌≡◌, IfOk, OnOk, slice_get, slice_set};
+ghost use Rattle.std.specs.Prelude.{◌≡◌, IfOk, OnOk, length, slice_get, slice_set};
 ghost use Rattle.std.specs.Option.{option_map};
 ghost use Rattle.abstract_num.specs.Plain.{view};
 ghost use Rattle.abstract_regs.specs.Frame.{kind_at, or_unset, with_kind, join, entry_frame, after_call, after_answer, after_store, kept_kind, room_span, operand_kind, compared_kind, with_slots};
@@ -8,6 +8,8 @@ ghost use Rattle.abstract_regs.specs.Seen.{seen, seen_each};
 
 use crate::content::Content;
 use crate::kind::Kind;
+use crate::link::Link;
+use crate::links::{free, join_links};
 use crate::slots::{fit_all, join_all, join_slots, meets, spoil, zeros};
 use crate::stack_span::{StackSpan, access_span, stack_place, stack_range, whole_slot};
 use abstract_num::{Number, between, constant};
@@ -17,11 +19,13 @@ use std::alloc::{AllocError, Global};
 use std::marker::Model;
 
 /// The state before an instruction: the kinds of the eleven registers, and those of the stack's
-/// slots of eight bytes, if such are known. Contracts see them in plain numbers.
+/// slots of eight bytes, if such are known, with the links between both, if such are followed.
+/// Contracts see them in plain numbers.
 #[derive(Drop)]
 pub struct Frame {
-    registers: [Kind; 11],
-    slots: Vec<Kind>,
+    pub(crate) registers: [Kind; 11],
+    pub(crate) slots: Vec<Kind>,
+    pub(crate) links: Vec<Link>,
 }
 
 impl Model for Frame {
@@ -30,49 +34,65 @@ impl Model for Frame {
 
     ghost Value = { PlainFrame };
 
-    ghost view = { λ f. record { registers = seen_each f.registers; slots = seen_each f.slots.items } };
+    ghost view = { λ f. record { registers = seen_each f.registers; slots = seen_each f.slots.items; links = f.links.items } };
 }
 
 impl Frame {
     /// As a method begins: 1 points to the input, 2 is its length, at most `in_cap`, 3 points to
     /// the output, 10 to the end of a stack of `stack` bytes. `count` slots of the stack are known,
-    /// each as the number 0.
-    pub fn entry(alloc: Global, in_cap: u64, stack: u64, count: usize) -> Result<Frame, AllocError>
-        ensures { IfOk result (λ f. f ≡ entry_frame in_cap stack count) }
+    /// each as the number 0. `places` registers and slots can be linked; none is.
+    pub fn entry(
+        alloc: Global,
+        in_cap: u64,
+        stack: u64,
+        count: usize,
+        places: usize,
+    ) -> Result<Frame, AllocError>
+        ensures { IfOk result (λ f. f ≡ entry_frame in_cap stack count places) }
     {
         let slots = zeros(alloc, count)?;
+        let links = free(alloc, places)?;
         let mut registers = [Kind::Unset; 11];
         registers[1] = Kind::Ptr(Region::Input, constant(0));
         registers[2] = Kind::Num(between(0, in_cap));
         registers[3] = Kind::Ptr(Region::Output, constant(0));
         registers[10] = Kind::Ptr(Region::Stack, constant(stack));
-        Ok(Frame { registers, slots })
+        Ok(Frame {
+            registers,
+            slots,
+            links,
+        })
     }
 
-    /// An equal frame. It takes memory for its slots alone, and rule set 1 has none.
+    /// An equal frame. It takes memory for its slots and links alone, and rule set 1 has none.
     pub fn copy(&self, alloc: Global) -> Result<Frame, AllocError>
         ensures { IfOk result (λ f. f ≡ self.now) }
     {
         let slots = Vec::from_slice(alloc, &self.slots)?;
+        let links = Vec::from_slice(alloc, &self.links)?;
         Ok(Frame {
             registers: self.registers,
             slots,
+            links,
         })
     }
 
-    /// Becomes an equal frame, in its own memory if that has room for the slots.
+    /// Becomes an equal frame, in its own memory if that has room for the slots and the links.
     pub fn copy_from(&mut self, other: &Frame) -> Result<(), AllocError>
         ensures { OnOk result (self.new ≡ other.now) }
     {
         self.slots.clear();
         self.slots.extend_from_slice(&other.slots)?;
+        self.links.clear();
+        self.links.extend_from_slice(&other.links)?;
         self.registers = other.registers;
         Ok(())
     }
 
     /// Its numbers are below `2^64`. It does nothing.
     pub(crate) fn fits(&self)
-        ensures { EachFits self.now.registers }
+        ensures fits { EachFits self.now.registers }
+        ensures eleven { length self.now.registers ≡ 11 }
     {
         fit_all(&self.registers);
     }
@@ -115,6 +135,7 @@ impl Frame {
     {
         join_all(&mut self.registers, &other.registers);
         join_slots(&mut self.slots, &other.slots);
+        join_links(&mut self.links, &other.links);
     }
 
     /// After a helper's call: register 0 is the number of its answer, registers 1 to 5 are unset,
@@ -150,7 +171,7 @@ impl Frame {
     }
 
     /// The bytes of the stack that a helper may write.
-    fn room_span(&self, room: Option<u8>) -> Option<StackSpan>
+    pub(crate) fn room_span(&self, room: Option<u8>) -> Option<StackSpan>
         ensures { result ≡ room_span self.now room }
     {
         match room {

@@ -1,3 +1,4 @@
+ghost use Rattle.abstract_regs.specs.Laws.{LinksCommute, LinksAssociate, LinksOfSame, LinksAreAbove, FlowsKeepLinks, JoinsKeepLinks, FlowsKeepNames, JoinsKeepNames};
 ghost use Rattle.abstract_regs.specs.Laws.{JoinCommutes, JoinAssociates, JoinOfSame, JoinIsAbove, JoinsHold, EntryHolds, AccessesFit, RangesFit, FlowsKeepSlots, JoinsKeepSlots, SlotsAreKnown, LoadsAreKnown, RangesAreKnown};
 
 use abstract_num::keeping_laws;
@@ -9,6 +10,10 @@ pub fn join_laws()
     ensures associates { JoinAssociates }
     ensures of_same { JoinOfSame }
     ensures is_above { JoinIsAbove }
+    ensures links_commute { LinksCommute }
+    ensures links_associate { LinksAssociate }
+    ensures links_of_same { LinksOfSame }
+    ensures links_are_above { LinksAreAbove }
 {
     // For the proof: the join of numbers has these laws.
     abstract_num::join_laws();
@@ -31,6 +36,15 @@ pub fn holding_laws()
 pub fn slots_stay()
     ensures flows { FlowsKeepSlots }
     ensures joins { JoinsKeepSlots }
+{}
+
+/// A law. An instruction, along each of its edges, and a join keep the number of places that may be
+/// linked, and their links have no names of slots to come.
+pub fn links_stay()
+    ensures flows { FlowsKeepLinks }
+    ensures joins { JoinsKeepLinks }
+    ensures flow_names { FlowsKeepNames }
+    ensures join_names { JoinsKeepNames }
 {}
 
 /// A law. An access whose slot's kind is known is that slot; what a load that no rule refuses reads

@@ -1,4 +1,4 @@
-ghost use Rattle.std.specs.Prelude.{◌≡◌, ◌+◌, ◌/◌, ◌<◌, ◌^◌, min};
+ghost use Rattle.std.specs.Prelude.{◌≡◌, ◌+◌, ◌/◌, ◌<◌, ◌^◌, min, IfSome};
 ghost use Rattle.std.specs.Option.{option_map};
 ghost use Rattle.abstract_num.specs.Plain.{view};
 ghost use Rattle.abstract_regs.specs.Seen.{seen};
@@ -78,7 +78,8 @@ pub(crate) fn access_span(place: Option<Number>, bytes: usize) -> Option<StackSp
 /// The slot that an access covers whole: eight bytes at one place, which is a multiple of 8.
 #[inline(always)]
 pub(crate) fn whole_slot(place: Option<Number>, bytes: usize) -> Option<usize>
-    ensures { result ≡ whole_slot (option_map view place) bytes }
+    ensures slot { result ≡ whole_slot (option_map view place) bytes }
+    ensures small { IfSome result (λ slot. slot < 2 ^ 61) }
 {
     match place {
         None => None,

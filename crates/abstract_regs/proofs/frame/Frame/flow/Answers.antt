@@ -1,5 +1,5 @@
 use Rattle.abstract_num.specs.Plain.{view}
-use Rattle.abstract_regs.proofs.Keeping.{keeps}
+use Rattle.abstract_regs.proofs.LinkKeeping.{keeps}
 use Rattle.abstract_regs.proofs.frame.Frame.flow.Goals as goal
 
 pub returns-clause-keeps : goal.returns-clause-keeps
@@ -18,4 +18,4 @@ returns-clause-keeps c =
       signed_loads = law.signed_loads;
       tighten = law.tighten;
       edges = law.edges;
-    }) c.args.self.now c.fits.ensures c.args.room (view c.args.answer.now) c.args.insn.now c.args.slot
+    }) c.args.self.now c.fits.ensures.fits c.fits.ensures.eleven c.args.room (view c.args.answer.now) c.args.insn.now c.args.slot

@@ -1,14 +1,30 @@
-use Rattle.std.proofs.Common.{ℕ, [], ◌∷◌, ◌++◌, Option, ap, ◌∙◌, sym}
-use Rattle.std.specs.Option.{option_map}
+use Rattle.std.proofs.Common.{◌≡◌, ℕ, [], ◌∷◌, ◌++◌, Option, Some, false, ap, ◌∙◌, sym}
+use Rattle.std.specs.Option.{option_map, option_and_then}
 use Rattle.abstract_regs.specs.declared.kind.Kinds.{Kinds}
 use Rattle.abstract_regs.specs.Seen.{seen_both}
 use Rattle.abstract_regs.specs.Frame.{PlainFrame}
+use Rattle.abstract_regs.specs.Links.{told}
 use Rattle.abstract_regs.specs.Flow.{edge_to, with_both}
+use Rattle.abstract_regs.specs.Edged.{is_told}
 use Rattle.abstract_regs.proofs.SlotLists.{both_again}
+use Rattle.abstract_regs.proofs.Forks.{is_told_both, untold}
 use Rattle.abstract_regs.proofs.frame.Frame.fork.Goals as goal
 
-pub returns-in-Some-fallen-2 : goal.returns-in-Some-fallen-2
-returns-in-Some-fallen-2 c = λ next.
+pub returns-then-is_told : goal.returns-then-is_told
+returns-then-is_told c = λ next.
+    let f = c.args.self.now in
+    let d = c.args.dst in
+    let x = c.args.source.now in
+    let t = c.args.target in
+    let a = seen_both c.in-Some.kinds in
+    let b = seen_both c.in-Some-fallen-2.others in
+    ap (λ (o : Option Kinds). edge_to t (option_and_then (told d x) (option_map (with_both f d x) (option_map seen_both o))) ++ edge_to next (option_and_then (told d x) (option_map (with_both f d x) (option_map seen_both c.args.fallen)))) c.in-Some.is
+    ∙ ap (λ (o : Option Kinds). edge_to t (told d x (with_both f d x a)) ++ edge_to next (option_and_then (told d x) (option_map (with_both f d x) (option_map seen_both o)))) c.in-Some-fallen-2.is
+    ∙ ap (λ (h : PlainFrame). edge_to t (told d x (with_both f d x a)) ++ edge_to next (told d x h)) (sym (both_again f d x a b))
+    ∙ ap (λ (h : PlainFrame). edge_to t (told d x h) ++ edge_to next (told d x (with_both h d x b))) (sym c.put_both-in-Some-fallen-2.ensures)
+
+pub returns-else-is_told : goal.returns-else-is_told
+returns-else-is_told c = λ next.
     let f = c.args.self.now in
     let d = c.args.dst in
     let x = c.args.source.now in
@@ -16,7 +32,10 @@ returns-in-Some-fallen-2 c = λ next.
     let a = seen_both c.in-Some.kinds in
     let b = seen_both c.in-Some-fallen-2.others in
     let pair : ℕ → PlainFrame → ℕ × PlainFrame = λ q g. (q, g) in
-    ap (λ (o : Option Kinds). edge_to t (option_map (with_both f d x) (option_map seen_both o)) ++ edge_to next (option_map (with_both f d x) (option_map seen_both c.args.fallen))) c.in-Some.is
-    ∙ ap (λ (o : Option Kinds). pair t (with_both f d x a) ∷ edge_to next (option_map (with_both f d x) (option_map seen_both o))) c.in-Some-fallen-2.is
+    let free : is_told f d x ≡ false = sym (ap (λ g. is_told g d x) c.put_both-in-Some-fallen-2.ensures ∙ is_told_both f d x a) ∙ sym c.is_told.ensures ∙ c.if-is_told.false in
+    ap (λ (o : Option Kinds). edge_to t (option_and_then (told d x) (option_map (with_both f d x) (option_map seen_both o))) ++ edge_to next (option_and_then (told d x) (option_map (with_both f d x) (option_map seen_both c.args.fallen)))) c.in-Some.is
+    ∙ ap (λ (o : Option Kinds). edge_to t (told d x (with_both f d x a)) ++ edge_to next (option_and_then (told d x) (option_map (with_both f d x) (option_map seen_both o)))) c.in-Some-fallen-2.is
+    ∙ ap (λ (o : Option PlainFrame). edge_to t o ++ edge_to next (told d x (with_both f d x b))) (untold (with_both f d x a) d x (is_told_both f d x a ∙ free))
+    ∙ ap (λ (o : Option PlainFrame). pair t (with_both f d x a) ∷ edge_to next o) (untold (with_both f d x b) d x (is_told_both f d x b ∙ free))
     ∙ ap (λ (h : PlainFrame). pair t (with_both f d x a) ∷ pair next h ∷ []) (sym (both_again f d x a b))
     ∙ ap (λ (h : PlainFrame). pair t h ∷ pair next (with_both h d x b) ∷ []) (sym c.put_both-in-Some-fallen-2.ensures)
