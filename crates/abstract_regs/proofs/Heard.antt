@@ -1,6 +1,6 @@
 -- What a number tells other places is true of them.
-use Rattle.std.proofs.Common.{◌≡◌, ◌≢◌, ℕ, zero, suc, ◌+◌, ◌-◌, ◌%◌, ◌^◌, ◌<◌, ◌≤◌, List, [], ◌∷◌, length, Option, Some, None, Bool, true, false, cond, refl, ap, ◌∙◌, sym, subst, arith, IsSomeAnd}
-use Rattle.std.specs.Prelude.{◌==◌, ◌&&◌, nat_lt, slice_get, slice_set}
+use Rattle.std.proofs.Common.{◌≡◌, ℕ, zero, suc, ◌+◌, ◌%◌, ◌^◌, ◌<◌, ◌≤◌, List, [], ◌∷◌, length, Option, Some, None, true, cond, refl, ap, ◌∙◌, sym, subst, arith, IsSomeAnd}
+use Rattle.std.specs.Prelude.{◌==◌, ◌&&◌, nat_lt, slice_get}
 use Rattle.std.specs.Option.{option_map, option_and_then}
 use Rattle.std.proofs.lemmas.Bool.{false≢true, and_parts, eqb-true, eq-eqb, ltb-true, cond_both}
 use Rattle.bpf_decode.specs.declared.insn.Operand.{Operand}
@@ -19,9 +19,9 @@ use Rattle.abstract_regs.specs.declared.link.Form.{Form}
 use Rattle.abstract_regs.specs.declared.link.Form.TheVariants.{Unlinked, Whole, Low, Up, Sign}
 use Rattle.abstract_regs.specs.Kind.{PlainKind, Unset, Num, Ptr, HoldsKind}
 use Rattle.abstract_regs.specs.Link.{is_linked, is_whole, has_low, link_in, HoldsForm, HoldsLink}
-use Rattle.abstract_regs.specs.Links.{slot_place, apart, at_distance, met_number, is_bounded, tell_whole, tell_half, told_number, told_kind, is_named, told_kinds, tell_all, tell_kind, tell, told}
+use Rattle.abstract_regs.specs.Links.{apart, at_distance, met_number, is_bounded, tell_whole, tell_half, told_number, told_kind, is_named, told_kinds, tell_all, tell_kind, tell, told}
 use Rattle.abstract_regs.specs.Frame.{PlainFrame, kind_at, or_unset, HoldsEach}
-use Rattle.abstract_regs.specs.Moves.{value_at, operand_in, LinksAre, HoldsLinks}
+use Rattle.abstract_regs.specs.Moves.{value_at, operand_in, HoldsLinks}
 use Rattle.abstract_regs.proofs.Told.{told_here}
 
 -- the laws of numbers that telling rests on

@@ -1,13 +1,12 @@
 -- What a link says of a number, its other forms say of what instructions compute of that number.
-use Rattle.std.proofs.Common.{◌≡◌, ◌≢◌, ℕ, ℤ, pos, negsuc, ◌+◌, ◌-◌, ◌*◌, ◌/◌, ◌%◌, ◌^◌, ◌<◌, ◌≤◌, Bool, true, false, cond, refl, ap, ◌∙◌, sym, subst, arith, rules}
-use Rattle.std.specs.Prelude.{bit_and, ◌==◌, ◌&&◌, nat_le, Option, Some, None}
+use Rattle.std.proofs.Common.{◌≡◌, ℕ, ◌+◌, ◌-◌, ◌*◌, ◌/◌, ◌%◌, ◌^◌, ◌<◌, ◌≤◌, cond, refl, ap, ◌∙◌, sym, subst, arith, rules}
+use Rattle.std.specs.Prelude.{bit_and, ◌==◌, ◌&&◌, nat_le, Some}
 use Rattle.std.specs.Int.{w32, w64, cast_signed, cast_unsigned, int_shr}
 use Rattle.std.proofs.Math.Nat.{mod-eq_of_lt}
 use Rattle.std.proofs.lemmas.Int.{ints}
 use Rattle.std.proofs.lemmas.Nat.{and_mask, and_assoc}
 use Rattle.std.proofs.lemmas.Nat.Bits.{and_high_mask}
-use Rattle.std.proofs.lemmas.Bool.{and_parts, eqb-true, leb-true, cond_both, cases_lt}
-use Rattle.bpf_decode.specs.declared.value.Value.{Value}
+use Rattle.std.proofs.lemmas.Bool.{and_parts, eqb-true, leb-true, cond_both}
 use Rattle.bpf_decode.specs.declared.value.Value.TheVariants as values
 use Rattle.bpf_decode.specs.declared.operation.OpWidth.{OpWidth}
 use Rattle.bpf_decode.specs.declared.operation.OpWidth.TheVariants.{Bits32, Bits64}
@@ -20,7 +19,7 @@ use Rattle.abstract_num.specs.UnsignedRows.{digits}
 use Rattle.abstract_regs.specs.declared.link.Link.{Link}
 use Rattle.abstract_regs.specs.declared.link.Form.{Form}
 use Rattle.abstract_regs.specs.declared.link.Form.TheVariants.{Unlinked, Whole, Low, Up, Sign}
-use Rattle.abstract_regs.specs.Link.{no_link, is_linked, is_whole, has_low, low_form, up_form, sign_form, down_form, HoldsForm, HoldsLink, shaped, moved_link, is_ones}
+use Rattle.abstract_regs.specs.Link.{no_link, low_form, up_form, sign_form, down_form, HoldsForm, HoldsLink, shaped, moved_link, is_ones}
 use Rattle.abstract_regs.specs.Links.{shifted_link, masked_link, alu_link}
 
 -- ---- bits

@@ -1,5 +1,5 @@
 -- The laws of the join of links.
-use Rattle.std.proofs.Common.{◌≡◌, ◌≢◌, ℕ, zero, suc, List, [], ◌∷◌, Option, Bool, true, false, cond, refl, inl, inr, ap, ◌∙◌, sym, subst, length, arith, ⊎_elim}
+use Rattle.std.proofs.Common.{◌≡◌, ◌≢◌, ℕ, zero, suc, List, [], ◌∷◌, Option, Bool, true, false, refl, inl, inr, ap, ◌∙◌, sym, subst, length, arith, ⊎_elim}
 use Rattle.std.specs.Prelude.{◌⊎◌, ◌==◌, ◌&&◌, replicate}
 use Rattle.std.proofs.lemmas.Bool.{false≢true, and_parts, eqb-true, eq-eqb, cond-true, cond-false}
 use mathlib.Core.Path.{ap₂}
@@ -10,8 +10,8 @@ use Rattle.abstract_regs.specs.declared.link.Form.TheVariants.{Unlinked, Whole, 
 use Rattle.abstract_regs.specs.Link.{no_link, link_in, HoldsLink, NameBelow, form_number, same_link, join_link, join_links}
 use Rattle.abstract_regs.specs.Links.{slot_place}
 use Rattle.abstract_regs.specs.Frame.{PlainFrame, join}
-use Rattle.abstract_regs.specs.Moves.{value_at, LinksAre, HoldsLinks, NamesBelow}
-use Rattle.abstract_regs.specs.Laws.{BelowLinks, LinksCommute, LinksAssociate, LinksOfSame, LinksAreAbove, JoinsKeepLinks, JoinsKeepNames}
+use Rattle.abstract_regs.specs.Moves.{value_at, HoldsLinks}
+use Rattle.abstract_regs.specs.Laws.{LinksCommute, LinksAssociate, LinksOfSame, LinksAreAbove, JoinsKeepLinks, JoinsKeepNames}
 
 -- ---- one link
 

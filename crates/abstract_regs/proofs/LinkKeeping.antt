@@ -1,7 +1,7 @@
 -- The links that an instruction leaves are true after it; so what a frame holds before, a frame along an
 -- edge holds after it.
-use Rattle.std.proofs.Common.{◌≡◌, ◌≢◌, ℕ, zero, suc, ◌+◌, ◌-◌, ◌*◌, ◌%◌, ◌^◌, ◌<◌, ◌≤◌, List, [], ◌∷◌, length, Option, Some, None, Bool, true, false, cond, refl, inl, inr, ap, ◌∙◌, sym, subst, arith, drop}
-use Rattle.std.specs.Prelude.{slice_get, slice_set, ◌==◌, ◌&&◌, nat_lt, nat_le}
+use Rattle.std.proofs.Common.{◌≡◌, ◌≢◌, ℕ, zero, suc, ◌+◌, ◌-◌, ◌*◌, ◌%◌, ◌^◌, ◌<◌, ◌≤◌, List, [], ◌∷◌, length, Option, Some, None, Bool, true, false, cond, refl, ap, ◌∙◌, sym, subst, arith, drop}
+use Rattle.std.specs.Prelude.{slice_set, ◌==◌, ◌&&◌, nat_lt, nat_le}
 use Rattle.std.proofs.lemmas.Bool.{false≢true, eqb-true, ltb-true, cond_both}
 use Rattle.std.proofs.lemmas.Bool.Decides.{nat_tests}
 use Rattle.std.proofs.lemmas.Option.{none-some, same_Some}
@@ -26,11 +26,10 @@ use Rattle.abstract_num.specs.Keeping.{HeldIn}
 use Rattle.abstract_regs.specs.declared.link.Link.{Link}
 use Rattle.abstract_regs.specs.Kind.{PlainKind, Unset, Num, Ptr, HoldsKind, last_place, is_num, is_ptr}
 use Rattle.abstract_regs.specs.Link.{no_link, link_in, shaped, low_form, HoldsLink, unlinked}
-use Rattle.abstract_regs.specs.Links.{slot_place, is_touched, is_clobbered, known_slot, accessed_slot, slot_at, taken, copied_link, is_short, halved_link, moved_links, extended_links, loaded_links, stored_links, constant_of, alu_link, constant_link, computed_link, links_after, relinked}
-use Rattle.abstract_regs.specs.Slots.{Span, stack_place, stack_range, touches, access_span, range_span, whole_slot}
+use Rattle.abstract_regs.specs.Links.{slot_place, is_touched, is_clobbered, known_slot, accessed_slot, slot_at, taken, copied_link, is_short, halved_link, moved_links, extended_links, loaded_links, stored_links, alu_link, constant_link, computed_link, links_after, relinked}
+use Rattle.abstract_regs.specs.Slots.{Span, stack_place, stack_range, touches, access_span, whole_slot}
 use Rattle.abstract_regs.specs.Frame.{PlainFrame, kind_at, operand_kind, room_span, HoldsEach}
-use Rattle.abstract_regs.specs.Flow.{flow}
-use Rattle.abstract_regs.specs.Moves.{value_at, operand_in, with_value, LinksAre, HoldsLinks, NamesBelow, Touched, Reached, IsSlot, Loads, Stores, Overwrites, Overwritten, Moves, Reaches, KindFits, EachFits, AllowsLoad, AllowsRoom, Allows, Keeps}
+use Rattle.abstract_regs.specs.Moves.{value_at, operand_in, with_value, LinksAre, HoldsLinks, NamesBelow, Reached, IsSlot, Stores, Overwrites, Overwritten, Moves, KindFits, EachFits, AllowsRoom, Allows, Keeps}
 use Rattle.abstract_regs.proofs.SlotLemmas.{range_touches}
 use Rattle.abstract_regs.proofs.LinkForms.{constant_true, half_true, low_half, extended_half}
 use Rattle.abstract_regs.proofs.LinkTruth.{long_values, set_register, relink_register, relink_slot, set_slot, unlink_places, Takes, takes}

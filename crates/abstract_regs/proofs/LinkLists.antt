@@ -1,12 +1,12 @@
 -- Lists of links: places without theirs, and other links in their places.
-use Rattle.std.proofs.Common.{◌≡◌, ◌≢◌, ℕ, zero, suc, ◌+◌, ◌<◌, ◌≤◌, List, [], ◌∷◌, ◌++◌, length, Bool, true, false, cond, refl, inl, inr, ap, ◌∙◌, sym, subst, arith, get_or, set, take, drop}
-use Rattle.std.specs.Prelude.{◌⊎◌, ◌&&◌, Some, None, ◌/◌, min, nat_lt, nat_le, slice_set, replicate}
+use Rattle.std.proofs.Common.{◌≡◌, ◌≢◌, ℕ, zero, suc, ◌+◌, ◌<◌, ◌≤◌, List, [], ◌∷◌, length, Bool, true, false, cond, refl, inl, inr, ap, ◌∙◌, sym, arith, set}
+use Rattle.std.specs.Prelude.{◌⊎◌, ◌&&◌, Some, None, ◌/◌, min, nat_lt, nat_le, slice_set}
 use Rattle.std.proofs.lemmas.Bool.{cond_both}
 use Rattle.std.proofs.lemmas.Bool.Decides.{nat_tests}
-use Rattle.std.proofs.lemmas.List.{get_or-set_other, get_or-set_same}
+use Rattle.std.proofs.lemmas.List.{get_or-set_other}
 use Rattle.abstract_regs.specs.declared.link.Link.{Link}
 use Rattle.abstract_regs.specs.Link.{no_link, link_in, unlinked}
-use Rattle.abstract_regs.specs.Slots.{Span, touches}
+use Rattle.abstract_regs.specs.Slots.{Span}
 use Rattle.abstract_regs.specs.Links.{is_touched}
 
 -- ---- a link in a place

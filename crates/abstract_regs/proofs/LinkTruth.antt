@@ -1,16 +1,14 @@
 -- The truth of a frame's links: where names get their numbers, and where places get other links.
-use Rattle.std.proofs.Common.{◌≡◌, ◌≢◌, ℕ, zero, suc, ◌+◌, ◌-◌, ◌%◌, ◌^◌, ◌<◌, ◌≤◌, List, [], ◌∷◌, length, Option, Some, None, Bool, true, false, cond, refl, inl, inr, ap, ◌∙◌, sym, subst, arith, ⊎_elim}
-use Rattle.std.specs.Prelude.{◌⊎◌, ◌==◌, slice_get, slice_set}
+use Rattle.std.proofs.Common.{◌≡◌, ◌≢◌, ℕ, zero, suc, ◌+◌, ◌%◌, ◌^◌, ◌<◌, ◌≤◌, List, [], ◌∷◌, length, Option, Some, Bool, false, cond, refl, ap, ◌∙◌, sym, subst, arith, ⊎_elim}
+use Rattle.std.specs.Prelude.{◌==◌, slice_set}
 use Rattle.std.proofs.lemmas.Bool.{cases_eq, eq-eqb, ne_eqb, cond-true, cond-false, cond_both}
 use Rattle.bpf_decode.specs.declared.value.Value.{Value}
 use Rattle.bpf_decode.specs.declared.value.Value.TheVariants as values
-use Rattle.abstract_num.specs.Plain.{Plain, Holds}
 use Rattle.abstract_regs.specs.declared.link.Link.{Link}
-use Rattle.abstract_regs.specs.declared.link.Form.{Form}
 use Rattle.abstract_regs.specs.declared.link.Form.TheVariants.{Unlinked, Whole}
 use Rattle.abstract_regs.specs.Kind.{PlainKind, Unset, Num, Ptr, HoldsKind}
 use Rattle.abstract_regs.specs.Link.{no_link, is_linked, link_in, HoldsForm, HoldsLink, NameBelow, unlinked}
-use Rattle.abstract_regs.specs.Links.{slot_place, taken, copied_link}
+use Rattle.abstract_regs.specs.Links.{slot_place, taken}
 use Rattle.abstract_regs.specs.Frame.{HoldsEach}
 use Rattle.abstract_regs.specs.Moves.{value_at, with_value, LinksAre}
 use Rattle.abstract_regs.proofs.LinkLists.{link_set_other, link_set_same, link_unlinked}

@@ -1,6 +1,6 @@
 -- Instructions keep the number of places that may be linked, and give links no names of later slots.
-use Rattle.std.proofs.Common.{◌≡◌, ℕ, ◌+◌, ◌-◌, ◌%◌, ◌^◌, ◌<◌, List, length, Option, Some, None, Bool, true, false, cond, refl, inl, inr, ap, ◌∙◌, sym, subst, arith, ⊎_elim}
-use Rattle.std.specs.Prelude.{◌⊎◌, ◌==◌, ◌&&◌, nat_le, slice_set}
+use Rattle.std.proofs.Common.{◌≡◌, ℕ, ◌+◌, ◌-◌, ◌%◌, ◌^◌, ◌<◌, List, length, Option, Some, None, Bool, cond, refl, inl, inr, ap, ◌∙◌, sym, subst, arith, ⊎_elim}
+use Rattle.std.specs.Prelude.{◌==◌, ◌&&◌, nat_le, slice_set}
 use Rattle.std.proofs.lemmas.Bool.{cases_eq, cond_both, false≢true}
 use Rattle.std.proofs.lemmas.List.{length-set}
 use Rattle.bpf_decode.specs.declared.insn.Operand.{Operand}
@@ -18,14 +18,13 @@ use Rattle.bpf_decode.specs.Values.{extended}
 use Rattle.abstract_num.specs.Plain.{Plain}
 use Rattle.abstract_regs.specs.declared.link.Link.{Link}
 use Rattle.abstract_regs.specs.declared.link.Form.{Form}
-use Rattle.abstract_regs.specs.declared.link.Form.TheVariants.{Unlinked, Whole, Low, Up, Sign}
+use Rattle.abstract_regs.specs.declared.link.Form.TheVariants.{Unlinked, Whole}
 use Rattle.abstract_regs.specs.Kind.{PlainKind, Unset, Num, Ptr}
 use Rattle.abstract_regs.specs.Slots.{Span, stack_place, access_span}
 use Rattle.abstract_regs.specs.Frame.{PlainFrame, kind_at, operand_kind, room_span}
 use Rattle.abstract_regs.specs.Link.{no_link, is_linked, is_whole, link_in, NameBelow, shaped, low_form, up_form, sign_form, down_form, moved_link, is_ones, unlinked}
 use Rattle.abstract_regs.specs.Links.{slot_place, is_touched, is_clobbered, accessed_slot, slot_at, taken, copied_link, is_short, halved_link, moved_links, extended_links, loaded_links, stored_links, constant_of, shifted_link, masked_link, alu_link, constant_link, computed_link, links_after}
 use Rattle.abstract_regs.specs.Laws.{FlowsKeepLinks, FlowsKeepNames}
-use Rattle.abstract_regs.specs.Moves.{NamesBelow}
 use Rattle.abstract_regs.proofs.LinkLists.{link_set_other, link_set_same, link_unlinked, length_unlinked}
 use Rattle.abstract_regs.proofs.Lengths.{flow_links}
 

@@ -2,7 +2,6 @@ use Rattle.std.proofs.Common.{◌≡◌, ℕ, ◌+◌, ◌<◌, ◌≤◌, false
 use Rattle.std.specs.Prelude.{min}
 use Rattle.std.proofs.lemmas.Bool.Decides.{nat_tests}
 use Rattle.std.proofs.lemmas.List.{length-set}
-use Rattle.abstract_regs.specs.declared.link.Link.{Link}
 use Rattle.abstract_regs.specs.Link.{no_link}
 use Rattle.abstract_regs.proofs.LinkLists.{span_to, unlinked_none, unlinked_more, unlinked_same}
 use Rattle.abstract_regs.proofs.links.unlink.Goals as goal

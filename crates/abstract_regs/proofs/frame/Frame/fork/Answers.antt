@@ -1,4 +1,4 @@
-use Rattle.std.proofs.Common.{◌≡◌, ℕ, [], ◌∷◌, ◌++◌, Option, Some, false, ap, ◌∙◌, sym}
+use Rattle.std.proofs.Common.{◌≡◌, ℕ, [], ◌∷◌, ◌++◌, Option, false, ap, ◌∙◌, sym}
 use Rattle.std.specs.Option.{option_map, option_and_then}
 use Rattle.abstract_regs.specs.declared.kind.Kinds.{Kinds}
 use Rattle.abstract_regs.specs.Seen.{seen_both}

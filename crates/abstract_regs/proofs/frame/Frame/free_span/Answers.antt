@@ -1,13 +1,12 @@
-use Rattle.std.proofs.Common.{◌≡◌, ℕ, ◌+◌, ◌/◌, ◌<◌, ◌≤◌, List, Bool, false, refl, ap, ◌∙◌, sym, arith, length, drop}
+use Rattle.std.proofs.Common.{◌≡◌, ◌+◌, ◌/◌, List, ap, ◌∙◌, sym, arith, length, drop}
 use Rattle.std.proofs.lemmas.List.{take_at}
-use Rattle.std.specs.Prelude.{Some, None, min}
+use Rattle.std.specs.Prelude.{min}
 use Rattle.abstract_regs.specs.declared.link.Link.{Link}
 use Rattle.abstract_regs.specs.Link.{unlinked}
-use Rattle.abstract_regs.specs.Slots.{Span}
 use Rattle.abstract_regs.specs.Links.{is_touched}
 use Rattle.abstract_regs.specs.Frame.{PlainFrame, with_links}
 use Rattle.abstract_regs.specs.Seen.{seen_each}
-use Rattle.abstract_regs.proofs.LinkLists.{span_to, unlinked_span, unlinked_nowhere}
+use Rattle.abstract_regs.proofs.LinkLists.{unlinked_span, unlinked_nowhere}
 use Rattle.abstract_regs.proofs.frame.Frame.free_span.Goals as goal
 
 pub returns-in-Some : goal.returns-in-Some
