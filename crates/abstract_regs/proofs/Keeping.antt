@@ -29,6 +29,8 @@ use Rattle.bpf_decode.specs.declared.operation.Arithmetic.TheVariants.{Add}
 use Rattle.bpf_decode.specs.Instruction.{byte_count, signed_byte_count, Fits, OperandFits}
 use Rattle.bpf_decode.specs.Jump.{branch_to}
 use Rattle.bpf_decode.specs.Values.{extended, moves_pointer, is_addition, alu_values, mov_values}
+use Rattle.abstract_num.specs.declared.precision.Precision.{Precision}
+use Rattle.abstract_num.specs.declared.precision.Precision.TheVariants.{Whole}
 use Rattle.abstract_num.specs.Plain.{Plain, Holds, constant}
 use Rattle.abstract_num.specs.Tighten.{tighten}
 use Rattle.abstract_num.specs.Transfer.{transferred, ranged, load_high}
@@ -125,7 +127,7 @@ chosen : {A : Type 0} (b : Bool) (x y : A) → (if b then Some x else None) ≡ 
 chosen true x y e = same_Some x y e
 chosen false x y e = absurd (none-some y e)
 
-module _ (law : Laws) where
+module _ (law : Laws) (precision : Precision) where
   pub operand_fits : (f : PlainFrame) (source : Operand) → OperandFits source → EachFits f.registers → KindFits (operand_kind f source)
   operand_fits f (Immediate imm) fit h = law.constants_fit (extended imm) (extended_small imm fit)
   operand_fits f (Register r) fit h = fits_at f.registers r h
@@ -135,7 +137,7 @@ module _ (law : Laws) where
       subst (λ (u : Value). HoldsKind (Num (constant (extended imm))) (Some u)) (same_Some _ v e) (law.constant (extended imm) (extended_small imm fit))
   operand_held f cs (Register r) v fit h e = held_at f.registers cs r v h e
 
-  alu_left : (bits : OpWidth) (operation : Arithmetic) (x y : PlainKind) (u v w : Value) → KindFits x → KindFits y → HoldsKind x (Some u) → HoldsKind y (Some v) → alu_values bits operation u v ≡ Some w → Left (alu_kind bits operation x y) w
+  alu_left : (bits : OpWidth) (operation : Arithmetic) (x y : PlainKind) (u v w : Value) → KindFits x → KindFits y → HoldsKind x (Some u) → HoldsKind y (Some v) → alu_values bits operation u v ≡ Some w → Left (alu_kind precision bits operation x y) w
   alu_left bits operation Unset y u v w f g h i e = tt
   alu_left bits operation (Num k) Unset u v w f g h i e = tt
   alu_left bits operation (Ptr r k) Unset u v w f g h i e = tt
@@ -143,40 +145,40 @@ module _ (law : Laws) where
   alu_left bits operation (Num k) (Num l) (values.Ptr p m) v w f g h i e = absurd h
   alu_left bits operation (Num k) (Num l) (values.Num m) (values.Ptr p n) w f g h i e = absurd i
   alu_left bits operation (Num k) (Num l) (values.Num m) (values.Num n) w f g h i e =
-      subst (Left (option_map Num (transferred bits operation k l))) (same_Some _ w e)
-      (left_num (transferred bits operation k l) (alu_value bits operation m n) (law.arithmetic bits operation k l f g m n h i))
+      subst (Left (option_map Num (transferred precision bits operation k l))) (same_Some _ w e)
+      (left_num (transferred precision bits operation k l) (alu_value bits operation m n) (law.arithmetic precision bits operation k l f g m n h i))
   alu_left bits operation (Ptr r k) (Num l) (values.Num m) v w f g h i e = absurd h
   alu_left bits operation (Ptr r k) (Num l) (values.Ptr p m) (values.Ptr o n) w f g h i e = absurd i
   alu_left bits operation (Ptr r k) (Num l) (values.Ptr p m) (values.Num n) w f g h i e =
-      subst (Left (option_map (Ptr r) (transferred bits operation k l))) (chosen (moves_pointer bits operation) _ w e)
-      (left_ptr (transferred bits operation k l) r p (alu_value bits operation m n) h.0 (law.arithmetic bits operation k l f g m n h.1 i))
+      subst (Left (option_map (Ptr r) (transferred precision bits operation k l))) (chosen (moves_pointer bits operation) _ w e)
+      (left_ptr (transferred precision bits operation k l) r p (alu_value bits operation m n) h.0 (law.arithmetic precision bits operation k l f g m n h.1 i))
   alu_left bits operation (Num k) (Ptr r l) (values.Ptr p m) v w f g h i e = absurd h
   alu_left bits operation (Num k) (Ptr r l) (values.Num m) (values.Num n) w f g h i e = absurd i
   alu_left bits operation (Num k) (Ptr r l) (values.Num m) (values.Ptr p n) w f g h i e =
-      subst (Left (option_map (Ptr r) (transferred bits operation k l))) (chosen (is_addition bits operation) _ w e)
-      (left_ptr (transferred bits operation k l) r p (alu_value bits operation m n) i.0 (law.arithmetic bits operation k l f g m n h i.1))
+      subst (Left (option_map (Ptr r) (transferred precision bits operation k l))) (chosen (is_addition bits operation) _ w e)
+      (left_ptr (transferred precision bits operation k l) r p (alu_value bits operation m n) i.0 (law.arithmetic precision bits operation k l f g m n h i.1))
 
-  neg_left : (bits : OpWidth) (x : PlainKind) (n : ℕ) → KindFits x → HoldsKind x (Some (values.Num n)) → Left (neg_kind bits x) (values.Num (neg_value bits n))
+  neg_left : (bits : OpWidth) (x : PlainKind) (n : ℕ) → KindFits x → HoldsKind x (Some (values.Num n)) → Left (neg_kind precision bits x) (values.Num (neg_value bits n))
   neg_left bits Unset n f h = tt
-  neg_left bits (Num k) n f h = left_num _ (neg_value bits n) (law.negative bits k f n h)
+  neg_left bits (Num k) n f h = left_num _ (neg_value bits n) (law.negative precision bits k f n h)
   neg_left bits (Ptr r k) n f h = tt
 
-  mov_left : (bits : OpWidth) (x : PlainKind) (v w : Value) → HoldsKind x (Some v) → mov_values bits v ≡ Some w → Left (mov_kind bits x) w
+  mov_left : (bits : OpWidth) (x : PlainKind) (v w : Value) → HoldsKind x (Some v) → mov_values bits v ≡ Some w → Left (mov_kind precision bits x) w
   mov_left bits Unset v w h e = tt
   mov_left bits (Num k) (values.Ptr q n) w h e = absurd h
-  mov_left bits (Num k) (values.Num n) w h e = subst (Left (mov_kind bits (Num k))) (same_Some _ w e) (left_num _ (mov_value bits n) (law.copies bits k n h))
+  mov_left bits (Num k) (values.Num n) w h e = subst (Left (mov_kind precision bits (Num k))) (same_Some _ w e) (left_num _ (mov_value bits n) (law.copies precision bits k n h))
   mov_left Bits64 (Ptr r k) (values.Num n) w h e = absurd h
   mov_left Bits64 (Ptr r k) (values.Ptr q n) w h e = subst (λ (u : Value). HoldsKind (Ptr r k) (Some u)) (same_Some _ w e) h
   mov_left Bits32 (Ptr r k) v w h e = tt
 
-  signed_move_left : (extension : SignedMove) (x : PlainKind) (n : ℕ) → HoldsKind x (Some (values.Num n)) → Left (signed_move_kind extension x) (values.Num (signed_move_value extension n))
+  signed_move_left : (extension : SignedMove) (x : PlainKind) (n : ℕ) → HoldsKind x (Some (values.Num n)) → Left (signed_move_kind precision extension x) (values.Num (signed_move_value extension n))
   signed_move_left extension Unset n h = tt
-  signed_move_left extension (Num k) n h = left_num _ (signed_move_value extension n) (law.extensions extension k n h)
+  signed_move_left extension (Num k) n h = left_num _ (signed_move_value extension n) (law.extensions precision extension k n h)
   signed_move_left extension (Ptr r k) n h = tt
 
-  end_left : (order : ByteOrder) (width : EndWidth) (x : PlainKind) (n : ℕ) → HoldsKind x (Some (values.Num n)) → Left (end_kind order width x) (values.Num (end_value order width n))
+  end_left : (order : ByteOrder) (width : EndWidth) (x : PlainKind) (n : ℕ) → HoldsKind x (Some (values.Num n)) → Left (end_kind precision order width x) (values.Num (end_value order width n))
   end_left order width Unset n h = tt
-  end_left order width (Num k) n h = left_num _ (end_value order width n) (law.orders order width k n h)
+  end_left order width (Num k) n h = left_num _ (end_value order width n) (law.orders precision order width k n h)
   end_left order width (Ptr r k) n h = tt
 
   -- both kinds that an edge leaves are true of both numbers
@@ -191,9 +193,9 @@ module _ (law : Laws) where
   left_both None m n h = h
   left_both (Some s) m n h = h
 
-  along_left : (bits : OpWidth) (comparison : Comparison) (taken same : Bool) (x y : PlainKind) (m n : ℕ) → (same ≡ true → m ≡ n) → HoldsKind x (Some (values.Num m)) → HoldsKind y (Some (values.Num n)) → is_taken bits comparison m n ≡ taken → LeftBoth (along_kinds bits comparison taken same x y) m n
-  along_left bits comparison taken true (Num k) (Num l) m n s h i e = left_twice (tighten k) m n (s refl) (law.tighten k m h)
-  along_left bits comparison taken false (Num k) (Num l) m n s h i e = left_both (along bits comparison taken k l) m n (law.edges bits comparison taken k l m n h i e)
+  along_left : (bits : OpWidth) (comparison : Comparison) (taken same : Bool) (x y : PlainKind) (m n : ℕ) → (same ≡ true → m ≡ n) → HoldsKind x (Some (values.Num m)) → HoldsKind y (Some (values.Num n)) → is_taken bits comparison m n ≡ taken → LeftBoth (along_kinds precision bits comparison taken same x y) m n
+  along_left bits comparison taken true (Num k) (Num l) m n s h i e = left_twice (tighten precision k) m n (s refl) (law.tighten precision k m h)
+  along_left bits comparison taken false (Num k) (Num l) m n s h i e = left_both (along precision bits comparison taken k l) m n (law.edges precision bits comparison taken k l m n h i e)
   along_left bits comparison taken true Unset y m n s h i e = (h, i)
   along_left bits comparison taken false Unset y m n s h i e = (h, i)
   along_left bits comparison taken true (Num k) Unset m n s h i e = (h, i)
@@ -208,7 +210,7 @@ module _ (law : Laws) where
   LeftFrame o cs vs = IsLeft o cs vs
 
   number_laws : NumberLaws
-  number_laws = record { constants_fit = law.constants_fit; constant = law.constant; arithmetic = law.arithmetic; edges = law.edges }
+  number_laws = record { constants_fit = law.constants_fit; constant = law.constant; arithmetic = law.arithmetic; tighten = law.tighten; edges = law.edges }
 
   with_immediate : (f : PlainFrame) (dst : ℕ) (imm : ℤ) (o : Option (PlainKind × PlainKind)) (cs vs : List (Option Value)) (m n : ℕ) → Stands cs vs f → value_at cs dst ≡ Some (values.Num m) → LeftBoth o m n → LeftFrame (option_map (with_both f dst (Immediate imm)) o) cs vs
   with_immediate f dst imm None cs vs m n h e l = absurd l
@@ -236,17 +238,17 @@ module _ (law : Laws) where
   num_same : (m n : ℕ) → values.Num m ≡ values.Num n → m ≡ n
   num_same m n e = cc
 
-  edge_left : (bits : OpWidth) (comparison : Comparison) (taken : Bool) (dst : ℕ) (source : Operand) (f : PlainFrame) (cs vs : List (Option Value)) (m n : ℕ) → dst ≤ 10 → OperandFits source → Stands cs vs f → value_at cs dst ≡ Some (values.Num m) → operand_in cs source ≡ Some (values.Num n) → is_taken bits comparison m n ≡ taken → LeftFrame (along_edge bits comparison taken dst source f) cs vs
+  edge_left : (bits : OpWidth) (comparison : Comparison) (taken : Bool) (dst : ℕ) (source : Operand) (f : PlainFrame) (cs vs : List (Option Value)) (m n : ℕ) → dst ≤ 10 → OperandFits source → Stands cs vs f → value_at cs dst ≡ Some (values.Num m) → operand_in cs source ≡ Some (values.Num n) → is_taken bits comparison m n ≡ taken → LeftFrame (along_edge precision bits comparison taken dst source f) cs vs
   edge_left bits comparison taken dst (Immediate imm) f cs vs m n le fit h e g t =
       let same : extended imm ≡ n = num_same (extended imm) n (same_Some _ _ g) in
       let k = mov_value bits (extended imm) in
       let small = mov_small bits (extended imm) (extended_small imm fit) in
       let t' : is_taken bits comparison m k ≡ taken = low_taken bits comparison m (extended imm) ∙ ap (is_taken bits comparison m) same ∙ t in
-      both_told number_laws _ cs vs dst (Immediate imm) m n
+      both_told number_laws precision _ cs vs dst (Immediate imm) m n
       (with_immediate f dst imm _ cs vs m k h e
       (along_left bits comparison taken false (kind_at f dst) (Num (constant k)) m k (λ s. absurd (false≢true s)) (held_at f.registers cs dst _ h.holds e) (law.constant k small) t')) le fit e g
   edge_left bits comparison taken dst (Register r) f cs vs m n le fit h e g t =
-      both_told number_laws _ cs vs dst (Register r) m n
+      both_told number_laws precision _ cs vs dst (Register r) m n
       (with_register f dst r _ cs vs m n h e g
       (along_left bits comparison taken (dst == r) (kind_at f dst) (kind_at f r) m n
       (λ s. num_same m n (same_Some _ _ (sym e ∙ ap (value_at cs) (eqb-true dst r s) ∙ g))) (held_at f.registers cs dst _ h.holds e) (held_at f.registers cs r _ h.holds g) t)) le fit e g
@@ -287,7 +289,7 @@ module _ (law : Laws) where
   -- where an access through a pointer is
   pub place_held : (k : Plain) (o distance : ℕ) → KindFits (Ptr Stack k) → distance < 2 ^ 64 → Holds k o → HeldIn (last_place k distance) ((o + distance) % 2 ^ 64)
   place_held k o distance fit small h =
-      law.arithmetic Bits64 Add k (constant distance) fit (law.constants_fit distance small) o distance h (law.constant distance small)
+      law.arithmetic Whole Bits64 Add k (constant distance) fit (law.constants_fit distance small) o distance h (law.constant distance small)
 
   -- the slots that an access reaches, where it is in the stack
   pub reaches_some : (P : Option Plain) (at w : ℕ) → HeldIn P at → (j : ℕ) → Touched at w j → touches (access_span P w) j ≡ true
@@ -342,15 +344,15 @@ module _ (law : Laws) where
 
   load_left : (slots : List PlainKind) (vs : List (Option Value)) → length slots ≡ length vs → HoldsEach slots vs → (width : Width) (x : PlainKind) (distance : ℕ) (r : Region) (o : ℕ) (v : Value) → distance < 2 ^ 64 → KindFits x → HoldsKind x (Some (values.Ptr r o)) → Loads vs r ((o + distance) % 2 ^ 64) (byte_count width) v
       → (is_ptr x ≡ true) × (meets Nothing (access_span (stack_place x distance) (byte_count width)) 0 slots ≡ false) × (slot_kind slots (whole_slot (stack_place x distance) (byte_count width)) ≡ None → meets Pointer (access_span (stack_place x distance) (byte_count width)) 0 slots ≡ false)
-      → Left (loaded_kind (slot_kind slots (whole_slot (stack_place x distance) (byte_count width))) (option_map Num (tighten (ranged 0 (load_high width))))) v
+      → Left (loaded_kind (slot_kind slots (whole_slot (stack_place x distance) (byte_count width))) (option_map Num (tighten precision (ranged 0 (load_high width))))) v
   load_left slots vs long sl width Unset distance r o v small fit h loads ok = absurd cc
   load_left slots vs long sl width (Num k) distance r o v small fit h loads ok = absurd h
   load_left slots vs long sl width (Ptr Input k) distance r o v small fit h loads ok =
       let n = elsewhere slots vs long sl ((o + distance) % 2 ^ 64) (byte_count width) r Input v (sym h.0) is_input loads in
-      subst (Left (option_map Num (tighten (ranged 0 (load_high width))))) (sym n.1) (left_num _ n.0 (law.loads width n.0 n.2))
+      subst (Left (option_map Num (tighten precision (ranged 0 (load_high width))))) (sym n.1) (left_num _ n.0 (law.loads precision width n.0 n.2))
   load_left slots vs long sl width (Ptr Output k) distance r o v small fit h loads ok =
       let n = elsewhere slots vs long sl ((o + distance) % 2 ^ 64) (byte_count width) r Output v (sym h.0) is_output loads in
-      subst (Left (option_map Num (tighten (ranged 0 (load_high width))))) (sym n.1) (left_num _ n.0 (law.loads width n.0 n.2))
+      subst (Left (option_map Num (tighten precision (ranged 0 (load_high width))))) (sym n.1) (left_num _ n.0 (law.loads precision width n.0 n.2))
   load_left slots vs long sl width (Ptr Stack k) distance r o v small fit h loads ok =
       let at = (o + distance) % 2 ^ 64 in
       let P = last_place k distance in
@@ -359,7 +361,7 @@ module _ (law : Laws) where
       (slot_value slots vs long sl P at (byte_count width) r v (sym h.0) held loads (whole_slot P (byte_count width)) refl)
       (λ none.
       let n = a_number slots vs long sl P at (byte_count width) r v held loads ok.1 (ok.2 none) in
-      subst (Left (option_map Num (tighten (ranged 0 (load_high width))))) (sym n.1) (left_num _ n.0 (law.loads width n.0 n.2)))
+      subst (Left (option_map Num (tighten precision (ranged 0 (load_high width))))) (sym n.1) (left_num _ n.0 (law.loads precision width n.0 n.2)))
 
   num_is : (m n : ℕ) → values.Num m ≡ values.Num n → m ≡ n
   num_is m n e = cc
@@ -421,7 +423,7 @@ module _ (law : Laws) where
   room_left f cs vs ws long h sl (Some k) ok over =
       range_left f.slots vs ws long sl (kind_at f k) (kind_at f (k + 1)) over.0 over.1 over.2 (held_at f.registers cs k _ h over.3) (held_at f.registers cs (k + 1) _ h over.4) ok.0 ok.1 over.5
 
-  pub edges_keep : (f : PlainFrame) → EachFits f.registers → length f.registers ≡ 11 → (room : Option ℕ) (answer : Plain) (i : Insn) (p : ℕ) → Fits i → Allows room i f → (cs ds vs ws : List (Option Value)) (q : ℕ) → length f.slots ≡ length vs → HoldsEach f.registers cs → HoldsEach f.slots vs → HoldsLinks f ds ws → Moves room answer i p cs vs q ds ws → Reaches (edges_of room answer i p f) q ds ws
+  pub edges_keep : (f : PlainFrame) → EachFits f.registers → length f.registers ≡ 11 → (room : Option ℕ) (answer : Plain) (i : Insn) (p : ℕ) → Fits i → Allows room i f → (cs ds vs ws : List (Option Value)) (q : ℕ) → length f.slots ≡ length vs → HoldsEach f.registers cs → HoldsEach f.slots vs → HoldsLinks f ds ws → Moves room answer i p cs vs q ds ws → Reaches (edges_of precision room answer i p f) q ds ws
   edges_keep f fits eleven room answer (Alu bits operation dst source) p fit allows cs ds vs ws q long h sl links m =
       arrives _ (p + 1) q f dst cs ds vs ws m.2 h sl links
       (alu_left bits operation (kind_at f dst) (operand_kind f source) m.0 m.1 m.2 (fits_at f.registers dst fits) (operand_fits f source fit.1 fits) (held_at f.registers cs dst m.0 h m.3) (operand_held f cs source m.1 fit.1 h m.4) m.5) m.6 m.7 m.8
@@ -440,7 +442,7 @@ module _ (law : Laws) where
       (load_left f.slots vs long sl width (kind_at f base) (extended offset) m.0 m.1 m.2 (extended_small16 offset fit.2) (fits_at f.registers base fits) (held_at f.registers cs base _ h m.3) m.4 allows) m.5 m.6 m.7
   edges_keep f fits eleven room answer (LoadSigned width dst base offset) p fit allows cs ds vs ws q long h sl links m =
       arrives _ (p + 1) q f dst cs ds vs ws _ h sl links
-      (left_num _ _ (law.signed_loads width m.2 (signed_small f.slots vs long sl (signed_byte_count width) (kind_at f base) (extended offset) m.0 m.1 m.2 (extended_small16 offset fit.2) (fits_at f.registers base fits) (held_at f.registers cs base _ h m.3) m.4 allows.0.0 allows.0.1 allows.1))) m.5 m.6 m.7
+      (left_num _ _ (law.signed_loads precision width m.2 (signed_small f.slots vs long sl (signed_byte_count width) (kind_at f base) (extended offset) m.0 m.1 m.2 (extended_small16 offset fit.2) (fits_at f.registers base fits) (held_at f.registers cs base _ h m.3) m.4 allows.0.0 allows.0.1 allows.1))) m.5 m.6 m.7
   edges_keep f fits eleven room answer (Store width base offset source) p fit allows cs ds vs ws q long h sl links m =
       stays (after_store f (kind_at f base) (extended offset) (byte_count width) (operand_kind f source)) (p + 1) q cs ds vs ws h
       (store_left f.slots vs ws long sl (byte_count width) (kind_at f base) (operand_kind f source) (extended offset) m.0 m.1 m.2 (extended_small16 offset fit.1) (fits_at f.registers base fits) (held_at f.registers cs base _ h m.3) (operand_held f cs source m.2 fit.2 h m.4) m.5 allows) links m.6 m.7
@@ -453,8 +455,8 @@ module _ (law : Laws) where
         links = subst (λ (xs : List (Option Value)). HoldsLinks f xs ws) m.5 links;
         eleven = eleven;
       } in
-      subst (λ (xs : List (Option Value)). Reaches (edges_of room answer (Branch bits comparison dst source offset) p f) q xs ws) (sym m.5)
-      (reach_edge (is_taken bits comparison m.0 m.1) (along_edge bits comparison true dst source f) (along_edge bits comparison false dst source f) p q (extended offset) (target p offset) cs ws refl m.4
+      subst (λ (xs : List (Option Value)). Reaches (edges_of precision room answer (Branch bits comparison dst source offset) p f) q xs ws) (sym m.5)
+      (reach_edge (is_taken bits comparison m.0 m.1) (along_edge precision bits comparison true dst source f) (along_edge precision bits comparison false dst source f) p q (extended offset) (target p offset) cs ws refl m.4
       (edge_left bits comparison true dst source f cs ws m.0 m.1 fit.0 fit.2 stands m.2 m.3) (edge_left bits comparison false dst source f cs ws m.0 m.1 fit.0 fit.2 stands m.2 m.3))
   edges_keep f fits eleven room answer (Call helper) p fit allows cs ds vs ws q long h sl links m =
       record {

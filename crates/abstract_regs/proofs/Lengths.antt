@@ -10,6 +10,7 @@ use Rattle.bpf_decode.specs.declared.insn.Insn.{Insn}
 use Rattle.bpf_decode.specs.declared.insn.Insn.TheVariants.{Alu, Neg, Mov, MovSigned, End, LoadWide, Load, LoadSigned, Store, Jump, JumpLong, Branch, Call, CallLocal, Exit}
 use Rattle.bpf_decode.specs.Instruction.{byte_count}
 use Rattle.bpf_decode.specs.Values.{extended}
+use Rattle.abstract_num.specs.declared.precision.Precision.{Precision}
 use Rattle.abstract_num.specs.Plain.{Plain, constant}
 use Rattle.abstract_regs.specs.Kind.{PlainKind, Unset, Num, Ptr}
 use Rattle.abstract_regs.specs.Slots.{Span, stack_place, access_span, whole_slot, spoiled, stored}
@@ -64,60 +65,60 @@ all_same f g None u h e = tt
 all_same f g (Some xs) None h e = tt
 all_same f g (Some xs) (Some ys) h e = record { slots = e ys refl ∙ h.slots; links = h.links }
 
-kind_same : (f g : PlainFrame) (x : PlainKind) (r : ℕ) → Same f g → Each (Same f) (tell_kind x r g)
-kind_same f g Unset r h = h
-kind_same f g (Num z) r h =
-    cond_both (is_linked (link_in g.links r).form) (tell_all z (link_in g.links r) r g) (Some g) (Each (Same f))
-    (λ _. all_same f g (told_kinds z (link_in g.links r) r g.links 0 g.registers) (told_kinds z (link_in g.links r) r g.links 11 g.slots) h
-    (λ ys e. told_long z (link_in g.links r) r g.links 11 g.slots ys e)) (λ _. h)
-kind_same f g (Ptr q k) r h = h
+kind_same : (precision : Precision) (f g : PlainFrame) (x : PlainKind) (r : ℕ) → Same f g → Each (Same f) (tell_kind precision x r g)
+kind_same precision f g Unset r h = h
+kind_same precision f g (Num z) r h =
+    cond_both (is_linked (link_in g.links r).form) (tell_all precision z (link_in g.links r) r g) (Some g) (Each (Same f))
+    (λ _. all_same f g (told_kinds precision z (link_in g.links r) r g.links 0 g.registers) (told_kinds precision z (link_in g.links r) r g.links 11 g.slots) h
+    (λ ys e. told_long precision z (link_in g.links r) r g.links 11 g.slots ys e)) (λ _. h)
+kind_same precision f g (Ptr q k) r h = h
 
-tell_same : (f g : PlainFrame) (r : ℕ) → Same f g → Each (Same f) (tell r g)
+tell_same : (precision : Precision) (f g : PlainFrame) (r : ℕ) → Same f g → Each (Same f) (tell precision r g)
 unfolding tell
-tell_same f g r h = kind_same f g (kind_at g r) r h
+tell_same precision f g r h = kind_same precision f g (kind_at g r) r h
 
-then_same : (f : PlainFrame) (r : ℕ) (o : Option PlainFrame) → Each (Same f) o → Each (Same f) (option_and_then (tell r) o)
-then_same f r None h = tt
-then_same f r (Some g) h = tell_same f g r h
+then_same : (precision : Precision) (f : PlainFrame) (r : ℕ) (o : Option PlainFrame) → Each (Same f) o → Each (Same f) (option_and_then (tell precision r) o)
+then_same precision f r None h = tt
+then_same precision f r (Some g) h = tell_same precision f g r h
 
-told_same : (f g : PlainFrame) (d : ℕ) (source : Operand) → Same f g → Each (Same f) (told d source g)
+told_same : (precision : Precision) (f g : PlainFrame) (d : ℕ) (source : Operand) → Same f g → Each (Same f) (told precision d source g)
 unfolding told
-told_same f g d (Immediate imm) h = tell_same f g d h
-told_same f g d (Register r) h =
-    cond_both (d == r) (tell d g) (option_and_then (tell r) (tell d g)) (Each (Same f)) (λ _. tell_same f g d h) (λ _. then_same f r (tell d g) (tell_same f g d h))
+told_same precision f g d (Immediate imm) h = tell_same precision f g d h
+told_same precision f g d (Register r) h =
+    cond_both (d == r) (tell precision d g) (option_and_then (tell precision r) (tell precision d g)) (Each (Same f)) (λ _. tell_same precision f g d h) (λ _. then_same precision f r (tell precision d g) (tell_same precision f g d h))
 
-each_told : (f : PlainFrame) (d : ℕ) (source : Operand) (o : Option PlainFrame) → Each (Same f) o → Each (Same f) (option_and_then (told d source) o)
-each_told f d source None h = tt
-each_told f d source (Some g) h = told_same f g d source h
+each_told : (precision : Precision) (f : PlainFrame) (d : ℕ) (source : Operand) (o : Option PlainFrame) → Each (Same f) o → Each (Same f) (option_and_then (told precision d source) o)
+each_told precision f d source None h = tt
+each_told precision f d source (Some g) h = told_same precision f g d source h
 
-edges_same : (room : Option ℕ) (answer : Plain) (i : Insn) (p q : ℕ) (f g : PlainFrame) → Among q g (edges_of room answer i p f) → Same f g
-edges_same room answer (Alu bits operation d x) p q f g e = one (Same f) q (p + 1) g _ (each_computed f d _) e
-edges_same room answer (Neg bits d) p q f g e = one (Same f) q (p + 1) g _ (each_computed f d _) e
-edges_same room answer (Mov bits d x) p q f g e = one (Same f) q (p + 1) g _ (each_computed f d _) e
-edges_same room answer (MovSigned extension d src) p q f g e = one (Same f) q (p + 1) g _ (each_computed f d _) e
-edges_same room answer (End order width d) p q f g e = one (Same f) q (p + 1) g _ (each_computed f d _) e
-edges_same room answer (LoadWide d value) p q f g e = one (Same f) q (p + 2) g (option_map (with_kind f d) (Some (Num (constant value)))) (each_computed f d (Some (Num (constant value)))) e
-edges_same room answer (Load width d from offset) p q f g e = one (Same f) q (p + 1) g _ (each_computed f d _) e
-edges_same room answer (LoadSigned width d from offset) p q f g e = one (Same f) q (p + 1) g _ (each_computed f d _) e
-edges_same room answer (Store width to offset x) p q f g e =
+edges_same : (precision : Precision) (room : Option ℕ) (answer : Plain) (i : Insn) (p q : ℕ) (f g : PlainFrame) → Among q g (edges_of precision room answer i p f) → Same f g
+edges_same precision room answer (Alu bits operation d x) p q f g e = one (Same f) q (p + 1) g _ (each_computed f d _) e
+edges_same precision room answer (Neg bits d) p q f g e = one (Same f) q (p + 1) g _ (each_computed f d _) e
+edges_same precision room answer (Mov bits d x) p q f g e = one (Same f) q (p + 1) g _ (each_computed f d _) e
+edges_same precision room answer (MovSigned extension d src) p q f g e = one (Same f) q (p + 1) g _ (each_computed f d _) e
+edges_same precision room answer (End order width d) p q f g e = one (Same f) q (p + 1) g _ (each_computed f d _) e
+edges_same precision room answer (LoadWide d value) p q f g e = one (Same f) q (p + 2) g (option_map (with_kind f d) (Some (Num (constant value)))) (each_computed f d (Some (Num (constant value)))) e
+edges_same precision room answer (Load width d from offset) p q f g e = one (Same f) q (p + 1) g _ (each_computed f d _) e
+edges_same precision room answer (LoadSigned width d from offset) p q f g e = one (Same f) q (p + 1) g _ (each_computed f d _) e
+edges_same precision room answer (Store width to offset x) p q f g e =
     let place = stack_place (kind_at f to) (extended offset) in
     one (Same f) q (p + 1) g (Some (after_store f (kind_at f to) (extended offset) (byte_count width) (operand_kind f x)))
     (record { slots = length_stored f.slots (whole_slot place (byte_count width)) (access_span place (byte_count width)) (operand_kind f x); links = refl }) e
-edges_same room answer (Jump offset) p q f g e = one (Same f) q (target p offset) g (Some f) (record { slots = refl; links = refl }) e
-edges_same room answer (JumpLong distance) p q f g e = one (Same f) q (target p distance) g (Some f) (record { slots = refl; links = refl }) e
-edges_same room answer (Branch bits comparison d x offset) p q f g e =
-    two (Same f) q (target p offset) (p + 1) g (along_edge bits comparison true d x f) (along_edge bits comparison false d x f)
-    (each_told f d x _ (each_both f d x _)) (each_told f d x _ (each_both f d x _)) e
-edges_same room answer (Call helper) p q f g e =
+edges_same precision room answer (Jump offset) p q f g e = one (Same f) q (target p offset) g (Some f) (record { slots = refl; links = refl }) e
+edges_same precision room answer (JumpLong distance) p q f g e = one (Same f) q (target p distance) g (Some f) (record { slots = refl; links = refl }) e
+edges_same precision room answer (Branch bits comparison d x offset) p q f g e =
+    two (Same f) q (target p offset) (p + 1) g (along_edge precision bits comparison true d x f) (along_edge precision bits comparison false d x f)
+    (each_told precision f d x _ (each_both f d x _)) (each_told precision f d x _ (each_both f d x _)) e
+edges_same precision room answer (Call helper) p q f g e =
     one (Same f) q (p + 1) g (Some (after_call room answer f)) (record { slots = length_spoiled (room_span f room) 0 f.slots; links = refl }) e
-edges_same room answer (CallLocal distance) p q f g e = absurd e
-edges_same room answer Exit p q f g e = absurd e
+edges_same precision room answer (CallLocal distance) p q f g e = absurd e
+edges_same precision room answer Exit p q f g e = absurd e
 
 pub flows_keep : FlowsKeepSlots
-flows_keep room answer i p q f g e = let same = edges_same room answer i p q (relinked room i p f) g e in same.slots
+flows_keep precision room answer i p q f g e = let same = edges_same precision room answer i p q (relinked room i p f) g e in same.slots
 
-pub flow_links : (room : Option ℕ) (answer : Plain) (i : Insn) (p q : ℕ) (f g : PlainFrame) → Among q g (flow room answer i p f) → g.links ≡ links_after room i p f
-flow_links room answer i p q f g e = let same = edges_same room answer i p q (relinked room i p f) g e in same.links
+pub flow_links : (precision : Precision) (room : Option ℕ) (answer : Plain) (i : Insn) (p q : ℕ) (f g : PlainFrame) → Among q g (flow precision room answer i p f) → g.links ≡ links_after room i p f
+flow_links precision room answer i p q f g e = let same = edges_same precision room answer i p q (relinked room i p f) g e in same.links
 
 length_join : (xs ys : List PlainKind) → length ys ≡ length xs → length (join_each xs ys) ≡ length xs
 length_join [] ys e = refl

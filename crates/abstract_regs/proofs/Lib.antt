@@ -5,6 +5,7 @@ mod LinkTruth
 pub mod Told
 pub mod Forks
 mod Heard
+mod Halves
 pub mod SlotLemmas
 pub mod SlotLists
 mod Lengths

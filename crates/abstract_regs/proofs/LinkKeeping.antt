@@ -21,6 +21,7 @@ use Rattle.bpf_decode.specs.declared.operation.SignedMove.TheVariants.{Byte64, H
 use Rattle.bpf_decode.specs.Arithmetic.{alu_value, mov_value, signed_move_value}
 use Rattle.bpf_decode.specs.Instruction.{byte_count, Fits, OperandFits}
 use Rattle.bpf_decode.specs.Values.{extended, alu_values, mov_values}
+use Rattle.abstract_num.specs.declared.precision.Precision.{Precision}
 use Rattle.abstract_num.specs.Plain.{Plain, Holds}
 use Rattle.abstract_num.specs.Keeping.{HeldIn}
 use Rattle.abstract_regs.specs.declared.link.Link.{Link}
@@ -75,7 +76,7 @@ slot_touched span j =
     let in_slots : nat_le 11 (11 + j) ≡ true = grind (arith, nat_tests) in
     ap (λ b. b && touches span (11 + j - 11)) in_slots ∙ ap (touches span) back
 
-module _ (law : Laws) where
+module _ (law : Laws) (precision : Precision) where
   -- the slot of an access that is known, where it is in the stack
   found : (slots : List PlainKind) (vs : List (Option Value)) → length slots ≡ length vs → (P : Option Plain) (r : Region) (at w j : ℕ) → r ≡ Stack → HeldIn P at → (o : Option ℕ) → o ≡ whole_slot P w → known_slot slots o ≡ Some j → IsSlot vs r at w j
   found slots vs long P r at w j region h None e there = absurd (none-some j there)
@@ -85,7 +86,7 @@ module _ (law : Laws) where
       one false out = absurd (none-some j (sym (ap (λ (b : Bool). cond b (Some i) None) (sym out)) ∙ there))
       one true inside =
           let same : i ≡ j = same_Some i j (sym (ap (λ (b : Bool). cond b (Some i) None) (sym inside)) ∙ there) in
-          let place = whole_place law P at w i h (sym e) in
+          let place = whole_place law precision P at w i h (sym e) in
           let lt = ltb-true i (length slots) (sym inside) in
           record { region = region; width = place.0; place = place.1 ∙ ap (λ x. 8 * x) same; inside = omega (arith, lt, long, same) }
 
@@ -95,16 +96,16 @@ module _ (law : Laws) where
   known_is f vs long (Ptr Input k) distance r o w j small fit h p e = absurd (none-some j e)
   known_is f vs long (Ptr Output k) distance r o w j small fit h p e = absurd (none-some j e)
   known_is f vs long (Ptr Stack k) distance r o w j small fit h p e =
-      found f.slots vs long (last_place k distance) r ((o + distance) % 2 ^ 64) w j (sym h.0) (place_held law k o distance fit small h.1) (whole_slot (last_place k distance) w) refl e
+      found f.slots vs long (last_place k distance) r ((o + distance) % 2 ^ 64) w j (sym h.0) (place_held law precision k o distance fit small h.1) (whole_slot (last_place k distance) w) refl e
 
   -- what an access doesn't touch, it doesn't reach
   unreached : (x : PlainKind) (distance : ℕ) (r : Region) (o w j : ℕ) → distance < 2 ^ 64 → KindFits x → HoldsKind x (Some (values.Ptr r o)) → is_ptr x ≡ true → touches (access_span (stack_place x distance) w) j ≡ false → Reached r ((o + distance) % 2 ^ 64) w j → ⊥
   unreached Unset distance r o w j small fit h p out reached = absurd (false≢true p)
   unreached (Num k) distance r o w j small fit h p out reached = absurd h
-  unreached (Ptr Input k) distance r o w j small fit h p out reached = not_stack law r Input ((o + distance) % 2 ^ 64) w j (sym h.0) (is_input law) reached
-  unreached (Ptr Output k) distance r o w j small fit h p out reached = not_stack law r Output ((o + distance) % 2 ^ 64) w j (sym h.0) (is_output law) reached
+  unreached (Ptr Input k) distance r o w j small fit h p out reached = not_stack law precision r Input ((o + distance) % 2 ^ 64) w j (sym h.0) (is_input law precision) reached
+  unreached (Ptr Output k) distance r o w j small fit h p out reached = not_stack law precision r Output ((o + distance) % 2 ^ 64) w j (sym h.0) (is_output law precision) reached
   unreached (Ptr Stack k) distance r o w j small fit h p out reached =
-      false≢true (sym out ∙ reaches_some law (last_place k distance) ((o + distance) % 2 ^ 64) w (place_held law k o distance fit small h.1) j reached.touched)
+      false≢true (sym out ∙ reaches_some law precision (last_place k distance) ((o + distance) % 2 ^ 64) w (place_held law precision k o distance fit small h.1) j reached.touched)
 
   module _ (f : PlainFrame) (fits : EachFits f.registers) (eleven : length f.registers ≡ 11) (p : ℕ) (below : NamesBelow p f) (cs vs : List (Option Value)) (long : length f.slots ≡ length vs) (h : HoldsEach f.registers cs) (sl : HoldsEach f.slots vs) (held : HoldsLinks f cs vs) where
     -- a register is among the values
@@ -201,8 +202,8 @@ module _ (law : Laws) where
     outside : (a b : PlainKind) (r : Region) (at n : ℕ) (ws : List (Option Value)) → HoldsKind a (Some (values.Ptr r at)) → HoldsKind b (Some (values.Num n)) → is_ptr a ≡ true → is_num b ≡ true → Overwrites vs r at n ws → (j : ℕ) → touches (stack_range a b) j ≡ false → value_at ws j ≡ value_at vs j
     outside Unset b r at n ws k m x y over j out = absurd (false≢true x)
     outside (Num l) b r at n ws k m x y over j out = absurd k
-    outside (Ptr Input l) b r at n ws k m x y over j out = over.others j (λ reached. not_stack law r Input at n j (sym k.0) (is_input law) reached.1)
-    outside (Ptr Output l) b r at n ws k m x y over j out = over.others j (λ reached. not_stack law r Output at n j (sym k.0) (is_output law) reached.1)
+    outside (Ptr Input l) b r at n ws k m x y over j out = over.others j (λ reached. not_stack law precision r Input at n j (sym k.0) (is_input law precision) reached.1)
+    outside (Ptr Output l) b r at n ws k m x y over j out = over.others j (λ reached. not_stack law precision r Output at n j (sym k.0) (is_output law precision) reached.1)
     outside (Ptr Stack l) Unset r at n ws k m x y over j out = absurd (false≢true y)
     outside (Ptr Stack l) (Ptr s c) r at n ws k m x y over j out = absurd m
     outside (Ptr Stack l) (Num c) r at n ws k m x y over j out =
@@ -228,7 +229,7 @@ module _ (law : Laws) where
     links_keep room answer (Alu bits operation dst source) fit ok ds ws q m =
         let registers = held.1.registers in
         let l = link_in f.links dst in
-        let is = computed_true held.0 bits operation (kind_at f dst) (operand_kind f source) l m.0 m.1 m.2 (held_at f.registers cs dst m.0 h m.3) (operand_held law f cs source m.1 fit.1 h m.4) (subst (HoldsLink held.0 l) m.3 (registers dst fit.0)) m.5 in
+        let is = computed_true held.0 bits operation (kind_at f dst) (operand_kind f source) l m.0 m.1 m.2 (held_at f.registers cs dst m.0 h m.3) (operand_held law precision f cs source m.1 fit.1 h m.4) (subst (HoldsLink held.0 l) m.3 (registers dst fit.0)) m.5 in
         as_is _ _ vs ds ws (held.0, set_register held.0 f.links cs vs dst _ m.2 held.1 fit.0 (set_of dst fit.0) is) m.7 m.8
     links_keep room answer (Neg bits dst) fit ok ds ws q m = as_is _ _ vs ds ws (freed dst _ fit) m.3 m.4
     links_keep room answer (Mov bits dst source) fit ok ds ws q m = as_is _ _ vs ds ws (moved bits source dst m.0 m.1 fit.0 fit.1 m.2 m.3) m.5 m.6
@@ -240,13 +241,13 @@ module _ (law : Laws) where
         let loads = m.4 in
         as_is _ _ vs ds ws
         (loaded (accessed_slot f x (extended offset) (byte_count width)) dst m.2 fit.0
-        (λ j e. loads.whole j (known_is f vs long x (extended offset) m.0 m.1 (byte_count width) j (extended_small16 law offset fit.2) (fits_at f.registers base fits) (held_at f.registers cs base _ h m.3) ok.0 e))) m.6 m.7
+        (λ j e. loads.whole j (known_is f vs long x (extended offset) m.0 m.1 (byte_count width) j (extended_small16 law precision offset fit.2) (fits_at f.registers base fits) (held_at f.registers cs base _ h m.3) ok.0 e))) m.6 m.7
     links_keep room answer (LoadSigned width dst base offset) fit ok ds ws q m = as_is _ _ vs ds ws (freed dst _ fit.0) m.6 m.7
     links_keep room answer (Store width base offset source) fit ok ds ws q m =
         let x = kind_at f base in
         let w = byte_count width in
         let stores = m.5 in
-        let small = extended_small16 law offset fit.1 in
+        let small = extended_small16 law precision offset fit.1 in
         let fit_base = fits_at f.registers base fits in
         let held_base = held_at f.registers cs base _ h m.3 in
         as_is _ cs ws ds ws
@@ -282,6 +283,6 @@ module _ (law : Laws) where
   still_allowed room (CallLocal distance) p f ok = ok
   still_allowed room Exit p f ok = ok
 
-  pub keeps : (f : PlainFrame) → EachFits f.registers → length f.registers ≡ 11 → (room : Option ℕ) (answer : Plain) (i : Insn) (p : ℕ) → Keeps room answer i p f
+  pub keeps : (f : PlainFrame) → EachFits f.registers → length f.registers ≡ 11 → (room : Option ℕ) (answer : Plain) (i : Insn) (p : ℕ) → Keeps precision room answer i p f
   keeps f fits eleven room answer i p fit ok below cs ds vs ws q long h sl held m =
-      edges_keep law (relinked room i p f) fits eleven room answer i p fit (still_allowed room i p f ok) cs ds vs ws q long h sl (links_keep f fits eleven p below cs vs long h sl held room answer i fit ok ds ws q m) m
+      edges_keep law precision (relinked room i p f) fits eleven room answer i p fit (still_allowed room i p f ok) cs ds vs ws q long h sl (links_keep f fits eleven p below cs vs long h sl held room answer i fit ok ds ws q m) m

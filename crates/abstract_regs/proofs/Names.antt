@@ -80,7 +80,7 @@ after_long room (CallLocal distance) p f = refl
 after_long room Exit p f = refl
 
 pub flows_keep_links : FlowsKeepLinks
-flows_keep_links room answer i p q f g e = ap length (flow_links room answer i p q f g e) ∙ after_long room i p f
+flows_keep_links precision room answer i p q f g e = ap length (flow_links precision room answer i p q f g e) ∙ after_long room i p f
 
 -- ---- names
 
@@ -225,6 +225,6 @@ above : (p n : ℕ) (l : Link) → p < n → NameBelow p l → NameBelow n l
 above p n l lt h = ⊎_elim (λ (e : l.form ≡ Unlinked). inl e) (λ (less : l.name < p). inr (omega (arith, lt, less))) h
 
 pub flows_keep_names : FlowsKeepNames
-flows_keep_names room answer i p q f g below e n lt =
+flows_keep_names precision room answer i p q f g below e n lt =
     let all = after_below n p lt f (λ place. above p n (link_in f.links place) lt (below place)) room i in
-    subst (AllBelow n) (sym (flow_links room answer i p q f g e)) all
+    subst (AllBelow n) (sym (flow_links precision room answer i p q f g e)) all

@@ -6,6 +6,7 @@ use Rattle.bpf_decode.specs.declared.operation.OpWidth.TheVariants.{Bits64}
 use Rattle.bpf_decode.specs.declared.operation.Arithmetic.TheVariants.{Add}
 use Rattle.bpf_decode.specs.declared.value.Value.{Value}
 use Rattle.bpf_decode.specs.declared.value.Value.TheVariants as values
+use Rattle.abstract_num.specs.declared.precision.Precision.TheVariants.{Whole}
 use Rattle.abstract_num.specs.Plain.{Plain, constant}
 use Rattle.abstract_num.specs.Tighten.{tighten}
 use Rattle.abstract_num.specs.Transfer.{ranged}
@@ -33,9 +34,9 @@ free_links k cs vs = record {
 }
 
 pub entry_holds : ConstantHolds → RangeKeeps → EntryHolds
-entry_holds constants ranges in_cap stack count places n p q le =
+entry_holds constants ranges precision in_cap stack count places n p q le =
     let zero_held = constants 0 (omega arith) in
-    let few = number_held (tighten (ranged 0 in_cap)) n (ranges 0 in_cap n (omega arith) (omega arith) le) in
+    let few = number_held (tighten precision (ranged 0 in_cap)) n (ranges precision 0 in_cap n (omega arith) (omega arith) le) in
     record {
       registers = (tt, ((refl, zero_held), (few, ((refl, zero_held), (tt, (tt, (tt, (tt, (tt, (tt, ((refl, constants stack q), tt)))))))))));
       slots = zeros_hold constants count;
@@ -50,7 +51,7 @@ fits_at (Some place) at w size h e = let le = leb-true (place.high + w) size e i
 pub accesses_fit : ConstantHolds → ConstantsFit → ArithmeticKeeps → AccessesFit
 accesses_fit constants fit sums k f distance w size small e at h =
     fits_at (last_place k distance) ((at + distance) % 2 ^ 64) w size
-    (sums Bits64 Add k (constant distance) f (fit distance small) at distance h (constants distance small)) e
+    (sums Whole Bits64 Add k (constant distance) f (fit distance small) at distance h (constants distance small)) e
 
 pub ranges_fit : RangesFit
 ranges_fit k l size e at n h g = let le = leb-true (k.high + l.high) size e in omega (arith, le, h.below, g.below)

@@ -6,6 +6,7 @@ use Rattle.abstract_regs.specs.declared.edges.Edges.{Edges}
 use Rattle.abstract_regs.specs.declared.edges.Compared.{Compared}
 use Rattle.abstract_regs.specs.declared.kind.Kinds.{Kinds}
 use Rattle.abstract_regs.specs.declared.edges.Edges.TheVariants.{Leaves, Falls, Jumps, Branches, Forks}
+use Rattle.abstract_num.specs.declared.precision.Precision.{Precision}
 use Rattle.abstract_regs.specs.Kind.{PlainKind}
 use Rattle.abstract_regs.specs.Frame.{PlainFrame}
 use Rattle.abstract_regs.specs.Link.{is_linked, link_in}
@@ -31,14 +32,14 @@ abbrev pub left_kinds : Bool → List PlainKind → Option (List PlainKind)
 left_kinds live xs = if live then Some xs else None
 
 -- the frame after what was compared has told its numbers
-abbrev pub heard : PlainFrame → Compared → Option PlainFrame
-heard g compared = told compared.dst compared.source g
+abbrev pub heard : Precision → PlainFrame → Compared → Option PlainFrame
+heard precision g compared = told precision compared.dst compared.source g
 
 -- where the slot after the instruction is next, and the frame that flowed is g; the lent place has
 -- these kinds
-abbrev pub with_edges : Edges → Kinds → ℕ → PlainFrame → List (ℕ × PlainFrame)
-with_edges Leaves kinds next g = []
-with_edges Falls kinds next g = (next, g) ∷ []
-with_edges (Jumps q) kinds next g = (q, g) ∷ []
-with_edges (Branches q compared) kinds next g = (q, g) ∷ (next, refined g compared kinds) ∷ []
-with_edges (Forks q compared) kinds next g = edge_to q (heard g compared) ++ edge_to next (heard (refined g compared kinds) compared)
+abbrev pub with_edges : Precision → Edges → Kinds → ℕ → PlainFrame → List (ℕ × PlainFrame)
+with_edges precision Leaves kinds next g = []
+with_edges precision Falls kinds next g = (next, g) ∷ []
+with_edges precision (Jumps q) kinds next g = (q, g) ∷ []
+with_edges precision (Branches q compared) kinds next g = (q, g) ∷ (next, refined g compared kinds) ∷ []
+with_edges precision (Forks q compared) kinds next g = edge_to q (heard precision g compared) ++ edge_to next (heard precision (refined g compared kinds) compared)

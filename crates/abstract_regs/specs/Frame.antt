@@ -7,6 +7,7 @@ use Rattle.bpf_decode.specs.declared.region.Region.TheVariants.{Input, Output, S
 use Rattle.bpf_decode.specs.declared.value.Value.{Value}
 use Rattle.bpf_decode.specs.Values.{extended}
 use Rattle.bpf_decode.specs.Arithmetic.{mov_value}
+use Rattle.abstract_num.specs.declared.precision.Precision.{Precision}
 use Rattle.abstract_num.specs.Plain.{Plain, constant}
 use Rattle.abstract_num.specs.Tighten.{tighten}
 use Rattle.abstract_num.specs.Transfer.{ranged}
@@ -48,10 +49,10 @@ number_kind (Some n) = Num n
 -- As a method begins: 1 points to the input, 2 is its length, at most in_cap, 3 points to the
 -- output, 10 to the end of the stack. So many slots are known: each is the number 0. So many places may
 -- be linked: none is.
-abbrev pub entry_frame : ℕ → ℕ → ℕ → ℕ → PlainFrame
-entry_frame in_cap stack count places = record {
+abbrev pub entry_frame : Precision → ℕ → ℕ → ℕ → ℕ → PlainFrame
+entry_frame precision in_cap stack count places = record {
   registers =
-      Unset ∷ Ptr Input (constant 0) ∷ number_kind (tighten (ranged 0 in_cap)) ∷ Ptr Output (constant 0) ∷ Unset ∷ Unset ∷ Unset ∷ Unset ∷ Unset ∷ Unset ∷ Ptr Stack (constant stack) ∷ [];
+      Unset ∷ Ptr Input (constant 0) ∷ number_kind (tighten precision (ranged 0 in_cap)) ∷ Ptr Output (constant 0) ∷ Unset ∷ Unset ∷ Unset ∷ Unset ∷ Unset ∷ Unset ∷ Ptr Stack (constant stack) ∷ [];
   slots = replicate count (Num (constant 0));
   links = replicate places no_link;
 }

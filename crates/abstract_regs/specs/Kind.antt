@@ -14,6 +14,8 @@ use Rattle.bpf_decode.specs.declared.operation.SignedMove.{SignedMove}
 use Rattle.bpf_decode.specs.declared.operation.ByteOrder.{ByteOrder}
 use Rattle.bpf_decode.specs.declared.operation.EndWidth.{EndWidth}
 use Rattle.bpf_decode.specs.declared.operation.Comparison.{Comparison}
+use Rattle.abstract_num.specs.declared.precision.Precision.{Precision}
+use Rattle.abstract_num.specs.declared.precision.Precision.TheVariants.{Whole}
 use Rattle.abstract_num.specs.Plain.{Plain, Holds, constant, join}
 use Rattle.abstract_num.specs.Tighten.{tighten}
 use Rattle.abstract_num.specs.Transfer.{transferred, copied, sign_extended, ordered}
@@ -74,36 +76,36 @@ join_kind (Ptr r k) (Ptr q l) = if same_region r q then Ptr r (join k l) else Un
 
 -- What an instruction that no rule refuses computes; none where no number is left. Arithmetic of
 -- numbers, or a pointer whose offset moves:
-abbrev pub alu_kind : OpWidth → Arithmetic → PlainKind → PlainKind → Option PlainKind
-alu_kind bits operation (Num k) (Num l) = option_map Num (transferred bits operation k l)
-alu_kind bits operation (Ptr r k) (Num l) = option_map (Ptr r) (transferred bits operation k l)
-alu_kind bits operation (Num k) (Ptr r l) = option_map (Ptr r) (transferred bits operation k l)
-alu_kind bits operation (Ptr r k) (Ptr q l) = Some Unset
-alu_kind bits operation Unset y = Some Unset
-alu_kind bits operation (Num k) Unset = Some Unset
-alu_kind bits operation (Ptr r k) Unset = Some Unset
+abbrev pub alu_kind : Precision → OpWidth → Arithmetic → PlainKind → PlainKind → Option PlainKind
+alu_kind precision bits operation (Num k) (Num l) = option_map Num (transferred precision bits operation k l)
+alu_kind precision bits operation (Ptr r k) (Num l) = option_map (Ptr r) (transferred precision bits operation k l)
+alu_kind precision bits operation (Num k) (Ptr r l) = option_map (Ptr r) (transferred precision bits operation k l)
+alu_kind precision bits operation (Ptr r k) (Ptr q l) = Some Unset
+alu_kind precision bits operation Unset y = Some Unset
+alu_kind precision bits operation (Num k) Unset = Some Unset
+alu_kind precision bits operation (Ptr r k) Unset = Some Unset
 
 -- 0 less the number
-abbrev pub neg_kind : OpWidth → PlainKind → Option PlainKind
-neg_kind bits Unset = Some Unset
-neg_kind bits (Num k) = option_map Num (transferred bits Sub (constant 0) k)
-neg_kind bits (Ptr r k) = Some Unset
+abbrev pub neg_kind : Precision → OpWidth → PlainKind → Option PlainKind
+neg_kind precision bits Unset = Some Unset
+neg_kind precision bits (Num k) = option_map Num (transferred precision bits Sub (constant 0) k)
+neg_kind precision bits (Ptr r k) = Some Unset
 
-abbrev pub mov_kind : OpWidth → PlainKind → Option PlainKind
-mov_kind bits Unset = Some Unset
-mov_kind bits (Num k) = option_map Num (copied bits k)
-mov_kind Bits64 (Ptr r k) = Some (Ptr r k)
-mov_kind Bits32 (Ptr r k) = Some Unset
+abbrev pub mov_kind : Precision → OpWidth → PlainKind → Option PlainKind
+mov_kind precision bits Unset = Some Unset
+mov_kind precision bits (Num k) = option_map Num (copied precision bits k)
+mov_kind precision Bits64 (Ptr r k) = Some (Ptr r k)
+mov_kind precision Bits32 (Ptr r k) = Some Unset
 
-abbrev pub signed_move_kind : SignedMove → PlainKind → Option PlainKind
-signed_move_kind extension Unset = Some Unset
-signed_move_kind extension (Num k) = option_map Num (sign_extended extension k)
-signed_move_kind extension (Ptr r k) = Some Unset
+abbrev pub signed_move_kind : Precision → SignedMove → PlainKind → Option PlainKind
+signed_move_kind precision extension Unset = Some Unset
+signed_move_kind precision extension (Num k) = option_map Num (sign_extended precision extension k)
+signed_move_kind precision extension (Ptr r k) = Some Unset
 
-abbrev pub end_kind : ByteOrder → EndWidth → PlainKind → Option PlainKind
-end_kind order width Unset = Some Unset
-end_kind order width (Num k) = option_map Num (ordered order width k)
-end_kind order width (Ptr r k) = Some Unset
+abbrev pub end_kind : Precision → ByteOrder → EndWidth → PlainKind → Option PlainKind
+end_kind precision order width Unset = Some Unset
+end_kind precision order width (Num k) = option_map Num (ordered precision order width k)
+end_kind precision order width (Ptr r k) = Some Unset
 
 -- What an edge of a comparison leaves of both its kinds. A register that is compared with itself is
 -- tightened and no more.
@@ -113,18 +115,18 @@ both_nums s = (Num s.0, Num s.1)
 abbrev pub same_num : Plain → PlainKind × PlainKind
 same_num n = (Num n, Num n)
 
-abbrev pub along_kinds : OpWidth → Comparison → Bool → Bool → PlainKind → PlainKind → Option (PlainKind × PlainKind)
-along_kinds bits comparison taken true (Num k) (Num l) = option_map same_num (tighten k)
-along_kinds bits comparison taken false (Num k) (Num l) = option_map both_nums (along bits comparison taken k l)
-along_kinds bits comparison taken same Unset y = Some (Unset, y)
-along_kinds bits comparison taken same (Num k) Unset = Some (Num k, Unset)
-along_kinds bits comparison taken same (Num k) (Ptr q l) = Some (Num k, Ptr q l)
-along_kinds bits comparison taken same (Ptr r k) y = Some (Ptr r k, y)
+abbrev pub along_kinds : Precision → OpWidth → Comparison → Bool → Bool → PlainKind → PlainKind → Option (PlainKind × PlainKind)
+along_kinds precision bits comparison taken true (Num k) (Num l) = option_map same_num (tighten precision k)
+along_kinds precision bits comparison taken false (Num k) (Num l) = option_map both_nums (along precision bits comparison taken k l)
+along_kinds precision bits comparison taken same Unset y = Some (Unset, y)
+along_kinds precision bits comparison taken same (Num k) Unset = Some (Num k, Unset)
+along_kinds precision bits comparison taken same (Num k) (Ptr q l) = Some (Num k, Ptr q l)
+along_kinds precision bits comparison taken same (Ptr r k) y = Some (Ptr r k, y)
 
--- The last place of an access at a distance from an offset: the upper bound of their sum; none
--- where no place is left.
+-- The last place of an access at a distance from an offset: the upper bound of their sum, of whose low
+-- half nothing is asked; none where no place is left.
 abbrev pub last_place : Plain → ℕ → Option Plain
-last_place k distance = transferred Bits64 Add k (constant distance)
+last_place k distance = transferred Whole Bits64 Add k (constant distance)
 
 -- all of the w bytes at those places are among the first so many
 abbrev pub places_fit : Option Plain → ℕ → ℕ → Bool

@@ -1,5 +1,6 @@
 -- The laws of the join of frames, and that a join holds what either part holds.
 use Rattle.std.specs.Prelude.{◌≡◌, ◌⊎◌, ℕ, ◌+◌, ◌%◌, ◌^◌, ◌<◌, ◌≤◌, List, [], ◌∷◌, Option, Some, None, true, false, length, replicate, is_some}
+use Rattle.abstract_num.specs.declared.precision.Precision.{Precision}
 use Rattle.abstract_num.specs.Plain.{Plain, Holds, Below}
 use Rattle.abstract_num.specs.Keeping.{Fits}
 use Rattle.bpf_decode.specs.declared.region.Region.TheVariants.{Input, Output, Stack}
@@ -84,15 +85,15 @@ JoinsHold = (f g : PlainFrame) → JoinHolds f g
 
 -- What a method begins with, an input of n bytes and a stack of zeros: the entry frame holds it. No place
 -- is linked.
-pub record EntryIsHeld (in_cap stack count places n : ℕ) : Type 0 where
-  pub registers : HoldsEach (entry_frame in_cap stack count places).registers
+pub record EntryIsHeld (precision : Precision) (in_cap stack count places n : ℕ) : Type 0 where
+  pub registers : HoldsEach (entry_frame precision in_cap stack count places).registers
       (None ∷ Some (values.Ptr Input 0) ∷ Some (values.Num n) ∷ Some (values.Ptr Output 0) ∷ None ∷ None ∷ None ∷ None ∷ None ∷ None ∷ Some (values.Ptr Stack stack) ∷ [])
-  pub slots : HoldsEach (entry_frame in_cap stack count places).slots (replicate count (Some (values.Num 0)))
-  pub links : (cs vs : List (Option Value)) → HoldsLinks (entry_frame in_cap stack count places) cs vs
-  pub names : (p : ℕ) → NamesBelow p (entry_frame in_cap stack count places)
+  pub slots : HoldsEach (entry_frame precision in_cap stack count places).slots (replicate count (Some (values.Num 0)))
+  pub links : (cs vs : List (Option Value)) → HoldsLinks (entry_frame precision in_cap stack count places) cs vs
+  pub names : (p : ℕ) → NamesBelow p (entry_frame precision in_cap stack count places)
 
 abbrev pub EntryHolds : Type 0
-EntryHolds = (in_cap stack count places n : ℕ) → in_cap < 2 ^ 64 → stack < 2 ^ 64 → n ≤ in_cap → EntryIsHeld in_cap stack count places n
+EntryHolds = (precision : Precision) (in_cap stack count places n : ℕ) → in_cap < 2 ^ 64 → stack < 2 ^ 64 → n ≤ in_cap → EntryIsHeld precision in_cap stack count places n
 
 -- An access that fits by an offset stays within the first so many bytes, at every place that the
 -- offset holds.
@@ -111,7 +112,7 @@ RangesFit =
 -- An instruction keeps the number of slots, along each of its edges; so does a join.
 abbrev pub FlowsKeepSlots : Type 0
 FlowsKeepSlots =
-    (room : Option ℕ) (answer : Plain) (i : Insn) (p q : ℕ) (f g : PlainFrame) → Among q g (flow room answer i p f) → length g.slots ≡ length f.slots
+    (precision : Precision) (room : Option ℕ) (answer : Plain) (i : Insn) (p q : ℕ) (f g : PlainFrame) → Among q g (flow precision room answer i p f) → length g.slots ≡ length f.slots
 
 abbrev pub JoinsKeepSlots : Type 0
 JoinsKeepSlots = (f g : PlainFrame) → length g.slots ≡ length f.slots → length (join f g).slots ≡ length f.slots
@@ -119,7 +120,7 @@ JoinsKeepSlots = (f g : PlainFrame) → length g.slots ≡ length f.slots → le
 -- And the number of places that may be linked.
 abbrev pub FlowsKeepLinks : Type 0
 FlowsKeepLinks =
-    (room : Option ℕ) (answer : Plain) (i : Insn) (p q : ℕ) (f g : PlainFrame) → Among q g (flow room answer i p f) → length g.links ≡ length f.links
+    (precision : Precision) (room : Option ℕ) (answer : Plain) (i : Insn) (p q : ℕ) (f g : PlainFrame) → Among q g (flow precision room answer i p f) → length g.links ≡ length f.links
 
 abbrev pub JoinsKeepLinks : Type 0
 JoinsKeepLinks = (f g : PlainFrame) → length g.links ≡ length f.links → length (join f g).links ≡ length f.links
@@ -128,7 +129,7 @@ JoinsKeepLinks = (f g : PlainFrame) → length g.links ≡ length f.links → le
 -- it are below p. A join has no others.
 abbrev pub FlowsKeepNames : Type 0
 FlowsKeepNames =
-    (room : Option ℕ) (answer : Plain) (i : Insn) (p q : ℕ) (f g : PlainFrame) → NamesBelow p f → Among q g (flow room answer i p f) →
+    (precision : Precision) (room : Option ℕ) (answer : Plain) (i : Insn) (p q : ℕ) (f g : PlainFrame) → NamesBelow p f → Among q g (flow precision room answer i p f) →
     (n : ℕ) → p < n → NamesBelow n g
 
 abbrev pub JoinsKeepNames : Type 0

@@ -1,7 +1,8 @@
 -- What becomes of links: those that an instruction leaves, by the kinds before it, and what they tell
 -- of other places' kinds along the edges of a comparison. A register's place is its number, a slot's
 -- is after all registers'. In rule sets 1 and 2 the list of links is empty, and stays so.
-use Rattle.std.specs.Prelude.{ℕ, pos, negsuc, ◌+◌, ◌-◌, ◌%◌, ◌^◌, ◌==◌, ◌&&◌, ◌||◌, not, nat_lt, nat_le, int_le, int_lt, List, [], ◌∷◌, length, Option, Some, None, Bool, true, false, if◌then◌else◌, slice_get, slice_set, option_map, option_and_then}
+use Rattle.std.specs.Prelude.{ℕ, ℤ, pos, negsuc, ◌+◌, ◌-◌, ◌%◌, ◌^◌, ◌==◌, ◌&&◌, ◌||◌, not, nat_lt, nat_le, int_le, int_lt, List, [], ◌∷◌, length, Option, Some, None, Bool, true, false, if◌then◌else◌, slice_get, slice_set, option_map, option_and_then}
+use Rattle.std.specs.Int.{int_max, int_min, int_shr}
 use Rattle.bpf_decode.specs.declared.insn.Operand.{Operand}
 use Rattle.bpf_decode.specs.declared.insn.Operand.TheVariants.{Immediate, Register}
 use Rattle.bpf_decode.specs.declared.insn.Insn.{Insn}
@@ -16,12 +17,14 @@ use Rattle.bpf_decode.specs.declared.operation.Comparison.TheVariants.{Equal}
 use Rattle.bpf_decode.specs.Arithmetic.{mov_value}
 use Rattle.bpf_decode.specs.Instruction.{byte_count}
 use Rattle.bpf_decode.specs.Values.{extended}
-use Rattle.abstract_num.specs.Plain.{Plain, constant}
+use Rattle.abstract_num.specs.declared.precision.Precision.{Precision}
+use Rattle.abstract_num.specs.Plain.{Plain, any, constant}
+use Rattle.abstract_num.specs.Tighten.{tighten}
 use Rattle.abstract_num.specs.Transfer.{transferred}
 use Rattle.abstract_num.specs.Edges.{along, first_of}
 use Rattle.abstract_regs.specs.declared.link.Link.{Link}
 use Rattle.abstract_regs.specs.declared.link.Form.{Form}
-use Rattle.abstract_regs.specs.declared.link.Form.TheVariants.{Whole}
+use Rattle.abstract_regs.specs.declared.link.Form.TheVariants.{Unlinked, Whole, Low, Up, Sign}
 use Rattle.abstract_regs.specs.Link.{no_link, is_linked, is_whole, has_low, link_in, shaped, low_form, up_form, sign_form, down_form, moved_link, is_ones, unlinked}
 use Rattle.abstract_regs.specs.Kind.{PlainKind, Unset, Num, Ptr}
 use Rattle.abstract_regs.specs.Slots.{Span, touches, stack_place, access_span, whole_slot}
@@ -172,63 +175,83 @@ abbrev pub apart : ℕ → ℕ → ℕ
 apart e d = (d + (2 ^ 64 - e % 2 ^ 64)) % 2 ^ 64
 
 -- the number at a distance
-abbrev pub at_distance : Plain → ℕ → Option Plain
-at_distance z d = if d == 0 then Some z else transferred Bits64 Add z (constant d)
+abbrev pub at_distance : Precision → Plain → ℕ → Option Plain
+at_distance precision z d = if d == 0 then Some z else transferred precision Bits64 Add z (constant d)
 
 -- t, where it is equal to z
-abbrev pub met_number : Plain → Plain → Option Plain
-met_number t z = option_map first_of (along Bits64 Equal true t z)
+abbrev pub met_number : Precision → Plain → Plain → Option Plain
+met_number precision t z = option_map first_of (along precision Bits64 Equal true t z)
 
 -- its bounds are below 2 ^ 64, as those of all numbers of the code are
 abbrev pub is_bounded : Plain → Bool
 is_bounded z = nat_lt z.high (2 ^ 64) && nat_lt z.unknown (2 ^ 64)
 
-abbrev pub tell_whole : Plain → ℕ → Plain → Option Plain
-tell_whole z d t = if is_bounded z then option_and_then (met_number t) (at_distance z d) else Some t
+abbrev pub tell_whole : Precision → Plain → ℕ → Plain → Option Plain
+tell_whole precision z d t = if is_bounded z then option_and_then (met_number precision t) (at_distance precision z d) else Some t
 
--- what z, of a form, tells of a number with the same low half
-abbrev pub tell_half : Form → Plain → Plain → Option Plain
-tell_half form z t = Some t
+-- every half
+abbrev pub any_half : ℤ × ℤ
+any_half = (any.half_least, any.half_greatest)
+
+-- what z, of a form, tells of the low half of the number that its link names: where it has that half, it
+-- is z's; moved up, it is in the upper half; its sign bit alone says whether it is negative
+abbrev pub half_told : Form → Plain → ℤ × ℤ
+half_told Unlinked z = any_half
+half_told Whole z = (z.half_least, z.half_greatest)
+half_told Low z = (z.half_least, z.half_greatest)
+half_told Up z = (int_shr z.least 32, int_shr z.greatest 32)
+half_told Sign z = if z.high == 0 then (pos 0, pos (2 ^ 31 - 1)) else (if nat_le 1 z.low then (negsuc (2 ^ 31 - 1), negsuc 0) else any_half)
+
+-- t, where its low half lies between these
+abbrev pub met_half : Precision → Plain → ℤ × ℤ → Option Plain
+met_half precision t h =
+    let p = int_max t.half_least h.0 in
+    let q = int_min t.half_greatest h.1 in
+    (if int_lt q p then None else tighten precision (record t { half_least = p; half_greatest = q }))
+
+-- a number with the same low half
+abbrev pub tell_half : Precision → Form → Plain → Plain → Option Plain
+tell_half precision form z t = met_half precision t (half_told form z)
 
 -- a number t linked by m, where another is z, linked by l; both name the same number
-abbrev pub told_number : Plain → Link → Link → Plain → Option Plain
-told_number z l m t =
+abbrev pub told_number : Precision → Plain → Link → Link → Plain → Option Plain
+told_number precision z l m t =
     let d = apart l.distance m.distance in
-    (if is_whole l.form && is_whole m.form then tell_whole z d t
-    else (if (d == 0) && has_low m.form then tell_half l.form z t else Some t))
+    (if is_whole l.form && is_whole m.form then tell_whole precision z d t
+    else (if (d == 0) && has_low m.form then tell_half precision l.form z t else Some t))
 
-abbrev pub told_kind : Plain → Link → Link → PlainKind → Option PlainKind
-told_kind z l m Unset = Some Unset
-told_kind z l m (Num t) = option_map Num (told_number z l m t)
-told_kind z l m (Ptr r k) = Some (Ptr r k)
+abbrev pub told_kind : Precision → Plain → Link → Link → PlainKind → Option PlainKind
+told_kind precision z l m Unset = Some Unset
+told_kind precision z l m (Num t) = option_map Num (told_number precision z l m t)
+told_kind precision z l m (Ptr r k) = Some (Ptr r k)
 
 -- a place of the same name, other than that which tells
 abbrev pub is_named : Link → ℕ → ℕ → Link → Bool
 is_named l from at m = is_linked m.form && ((l.name == m.name) && not (at == from))
 
 -- the kinds from place `at` on; nothing as soon as one has no number left
-abbrev pub told_kinds : Plain → Link → ℕ → List Link → ℕ → List PlainKind → Option (List PlainKind)
-told_kinds z l from links at [] = Some []
-told_kinds z l from links at (x ∷ xs) =
-    option_and_then (λ y. option_map (λ ys. y ∷ ys) (told_kinds z l from links (at + 1) xs))
-    (if is_named l from at (link_in links at) then told_kind z l (link_in links at) x else Some x)
+abbrev pub told_kinds : Precision → Plain → Link → ℕ → List Link → ℕ → List PlainKind → Option (List PlainKind)
+told_kinds precision z l from links at [] = Some []
+told_kinds precision z l from links at (x ∷ xs) =
+    option_and_then (λ y. option_map (λ ys. y ∷ ys) (told_kinds precision z l from links (at + 1) xs))
+    (if is_named l from at (link_in links at) then told_kind precision z l (link_in links at) x else Some x)
 
 -- of all kinds of a frame
-abbrev pub tell_all : Plain → Link → ℕ → PlainFrame → Option PlainFrame
-tell_all z l from f =
-    option_and_then (λ xs. option_map (λ ys. record { registers = xs; slots = ys; links = f.links }) (told_kinds z l from f.links 11 f.slots))
-    (told_kinds z l from f.links 0 f.registers)
+abbrev pub tell_all : Precision → Plain → Link → ℕ → PlainFrame → Option PlainFrame
+tell_all precision z l from f =
+    option_and_then (λ xs. option_map (λ ys. record { registers = xs; slots = ys; links = f.links }) (told_kinds precision z l from f.links 11 f.slots))
+    (told_kinds precision z l from f.links 0 f.registers)
 
 -- a register that is linked tells its number
-abbrev pub tell_kind : PlainKind → ℕ → PlainFrame → Option PlainFrame
-tell_kind Unset r f = Some f
-tell_kind (Num z) r f = if is_linked (link_in f.links r).form then tell_all z (link_in f.links r) r f else Some f
-tell_kind (Ptr q k) r f = Some f
+abbrev pub tell_kind : Precision → PlainKind → ℕ → PlainFrame → Option PlainFrame
+tell_kind precision Unset r f = Some f
+tell_kind precision (Num z) r f = if is_linked (link_in f.links r).form then tell_all precision z (link_in f.links r) r f else Some f
+tell_kind precision (Ptr q k) r f = Some f
 
-unfoldable pub tell : ℕ → PlainFrame → Option PlainFrame
-tell r f = tell_kind (kind_at f r) r f
+unfoldable pub tell : Precision → ℕ → PlainFrame → Option PlainFrame
+tell precision r f = tell_kind precision (kind_at f r) r f
 
 -- both registers of a comparison tell theirs, one after the other
-unfoldable pub told : ℕ → Operand → PlainFrame → Option PlainFrame
-told dst (Immediate imm) f = tell dst f
-told dst (Register src) f = if dst == src then tell dst f else option_and_then (tell src) (tell dst f)
+unfoldable pub told : Precision → ℕ → Operand → PlainFrame → Option PlainFrame
+told precision dst (Immediate imm) f = tell precision dst f
+told precision dst (Register src) f = if dst == src then tell precision dst f else option_and_then (tell precision src) (tell precision dst f)

@@ -13,6 +13,7 @@ use Rattle.bpf_decode.specs.Instruction.{byte_count, signed_byte_count, Fits}
 use Rattle.bpf_decode.specs.Arithmetic.{neg_value, signed_move_value, end_value, is_taken, signed_load_value}
 use Rattle.bpf_decode.specs.Jump.{branch_to}
 use Rattle.bpf_decode.specs.Values.{extended, alu_values, mov_values}
+use Rattle.abstract_num.specs.declared.precision.Precision.{Precision}
 use Rattle.abstract_num.specs.Plain.{Plain, Holds}
 use Rattle.abstract_num.specs.Keeping as numbers
 use Rattle.abstract_regs.specs.Kind as kind
@@ -179,9 +180,9 @@ Allows room i f = Unit {0}
 
 -- What a frame held before an instruction, a frame along an edge holds after it. The frame's links have
 -- no names that the instruction gives.
-abbrev pub Keeps : Option ℕ → Plain → Insn → ℕ → PlainFrame → Type 0
-Keeps room answer i p f =
-    Fits i → Allows room i f → NamesBelow p f → (cs ds vs ws : List (Option Value)) (q : ℕ) → length f.slots ≡ length vs → HoldsEach f.registers cs → HoldsEach f.slots vs → HoldsLinks f cs vs → Moves room answer i p cs vs q ds ws → Reaches (flow room answer i p f) q ds ws
+abbrev pub Keeps : Precision → Option ℕ → Plain → Insn → ℕ → PlainFrame → Type 0
+Keeps precision room answer i p f =
+    Fits i → Allows room i f → NamesBelow p f → (cs ds vs ws : List (Option Value)) (q : ℕ) → length f.slots ≡ length vs → HoldsEach f.registers cs → HoldsEach f.slots vs → HoldsLinks f cs vs → Moves room answer i p cs vs q ds ws → Reaches (flow precision room answer i p f) q ds ws
 
 -- Each slot that w bytes reach is a number, or they are a slot that has a value.
 abbrev pub LoadIsKnown : List (Option Value) → Region → ℕ → ℕ → Type 0

@@ -2,7 +2,7 @@ ghost use Rattle.std.specs.Prelude.{◌≡◌};
 ghost use Rattle.abstract_num.specs.Plain.{view};
 ghost use Rattle.abstract_regs.specs.Kind.{access_fits, range_fits};
 
-use abstract_num::{Number, highest, offset_by};
+use abstract_num::{Number, Precision, highest, offset_by};
 
 /// True if all of the bytes at that distance from an offset are among the first `size`, by the
 /// upper bound of the sum, or if the sum has no number left.
@@ -10,7 +10,7 @@ use abstract_num::{Number, highest, offset_by};
 pub fn access_fits(at: Number, distance: u64, bytes: u64, size: u64) -> bool
     ensures { result ≡ access_fits (view at) distance bytes size }
 {
-    match offset_by(&at, distance) {
+    match offset_by(Precision::Whole, &at, distance) {
         // No number is left, so no run reaches the access: the rule of bounds doesn't refuse it,
         // and the edge after it stays live.
         None => true,

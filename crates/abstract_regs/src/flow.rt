@@ -4,6 +4,7 @@ ghost use Rattle.bpf_decode.specs.Instruction.{slot_count, byte_count};
 ghost use Rattle.bpf_decode.specs.Values.{extended};
 ghost use Rattle.abstract_num.specs.Plain.{view};
 ghost use Rattle.abstract_num.specs.Tighten.{tighten};
+ghost use Rattle.abstract_num.specs.declared.precision.Precision.{Precision};
 ghost use Rattle.abstract_num.specs.Transfer.{ranged, load_high};
 ghost use Rattle.abstract_regs.specs.Kind as plain;
 ghost use Rattle.abstract_regs.specs.Seen.{seen, seen_both};
@@ -18,7 +19,7 @@ ghost use Rattle.abstract_regs.specs.declared.kind.Kinds.{Kinds};
 use crate::edges::{Compared, Edges};
 use crate::frame::Frame;
 use crate::kind::{Kind, Kinds};
-use abstract_num::{Number, arithmetic, constant, keeping_laws, loaded, loaded_signed};
+use abstract_num::{Number, Precision, arithmetic, constant, keeping_laws, loaded, loaded_signed};
 use bpf_decode::{Arithmetic, Comparison, Insn, OpWidth, Operand, Register, Width, jump_target};
 
 /// True if a comparison is of a register with itself.
@@ -39,6 +40,7 @@ impl Frame {
     /// `fallen` gets the kinds along the second.
     pub fn flow(
         &mut self,
+        precision: Precision,
         room: Option<u8>,
         answer: &Number,
         insn: &Insn,
@@ -46,35 +48,35 @@ impl Frame {
         fallen: &mut Kinds,
     ) -> Edges
         requires { slot < 2 ^ 32 }
-        ensures table { flow room (view answer.now) insn.now slot self.old ≡ with_edges result fallen.new (slot + slot_count insn.now) self.new }
+        ensures table { flow precision room (view answer.now) insn.now slot self.old ≡ with_edges precision result fallen.new (slot + slot_count insn.now) self.new }
         // A frame along an edge holds after it the values that were held before it.
-        ensures keeps { Keeps room (view answer.now) insn.now slot self.old }
+        ensures keeps { Keeps precision room (view answer.now) insn.now slot self.old }
         ensures fits { EachFits self.old.registers }
     {
         // For the proof: the tables of numbers keep what is held, and the frame's numbers fit.
         keeping_laws();
         self.fits();
         self.relink(room, insn, slot as u32);
-        self.flow_on(room, answer, insn, slot, fallen)
+        self.flow_on(precision, room, answer, insn, slot, fallen)
     }
 
     /// The edges, with the links as they stand.
     #[rattlefmt::skip]
-    fn flow_on(&mut self, room: Option<u8>, answer: &Number, insn: &Insn, slot: usize, fallen: &mut Kinds) -> Edges
+    fn flow_on(&mut self, precision: Precision, room: Option<u8>, answer: &Number, insn: &Insn, slot: usize, fallen: &mut Kinds) -> Edges
         requires { slot < 2 ^ 62 }
-        ensures { edges_of room (view answer.now) insn.now slot self.old ≡ with_edges result fallen.new (slot + slot_count insn.now) self.new }
+        ensures { edges_of precision room (view answer.now) insn.now slot self.old ≡ with_edges precision result fallen.new (slot + slot_count insn.now) self.new }
     {
         match *insn {
             Insn::Alu { bits, operation, dst, source } => {
-                self.combine(bits, operation, dst, &source)
+                self.combine(precision, bits, operation, dst, &source)
             }
-            Insn::Neg { bits, dst } => self.compute(dst, self.at(dst).neg(bits)),
-            Insn::Mov { bits, dst, source } => self.compute(dst, self.operand(source).mov(bits)),
-            Insn::MovSigned { extension, dst, src } => self.compute(dst, self.at(src).mov_signed(extension)),
-            Insn::End { order, width, dst } => self.compute(dst, self.at(dst).end(order, width)),
+            Insn::Neg { bits, dst } => self.compute(dst, self.at(dst).neg(precision, bits)),
+            Insn::Mov { bits, dst, source } => self.compute(dst, self.operand(source).mov(precision, bits)),
+            Insn::MovSigned { extension, dst, src } => self.compute(dst, self.at(src).mov_signed(precision, extension)),
+            Insn::End { order, width, dst } => self.compute(dst, self.at(dst).end(precision, order, width)),
             Insn::LoadWide { dst, value } => self.keep(dst, Kind::Num(constant(value))),
-            Insn::Load { width, dst, base, offset } => self.keep(dst, self.loaded(width, base, offset)),
-            Insn::LoadSigned { width, dst, .. } => self.keep(dst, Kind::Num(loaded_signed(width))),
+            Insn::Load { width, dst, base, offset } => self.keep(dst, self.loaded(precision, width, base, offset)),
+            Insn::LoadSigned { width, dst, .. } => self.keep(dst, Kind::Num(loaded_signed(precision, width))),
             Insn::Store { width, base, offset, source } => {
                 self.store(base, i64::from(offset).cast_unsigned(), width.bytes(), source);
                 Edges::Falls
@@ -82,7 +84,7 @@ impl Frame {
             Insn::Jump { offset } => Edges::Jumps(jump_target(slot, i64::from(offset))),
             Insn::JumpLong { distance } => Edges::Jumps(jump_target(slot, i64::from(distance))),
             Insn::Branch { bits, comparison, dst, source, offset } => {
-                self.branch(bits, comparison, dst, &source, jump_target(slot, i64::from(offset)), fallen)
+                self.branch(precision, bits, comparison, dst, &source, jump_target(slot, i64::from(offset)), fallen)
             }
             Insn::Call { .. } => {
                 self.end_call(room, answer);
@@ -97,16 +99,18 @@ impl Frame {
     #[inline(always)]
     fn combine(
         &mut self,
+        precision: Precision,
         bits: OpWidth,
         operation: Arithmetic,
         dst: Register,
         source: &Operand,
     ) -> Edges
-        ensures { (next : ℕ) (kinds : Kinds) → computed next self.old dst (alu_kind bits operation (kind_at self.old dst) (operand_kind self.old source.now)) ≡ with_edges result kinds next self.new }
+        ensures { (next : ℕ) (kinds : Kinds) → computed next self.old dst (alu_kind precision bits operation (kind_at self.old dst) (operand_kind self.old source.now)) ≡ with_edges precision result kinds next self.new }
     {
         let made = match (self.peek(dst), source) {
             (Kind::Num(x), Operand::Immediate(imm)) => {
                 arithmetic(
+                    precision,
                     bits,
                     operation,
                     *x,
@@ -114,13 +118,13 @@ impl Frame {
                 )
             }
             (Kind::Num(x), Operand::Register(src)) => match self.peek(*src) {
-                Kind::Num(y) => arithmetic(bits, operation, *x, *y),
+                Kind::Num(y) => arithmetic(precision, bits, operation, *x, *y),
                 Kind::Unset | Kind::Ptr(_, _) => {
-                    return self.compute(dst, self.alu(bits, operation, dst, *source));
+                    return self.compute(dst, self.alu(precision, bits, operation, dst, *source));
                 }
             },
             (Kind::Unset | Kind::Ptr(_, _), _) => {
-                return self.compute(dst, self.alu(bits, operation, dst, *source));
+                return self.compute(dst, self.alu(precision, bits, operation, dst, *source));
             }
         };
         match made {
@@ -132,26 +136,35 @@ impl Frame {
     /// The kind that arithmetic gives which no rule refuses. None if no number is left.
     fn alu(
         &self,
+        precision: Precision,
         bits: OpWidth,
         operation: Arithmetic,
         dst: Register,
         source: Operand,
     ) -> Option<Kind>
-        ensures { option_map seen result ≡ alu_kind bits operation (kind_at self.now dst) (operand_kind self.now source) }
+        ensures { option_map seen result ≡ alu_kind precision bits operation (kind_at self.now dst) (operand_kind self.now source) }
     {
         match source {
             Operand::Immediate(_) => {
-                Kind::alu(bits, operation, self.peek(dst), &self.operand(source))
+                Kind::alu(
+                    precision,
+                    bits,
+                    operation,
+                    self.peek(dst),
+                    &self.operand(source),
+                )
             }
-            Operand::Register(src) => Kind::alu(bits, operation, self.peek(dst), self.peek(src)),
+            Operand::Register(src) => {
+                Kind::alu(precision, bits, operation, self.peek(dst), self.peek(src))
+            }
         }
     }
 
     /// The kind that a load gives: that of the known slot that it reads whole, or else a number of
     /// that many bytes.
     #[inline(always)]
-    fn loaded(&self, width: Width, base: Register, offset: i16) -> Kind
-        ensures { Some (seen result) ≡ loaded_kind (kept_kind self.now (kind_at self.now base) (extended offset) (byte_count width)) (option_map plain.Num (tighten (ranged 0 (load_high width)))) }
+    fn loaded(&self, precision: Precision, width: Width, base: Register, offset: i16) -> Kind
+        ensures { Some (seen result) ≡ loaded_kind (kept_kind self.now (kind_at self.now base) (extended offset) (byte_count width)) (option_map plain.Num (tighten precision (ranged 0 (load_high width)))) }
     {
         match self.slot(
             self.peek(base),
@@ -159,14 +172,14 @@ impl Frame {
             width.bytes(),
         ) {
             Some(kind) => kind,
-            None => Kind::Num(loaded(width)),
+            None => Kind::Num(loaded(precision, width)),
         }
     }
 
     /// Gives a register a kind, and goes on.
     #[inline(always)]
     fn keep(&mut self, dst: Register, kind: Kind) -> Edges
-        ensures { (next : ℕ) (kinds : Kinds) → computed next self.old dst (Some (seen kind)) ≡ with_edges result kinds next self.new }
+        ensures { (precision : Precision) (next : ℕ) (kinds : Kinds) → computed next self.old dst (Some (seen kind)) ≡ with_edges precision result kinds next self.new }
     {
         self.set(dst, kind);
         Edges::Falls
@@ -176,7 +189,7 @@ impl Frame {
     /// the instruction.
     #[inline(always)]
     fn compute(&mut self, dst: Register, kind: Option<Kind>) -> Edges
-        ensures { (next : ℕ) (kinds : Kinds) → computed next self.old dst (option_map seen kind) ≡ with_edges result kinds next self.new }
+        ensures { (precision : Precision) (next : ℕ) (kinds : Kinds) → computed next self.old dst (option_map seen kind) ≡ with_edges precision result kinds next self.new }
     {
         match kind {
             None => Edges::Leaves,
@@ -190,6 +203,7 @@ impl Frame {
     /// Both edges of a comparison.
     fn branch(
         &mut self,
+        precision: Precision,
         bits: OpWidth,
         comparison: Comparison,
         dst: Register,
@@ -197,14 +211,14 @@ impl Frame {
         target: usize,
         place: &mut Kinds,
     ) -> Edges
-        ensures { (next : ℕ) → edge_to target (along_edge bits comparison true dst source.now self.old) ++ edge_to next (along_edge bits comparison false dst source.now self.old) ≡ with_edges result place.new next self.new }
+        ensures { (next : ℕ) → edge_to target (along_edge precision bits comparison true dst source.now self.old) ++ edge_to next (along_edge precision bits comparison false dst source.now self.old) ≡ with_edges precision result place.new next self.new }
     {
         let same = is_same_register(dst, source);
         let x = self.at(dst);
         let y = self.compared(bits, source);
-        let taken = Kind::along(bits, comparison, true, same, &x, &y);
-        let fallen = Kind::along(bits, comparison, false, same, &x, &y);
-        self.fork(dst, source, target, taken, fallen, place)
+        let taken = Kind::along(precision, bits, comparison, true, same, &x, &y);
+        let fallen = Kind::along(precision, bits, comparison, false, same, &x, &y);
+        self.fork(precision, dst, source, target, taken, fallen, place)
     }
 
     /// Both edges, by the kinds that each leaves. If both are live, the place gets the kinds along
@@ -212,6 +226,7 @@ impl Frame {
     #[inline(always)]
     fn fork(
         &mut self,
+        precision: Precision,
         dst: Register,
         source: &Operand,
         target: usize,
@@ -219,14 +234,14 @@ impl Frame {
         fallen: Option<Kinds>,
         place: &mut Kinds,
     ) -> Edges
-        ensures { (next : ℕ) → edge_to target (option_and_then (told dst source.now) (option_map (with_both self.old dst source.now) (option_map seen_both taken))) ++ edge_to next (option_and_then (told dst source.now) (option_map (with_both self.old dst source.now) (option_map seen_both fallen))) ≡ with_edges result place.new next self.new }
+        ensures { (next : ℕ) → edge_to target (option_and_then (told precision dst source.now) (option_map (with_both self.old dst source.now) (option_map seen_both taken))) ++ edge_to next (option_and_then (told precision dst source.now) (option_map (with_both self.old dst source.now) (option_map seen_both fallen))) ≡ with_edges precision result place.new next self.new }
     {
         match taken {
             None => match fallen {
                 None => Edges::Leaves,
                 Some(kinds) => {
                     self.put_both(dst, source, kinds);
-                    if self.tell_both(dst, source) {
+                    if self.tell_both(precision, dst, source) {
                         Edges::Falls
                     } else {
                         Edges::Leaves
@@ -236,7 +251,7 @@ impl Frame {
             Some(kinds) => match fallen {
                 None => {
                     self.put_both(dst, source, kinds);
-                    if self.tell_both(dst, source) {
+                    if self.tell_both(precision, dst, source) {
                         Edges::Jumps(target)
                     } else {
                         Edges::Leaves

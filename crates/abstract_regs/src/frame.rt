@@ -12,7 +12,7 @@ use crate::link::Link;
 use crate::links::{free, join_links};
 use crate::slots::{fit_all, join_all, join_slots, meets, spoil, zeros};
 use crate::stack_span::{StackSpan, access_span, stack_place, stack_range, whole_slot};
-use abstract_num::{Number, between, constant};
+use abstract_num::{Number, Precision, between, constant};
 use bpf_decode::arithmetic::copied;
 use bpf_decode::{OpWidth, Operand, Region, Register};
 use std::alloc::{AllocError, Global};
@@ -43,18 +43,19 @@ impl Frame {
     /// each as the number 0. `places` registers and slots can be linked; none is.
     pub fn entry(
         alloc: Global,
+        precision: Precision,
         in_cap: u64,
         stack: u64,
         count: usize,
         places: usize,
     ) -> Result<Frame, AllocError>
-        ensures { IfOk result (λ f. f ≡ entry_frame in_cap stack count places) }
+        ensures { IfOk result (λ f. f ≡ entry_frame precision in_cap stack count places) }
     {
         let slots = zeros(alloc, count)?;
         let links = free(alloc, places)?;
         let mut registers = [Kind::Unset; 11];
         registers[1] = Kind::Ptr(Region::Input, constant(0));
-        registers[2] = Kind::Num(between(0, in_cap));
+        registers[2] = Kind::Num(between(precision, 0, in_cap));
         registers[3] = Kind::Ptr(Region::Output, constant(0));
         registers[10] = Kind::Ptr(Region::Stack, constant(stack));
         Ok(Frame {

@@ -6,7 +6,7 @@ ghost use Rattle.abstract_num.specs.Plain.{view};
 ghost use Rattle.abstract_regs.specs.Kind.{same_num, both_nums, is_unset, is_num, is_ptr, same_region, join_kind, alu_kind, neg_kind, mov_kind, signed_move_kind, end_kind, along_kinds};
 
 use abstract_num::{
-    Number, arithmetic, copied, join, negative, ordered, refine, sign_extended, tighten,
+    Number, Precision, arithmetic, copied, join, negative, ordered, refine, sign_extended, tighten,
 };
 use bpf_decode::{Arithmetic, ByteOrder, Comparison, EndWidth, OpWidth, Region, SignedMove};
 
@@ -95,13 +95,13 @@ impl Kind {
     /// The kind that arithmetic gives which no rule refuses. None if no number is left.
     #[rattlefmt::skip]
     #[inline(always)]
-    pub(crate) fn alu(bits: OpWidth, operation: Arithmetic, x: &Kind, y: &Kind) -> Option<Kind>
-        ensures { option_map seen result ≡ alu_kind bits operation (seen x.now) (seen y.now) }
+    pub(crate) fn alu(precision: Precision, bits: OpWidth, operation: Arithmetic, x: &Kind, y: &Kind) -> Option<Kind>
+        ensures { option_map seen result ≡ alu_kind precision bits operation (seen x.now) (seen y.now) }
     {
         match (x, y) {
-            (Kind::Num(a), Kind::Num(b)) => Kind::number(arithmetic(bits, operation, *a, *b)),
-            (Kind::Ptr(r, a), Kind::Num(b)) => Kind::pointer(*r, arithmetic(bits, operation, *a, *b)),
-            (Kind::Num(a), Kind::Ptr(r, b)) => Kind::pointer(*r, arithmetic(bits, operation, *a, *b)),
+            (Kind::Num(a), Kind::Num(b)) => Kind::number(arithmetic(precision, bits, operation, *a, *b)),
+            (Kind::Ptr(r, a), Kind::Num(b)) => Kind::pointer(*r, arithmetic(precision, bits, operation, *a, *b)),
+            (Kind::Num(a), Kind::Ptr(r, b)) => Kind::pointer(*r, arithmetic(precision, bits, operation, *a, *b)),
             (Kind::Ptr(_, _), Kind::Ptr(_, _)) => Some(Kind::Unset),
             (Kind::Unset, _) => Some(Kind::Unset),
             (Kind::Num(_) | Kind::Ptr(_, _), Kind::Unset) => Some(Kind::Unset),
@@ -110,23 +110,23 @@ impl Kind {
 
     /// The negative of a number.
     #[inline(always)]
-    pub(crate) fn neg(self, bits: OpWidth) -> Option<Kind>
-        ensures { option_map seen result ≡ neg_kind bits (seen self) }
+    pub(crate) fn neg(self, precision: Precision, bits: OpWidth) -> Option<Kind>
+        ensures { option_map seen result ≡ neg_kind precision bits (seen self) }
     {
         match self {
-            Kind::Num(a) => Kind::number(negative(bits, a)),
+            Kind::Num(a) => Kind::number(negative(precision, bits, a)),
             Kind::Unset | Kind::Ptr(_, _) => Some(Kind::Unset),
         }
     }
 
     /// A copy: of a pointer in 64 bits alone.
     #[inline(always)]
-    pub(crate) fn mov(self, bits: OpWidth) -> Option<Kind>
-        ensures { option_map seen result ≡ mov_kind bits (seen self) }
+    pub(crate) fn mov(self, precision: Precision, bits: OpWidth) -> Option<Kind>
+        ensures { option_map seen result ≡ mov_kind precision bits (seen self) }
     {
         match self {
             Kind::Unset => Some(Kind::Unset),
-            Kind::Num(a) => Kind::number(copied(bits, a)),
+            Kind::Num(a) => Kind::number(copied(precision, bits, a)),
             Kind::Ptr(r, a) => match bits {
                 OpWidth::Bits64 => Some(Kind::Ptr(r, a)),
                 OpWidth::Bits32 => Some(Kind::Unset),
@@ -136,27 +136,28 @@ impl Kind {
 
     /// A copy of a number with sign extension.
     #[inline(always)]
-    pub(crate) fn mov_signed(self, extension: SignedMove) -> Option<Kind>
-        ensures { option_map seen result ≡ signed_move_kind extension (seen self) }
+    pub(crate) fn mov_signed(self, precision: Precision, extension: SignedMove) -> Option<Kind>
+        ensures { option_map seen result ≡ signed_move_kind precision extension (seen self) }
     {
         match self {
-            Kind::Num(a) => Kind::number(sign_extended(extension, a)),
+            Kind::Num(a) => Kind::number(sign_extended(precision, extension, a)),
             Kind::Unset | Kind::Ptr(_, _) => Some(Kind::Unset),
         }
     }
 
     /// A number's low bits in a byte order.
-    pub(crate) fn end(self, order: ByteOrder, width: EndWidth) -> Option<Kind>
-        ensures { option_map seen result ≡ end_kind order width (seen self) }
+    pub(crate) fn end(self, precision: Precision, order: ByteOrder, width: EndWidth) -> Option<Kind>
+        ensures { option_map seen result ≡ end_kind precision order width (seen self) }
     {
         match self {
-            Kind::Num(a) => Kind::number(ordered(order, width, a)),
+            Kind::Num(a) => Kind::number(ordered(precision, order, width, a)),
             Kind::Unset | Kind::Ptr(_, _) => Some(Kind::Unset),
         }
     }
 
     /// Refines both kinds of a comparison along an edge; `same` says that both are of one register.
     pub(crate) fn along(
+        precision: Precision,
         bits: OpWidth,
         comparison: Comparison,
         taken: bool,
@@ -164,15 +165,15 @@ impl Kind {
         x: &Kind,
         y: &Kind,
     ) -> Option<Kinds>
-        ensures { option_map seen_both result ≡ along_kinds bits comparison taken same (seen x.now) (seen y.now) }
+        ensures { option_map seen_both result ≡ along_kinds precision bits comparison taken same (seen x.now) (seen y.now) }
     {
         match (x, y) {
             (Kind::Num(a), Kind::Num(b)) => {
                 if same {
                     // A register compared with itself is told nothing: both edges stay live.
-                    Kind::twice(tighten(*a))
+                    Kind::twice(tighten(precision, *a))
                 } else {
-                    Kind::both(refine(bits, comparison, taken, *a, *b))
+                    Kind::both(refine(precision, bits, comparison, taken, *a, *b))
                 }
             }
             (Kind::Unset, _) => Some(Kinds {

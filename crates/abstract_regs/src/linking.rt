@@ -15,7 +15,7 @@ use crate::link::{Form, Link, is_ones};
 use crate::links::{link_in, unlink};
 use crate::stack_span::{StackSpan, access_span, stack_place, whole_slot};
 use crate::telling::tell_kinds;
-use abstract_num::Number;
+use abstract_num::{Number, Precision};
 use bpf_decode::arithmetic::copied;
 use bpf_decode::{Arithmetic, Insn, OpWidth, Operand, Register, SignedMove};
 
@@ -351,35 +351,41 @@ impl Frame {
 
     /// What the registers of a comparison know along an edge of `Edges::Forks`, they tell the places
     /// with links of the same names. False if no value is left of one: the edge is dead.
-    pub fn tell(&mut self, compared: &Compared) -> bool
-        ensures { heard self.old compared.now ≡ if_live result self.new }
+    pub fn tell(&mut self, precision: Precision, compared: &Compared) -> bool
+        ensures { heard precision self.old compared.now ≡ if_live result self.new }
     {
-        self.tell_both(compared.dst, &compared.source)
+        self.tell_both(precision, compared.dst, &compared.source)
     }
 
     /// The same, by the registers.
     #[tactic(auto, unfolding(crate::specs::Links::told))]
-    pub(crate) fn tell_both(&mut self, dst: Register, source: &Operand) -> bool
-        ensures { told dst source.now self.old ≡ if_live result self.new }
+    pub(crate) fn tell_both(
+        &mut self,
+        precision: Precision,
+        dst: Register,
+        source: &Operand,
+    ) -> bool
+        ensures { told precision dst source.now self.old ≡ if_live result self.new }
     {
         match *source {
-            Operand::Immediate(_) => self.tell_from(dst),
+            Operand::Immediate(_) => self.tell_from(precision, dst),
             Operand::Register(src) => {
-                self.tell_from(dst) && (dst.number() == src.number() || self.tell_from(src))
+                self.tell_from(precision, dst)
+                    && (dst.number() == src.number() || self.tell_from(precision, src))
             }
         }
     }
 
     /// A register that is linked tells its number.
     #[tactic(auto, unfolding(crate::specs::Links::tell))]
-    fn tell_from(&mut self, register: Register) -> bool
-        ensures { tell register self.old ≡ if_live result self.new }
+    fn tell_from(&mut self, precision: Precision, register: Register) -> bool
+        ensures { tell precision register self.old ≡ if_live result self.new }
     {
         let place = usize::from(register.number());
         let link = self.link(place);
         if link.form.is_linked() {
             match self.at(register) {
-                Kind::Num(z) => self.tell_all(z, link, place),
+                Kind::Num(z) => self.tell_all(precision, z, link, place),
                 Kind::Unset | Kind::Ptr(_, _) => true,
             }
         } else {
@@ -388,10 +394,25 @@ impl Frame {
     }
 
     /// A number tells the kinds of all places but its own.
-    fn tell_all(&mut self, z: Number, link: Link, from: usize) -> bool
-        ensures { tell_all (view z) link from self.old ≡ if_live result self.new }
+    fn tell_all(&mut self, precision: Precision, z: Number, link: Link, from: usize) -> bool
+        ensures { tell_all precision (view z) link from self.old ≡ if_live result self.new }
     {
-        tell_kinds(z, link, from, &self.links, 0, &mut self.registers)
-            && tell_kinds(z, link, from, &self.links, FIRST_SLOT, &mut self.slots)
+        tell_kinds(
+            precision,
+            z,
+            link,
+            from,
+            &self.links,
+            0,
+            &mut self.registers,
+        ) && tell_kinds(
+            precision,
+            z,
+            link,
+            from,
+            &self.links,
+            FIRST_SLOT,
+            &mut self.slots,
+        )
     }
 }

@@ -6,7 +6,7 @@ ghost use Rattle.abstract_regs.specs.Kind.{last_place};
 ghost use Rattle.abstract_regs.specs.Slots.{stack_place, stack_range, access_span, range_span, whole_slot};
 
 use crate::kind::Kind;
-use abstract_num::{Number, offset_by};
+use abstract_num::{Number, Precision, offset_by};
 use bpf_decode::Region;
 use std::marker::Model;
 
@@ -54,7 +54,7 @@ pub(crate) fn stack_place(kind: &Kind, distance: u64) -> Option<Number>
     ensures { option_map view result ≡ stack_place (seen kind.now) distance }
 {
     match kind {
-        Kind::Ptr(Region::Stack, at) => offset_by(at, distance),
+        Kind::Ptr(Region::Stack, at) => offset_by(Precision::Whole, at, distance),
         Kind::Ptr(Region::Input | Region::Output, _) => None,
         Kind::Unset | Kind::Num(_) => None,
     }

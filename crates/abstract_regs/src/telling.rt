@@ -1,56 +1,110 @@
 ghost use Rattle.std.specs.Prelude.{◌≡◌, ◌≤◌, ◌+◌, ◌<◌, ◌^◌, Some, true, MatchOption};
 ghost use Rattle.std.specs.Option.{option_map};
+ghost use Rattle.std.specs.Int.{int_shr};
 ghost use Rattle.abstract_num.specs.Plain.{view, Gives};
 ghost use Rattle.abstract_regs.specs.Edged.{left_kinds};
-ghost use Rattle.abstract_regs.specs.Links.{apart, at_distance, met_number, tell_whole, tell_half, told_number, told_kind, is_named, told_kinds};
+ghost use Rattle.abstract_regs.specs.Links.{apart, at_distance, met_number, tell_whole, half_told, met_half, tell_half, told_number, told_kind, is_named, told_kinds};
 ghost use Rattle.abstract_regs.specs.Link as plain;
 ghost use Rattle.abstract_regs.specs.Seen.{seen, seen_each};
 
 use crate::kind::Kind;
 use crate::link::{Form, Link};
 use crate::links::link_in;
-use abstract_num::{Number, keeping_laws, offset_by, refine};
+use abstract_num::{
+    Half, Number, Precision, Product, any, keeping_laws, offset_by, refine, tighten,
+};
 use bpf_decode::{Comparison, OpWidth};
 
 /// The number at a distance from another. None if no number is left.
-fn at_distance(z: Number, distance: u64) -> Option<Number>
-    ensures { Gives (at_distance (view z) distance) result }
+fn at_distance(precision: Precision, z: Number, distance: u64) -> Option<Number>
+    ensures { Gives (at_distance precision (view z) distance) result }
 {
     if distance == 0 {
         Some(z)
     } else {
-        offset_by(&z, distance)
+        offset_by(precision, &z, distance)
     }
 }
 
 /// What is left of a number that is equal to another.
-fn met(t: Number, z: Number) -> Option<Number>
-    ensures { Gives (met_number (view t) (view z)) result }
+fn met(precision: Precision, t: Number, z: Number) -> Option<Number>
+    ensures { Gives (met_number precision (view t) (view z)) result }
 {
-    match refine(OpWidth::Bits64, Comparison::Equal, true, t, z) {
+    match refine(precision, OpWidth::Bits64, Comparison::Equal, true, t, z) {
         None => None,
         Some((number, _)) => Some(number),
     }
 }
 
 /// What is left of a number that is at a distance from another.
-fn tell_whole(z: Number, distance: u64, t: Number) -> Option<Number>
-    ensures { Gives (tell_whole (view z) distance (view t)) result }
+fn tell_whole(precision: Precision, z: Number, distance: u64, t: Number) -> Option<Number>
+    ensures { Gives (tell_whole precision (view z) distance (view t)) result }
 {
     // For the proof: the code's numbers are below `2^64`.
     keeping_laws();
-    match at_distance(z, distance) {
+    match at_distance(precision, z, distance) {
         None => None,
-        Some(moved) => met(t, moved),
+        Some(moved) => met(precision, t, moved),
     }
 }
 
-/// What is left of a number whose low half comes from another, which is in that form.
+/// The upper half of a signed number.
 #[inline(always)]
-fn tell_half(_form: Form, _z: Number, t: Number) -> Option<Number>
-    ensures { Gives (tell_half _form (view _z) (view t)) result }
+fn upper_half(n: i64) -> i32
+    ensures { result ≡ int_shr n 32 }
 {
-    Some(t)
+    (n >> 32) as i32
+}
+
+/// What a number, in a form, tells of the low half of the number that its link names.
+fn half_told(form: Form, z: Number) -> (i32, i32)
+    ensures { result ≡ half_told form (view z) }
+{
+    let all = any().half();
+    match form {
+        Form::Unlinked => (all.low, all.high),
+        Form::Whole | Form::Low => (z.half().low, z.half().high),
+        Form::Up => (upper_half(z.signed().low), upper_half(z.signed().high)),
+        Form::Sign => {
+            if z.unsigned().high == 0 {
+                (0, i32::MAX)
+            } else if z.unsigned().low >= 1 {
+                (i32::MIN, -1)
+            } else {
+                (all.low, all.high)
+            }
+        }
+    }
+}
+
+/// What is left of a number whose low half lies between two ends.
+fn met_half(precision: Precision, t: Number, told: (i32, i32)) -> Option<Number>
+    ensures { Gives (met_half precision (view t) told) result }
+{
+    let low = t.half().low.max(told.0);
+    let high = t.half().high.min(told.1);
+    if high < low {
+        return None;
+    }
+    let number = Product {
+        first: t.unsigned(),
+        second: Product {
+            first: t.signed(),
+            second: Product {
+                first: t.bits(),
+                second: Half { low, high },
+            },
+        },
+    };
+    tighten(precision, number)
+}
+
+/// What is left of a number whose low half is that of the number that a link names, if another, in that
+/// form, is `z`.
+fn tell_half(precision: Precision, form: Form, z: Number, t: Number) -> Option<Number>
+    ensures { Gives (tell_half precision form (view z) (view t)) result }
+{
+    met_half(precision, t, half_told(form, z))
 }
 
 /// How far the second distance is above the first, modulo `2^64`.
@@ -62,25 +116,25 @@ fn apart(first: u64, second: u64) -> u64
 }
 
 /// What is left of a number linked by `m`, if another with the same name is `z`, linked by `l`.
-fn told_number(z: Number, l: Link, m: Link, t: Number) -> Option<Number>
-    ensures { Gives (told_number (view z) l m (view t)) result }
+fn told_number(precision: Precision, z: Number, l: Link, m: Link, t: Number) -> Option<Number>
+    ensures { Gives (told_number precision (view z) l m (view t)) result }
 {
     let distance = apart(l.distance, m.distance);
     if l.form.is_whole() && m.form.is_whole() {
-        tell_whole(z, distance, t)
+        tell_whole(precision, z, distance, t)
     } else if distance == 0 && m.form.has_low() {
-        tell_half(l.form, z, t)
+        tell_half(precision, l.form, z, t)
     } else {
         Some(t)
     }
 }
 
 /// What is left of a place's kind.
-fn told_kind(z: Number, l: Link, m: Link, kind: Kind) -> Option<Kind>
-    ensures { option_map seen result ≡ told_kind (view z) l m (seen kind) }
+fn told_kind(precision: Precision, z: Number, l: Link, m: Link, kind: Kind) -> Option<Kind>
+    ensures { option_map seen result ≡ told_kind precision (view z) l m (seen kind) }
 {
     match kind {
-        Kind::Num(t) => match told_number(z, l, m, t) {
+        Kind::Num(t) => match told_number(precision, z, l, m, t) {
             None => None,
             Some(number) => Some(Kind::Num(number)),
         },
@@ -99,6 +153,7 @@ fn is_named(l: Link, from: usize, place: usize, m: Link) -> bool
 /// Lets the number `z`, linked by `l`, tell the kinds of the places from `first` on, except its own,
 /// `from`. False if no value is left of one.
 pub(crate) fn tell_kinds(
+    precision: Precision,
     z: Number,
     l: Link,
     from: usize,
@@ -107,13 +162,13 @@ pub(crate) fn tell_kinds(
     kinds: &mut [Kind],
 ) -> bool
     requires { first ≤ 11 }
-    ensures { told_kinds (view z) l from links.now first (seen_each kinds.old) ≡ left_kinds result (seen_each kinds.new) }
+    ensures { told_kinds precision (view z) l from links.now first (seen_each kinds.old) ≡ left_kinds result (seen_each kinds.new) }
 {
     for i in 0..kinds.len() {
         let place = first + i;
         let link = link_in(links, place);
         if is_named(l, from, place, link) {
-            match told_kind(z, l, link, kinds[i]) {
+            match told_kind(precision, z, l, link, kinds[i]) {
                 None => return false,
                 Some(kind) => kinds[i] = kind,
             }

@@ -24,10 +24,10 @@ returns-in-None c =
     let a = c.index-kinds-i.result in
     let lx = c.loop-i.invariant.long in
     let lt : i < length xs = omega (arith, lx) in
-    told_dead z l from ls (seen_each c.args.kinds.now) c.args.first i xs a lt c.loop-i.invariant.told
-    (cond-true (is_named l from at (link_in ls at)) (told_kind z l (link_in ls at) (seen (get_or xs i a))) (Some (seen (get_or xs i a))) (sym (ap (is_named l from at) c.link_in-link.ensures) ∙ sym c.is_named.ensures ∙ c.if-is_named.true)
-    ∙ ap (told_kind z l (link_in ls at)) (sym (ap seen c.index-kinds-i.is))
-    ∙ sym (ap (λ m. told_kind z l m (seen a)) c.link_in-link.ensures)
+    told_dead c.args.precision z l from ls (seen_each c.args.kinds.now) c.args.first i xs a lt c.loop-i.invariant.told
+    (cond-true (is_named l from at (link_in ls at)) (told_kind c.args.precision z l (link_in ls at) (seen (get_or xs i a))) (Some (seen (get_or xs i a))) (sym (ap (is_named l from at) c.link_in-link.ensures) ∙ sym c.is_named.ensures ∙ c.if-is_named.true)
+    ∙ ap (told_kind c.args.precision z l (link_in ls at)) (sym (ap seen c.index-kinds-i.is))
+    ∙ sym (ap (λ m. told_kind c.args.precision z l m (seen a)) c.link_in-link.ensures)
     ∙ sym c.told_kind.ensures ∙ ap (option_map seen) c.in-None.is)
 
 pub loop-i-preserved : goal.loop-i-preserved
@@ -47,18 +47,18 @@ loop-i-preserved c =
           let a = w.index-kinds-i.result in
           record {
             long = ap length w.kinds-is ∙ length-set xs i w.in-Some.kind ∙ lx;
-            told = told_more z l from ls all c.args.first i xs c.if-is_named.kinds a w.in-Some.kind lt c.loop-i.invariant.told
-                (cond-true (is_named l from at (link_in ls at)) (told_kind z l (link_in ls at) (seen (get_or xs i a))) (Some (seen (get_or xs i a))) (sym (ap (is_named l from at) c.link_in-link.ensures) ∙ sym c.is_named.ensures ∙ w.if-is_named.true)
-                ∙ ap (told_kind z l (link_in ls at)) (sym (ap seen w.index-kinds-i.is))
-                ∙ sym (ap (λ m. told_kind z l m (seen a)) c.link_in-link.ensures)
+            told = told_more c.args.precision z l from ls all c.args.first i xs c.if-is_named.kinds a w.in-Some.kind lt c.loop-i.invariant.told
+                (cond-true (is_named l from at (link_in ls at)) (told_kind c.args.precision z l (link_in ls at) (seen (get_or xs i a))) (Some (seen (get_or xs i a))) (sym (ap (is_named l from at) c.link_in-link.ensures) ∙ sym c.is_named.ensures ∙ w.if-is_named.true)
+                ∙ ap (told_kind c.args.precision z l (link_in ls at)) (sym (ap seen w.index-kinds-i.is))
+                ∙ sym (ap (λ m. told_kind c.args.precision z l m (seen a)) c.link_in-link.ensures)
                 ∙ sym w.told_kind.ensures ∙ ap (option_map seen) w.in-Some.is) w.kinds-is;
           }
       | else-is_named w ↦
           let a : Kind = get_or xs i code.Unset in
           record {
             long = ap length w.kinds-is ∙ lx;
-            told = told_more z l from ls all c.args.first i xs c.if-is_named.kinds code.Unset a lt c.loop-i.invariant.told
-                (cond-false (is_named l from at (link_in ls at)) (told_kind z l (link_in ls at) (seen a)) (Some (seen a)) (sym (ap (is_named l from at) c.link_in-link.ensures) ∙ sym c.is_named.ensures ∙ w.if-is_named.false))
+            told = told_more c.args.precision z l from ls all c.args.first i xs c.if-is_named.kinds code.Unset a lt c.loop-i.invariant.told
+                (cond-false (is_named l from at (link_in ls at)) (told_kind c.args.precision z l (link_in ls at) (seen a)) (Some (seen a)) (sym (ap (is_named l from at) c.link_in-link.ensures) ∙ sym c.is_named.ensures ∙ w.if-is_named.false))
                 (w.kinds-is ∙ sym (set-get_or xs i code.Unset));
           }
     ]
@@ -68,4 +68,4 @@ returns c =
     let xs = c.loop-i.kinds in
     let lx = c.loop-i.invariant.long in
     let past : length xs ≤ c.loop-i.i = omega (arith, lx) in
-    told_all (view c.args.z) c.args.l c.args.from c.args.links.now (seen_each c.args.kinds.now) c.args.first c.loop-i.i xs past c.loop-i.invariant.told
+    told_all c.args.precision (view c.args.z) c.args.l c.args.from c.args.links.now (seen_each c.args.kinds.now) c.args.first c.loop-i.i xs past c.loop-i.invariant.told

@@ -18,4 +18,4 @@ returns-clause-keeps c =
       signed_loads = law.signed_loads;
       tighten = law.tighten;
       edges = law.edges;
-    }) c.args.self.now c.fits.ensures.fits c.fits.ensures.eleven c.args.room (view c.args.answer.now) c.args.insn.now c.args.slot
+    }) c.args.precision c.args.self.now c.fits.ensures.fits c.fits.ensures.eleven c.args.room (view c.args.answer.now) c.args.insn.now c.args.slot
