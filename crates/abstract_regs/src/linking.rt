@@ -5,22 +5,19 @@ ghost use Rattle.abstract_regs.specs.Frame.{kind_at, operand_kind, room_span, wi
 ghost use Rattle.abstract_regs.specs.Slots.{stack_place, access_span};
 ghost use Rattle.abstract_regs.specs.Link.{no_link, link_in, unlinked};
 ghost use Rattle.abstract_regs.specs.Links as plain;
-ghost use Rattle.abstract_regs.specs.Links.{is_touched, is_clobbered, taken, is_short, constant_of, alu_link, computed_link, accessed_slot, copied_link, halved_link, moved_links, extended_links, loaded_links, stored_links, relinked, tell_all, tell, told};
-ghost use Rattle.abstract_regs.specs.Edged.{if_live, heard, is_told};
+ghost use Rattle.abstract_regs.specs.Links.{is_touched, is_clobbered, taken, is_short, constant_of, alu_link, computed_link, accessed_slot, copied_link, halved_link, moved_links, extended_links, loaded_links, stored_links, relinked};
 
-use crate::edges::Compared;
 use crate::frame::Frame;
 use crate::kind::Kind;
 use crate::link::{Form, Link, is_ones};
 use crate::links::{link_in, unlink};
 use crate::stack_span::{StackSpan, access_span, stack_place, whole_slot};
-use crate::telling::tell_kinds;
-use abstract_num::{Number, Precision};
+use abstract_num::Number;
 use bpf_decode::arithmetic::copied;
 use bpf_decode::{Arithmetic, Insn, OpWidth, Operand, Register, SignedMove};
 
 /// The place of the first slot, after those of the registers.
-const FIRST_SLOT: usize = 11;
+pub(crate) const FIRST_SLOT: usize = 11;
 
 /// The link of a place whose number the instruction at a slot copies. A number that has none gets one;
 /// what isn't a number gives none.
@@ -163,7 +160,7 @@ impl Frame {
 
     /// The link of a place.
     #[inline(always)]
-    fn link(&self, place: usize) -> Link
+    pub(crate) fn link(&self, place: usize) -> Link
         ensures { result ≡ link_in self.now.links place }
     {
         link_in(&self.links, place)
@@ -333,86 +330,5 @@ impl Frame {
         let span = self.room_span(room);
         unlink(&mut self.links, 0, 6);
         self.free_span(span);
-    }
-
-    /// True if a register of a comparison is linked.
-    #[inline(always)]
-    pub(crate) fn is_told(&self, dst: Register, source: &Operand) -> bool
-        ensures { result ≡ is_told self.now dst source.now }
-    {
-        let first = self.link(usize::from(dst.number())).form;
-        match *source {
-            Operand::Immediate(_) => first.is_linked(),
-            Operand::Register(src) => {
-                first.is_linked() || self.link(usize::from(src.number())).form.is_linked()
-            }
-        }
-    }
-
-    /// What the registers of a comparison know along an edge of `Edges::Forks`, they tell the places
-    /// with links of the same names. False if no value is left of one: the edge is dead.
-    pub fn tell(&mut self, precision: Precision, compared: &Compared) -> bool
-        ensures { heard precision self.old compared.now ≡ if_live result self.new }
-    {
-        self.tell_both(precision, compared.dst, &compared.source)
-    }
-
-    /// The same, by the registers.
-    #[tactic(auto, unfolding(crate::specs::Links::told))]
-    pub(crate) fn tell_both(
-        &mut self,
-        precision: Precision,
-        dst: Register,
-        source: &Operand,
-    ) -> bool
-        ensures { told precision dst source.now self.old ≡ if_live result self.new }
-    {
-        match *source {
-            Operand::Immediate(_) => self.tell_from(precision, dst),
-            Operand::Register(src) => {
-                self.tell_from(precision, dst)
-                    && (dst.number() == src.number() || self.tell_from(precision, src))
-            }
-        }
-    }
-
-    /// A register that is linked tells its number.
-    #[tactic(auto, unfolding(crate::specs::Links::tell))]
-    fn tell_from(&mut self, precision: Precision, register: Register) -> bool
-        ensures { tell precision register self.old ≡ if_live result self.new }
-    {
-        let place = usize::from(register.number());
-        let link = self.link(place);
-        if link.form.is_linked() {
-            match self.at(register) {
-                Kind::Num(z) => self.tell_all(precision, z, link, place),
-                Kind::Unset | Kind::Ptr(_, _) => true,
-            }
-        } else {
-            true
-        }
-    }
-
-    /// A number tells the kinds of all places but its own.
-    fn tell_all(&mut self, precision: Precision, z: Number, link: Link, from: usize) -> bool
-        ensures { tell_all precision (view z) link from self.old ≡ if_live result self.new }
-    {
-        tell_kinds(
-            precision,
-            z,
-            link,
-            from,
-            &self.links,
-            0,
-            &mut self.registers,
-        ) && tell_kinds(
-            precision,
-            z,
-            link,
-            from,
-            &self.links,
-            FIRST_SLOT,
-            &mut self.slots,
-        )
     }
 }

@@ -2,18 +2,21 @@ ghost use Rattle.std.specs.Prelude.{◌≡◌, ◌≤◌, ◌+◌, ◌<◌, ◌^
 ghost use Rattle.std.specs.Option.{option_map};
 ghost use Rattle.std.specs.Int.{int_shr};
 ghost use Rattle.abstract_num.specs.Plain.{view, Gives};
-ghost use Rattle.abstract_regs.specs.Edged.{left_kinds};
-ghost use Rattle.abstract_regs.specs.Links.{apart, at_distance, met_number, tell_whole, half_told, met_half, tell_half, told_number, told_kind, is_named, told_kinds};
+ghost use Rattle.abstract_regs.specs.Edged.{left_kinds, if_live, heard, is_told};
+ghost use Rattle.abstract_regs.specs.Links.{apart, at_distance, met_number, tell_whole, half_told, met_half, tell_half, told_number, told_kind, is_named, told_kinds, tell_all, tell, told};
 ghost use Rattle.abstract_regs.specs.Link as plain;
 ghost use Rattle.abstract_regs.specs.Seen.{seen, seen_each};
 
+use crate::edges::Compared;
+use crate::frame::Frame;
 use crate::kind::Kind;
 use crate::link::{Form, Link};
+use crate::linking::FIRST_SLOT;
 use crate::links::link_in;
 use abstract_num::{
     Half, Number, Precision, Product, any, keeping_laws, offset_by, refine, tighten,
 };
-use bpf_decode::{Comparison, OpWidth};
+use bpf_decode::{Comparison, OpWidth, Operand, Register};
 
 /// The number at a distance from another. None if no number is left.
 fn at_distance(precision: Precision, z: Number, distance: u64) -> Option<Number>
@@ -152,7 +155,7 @@ fn is_named(l: Link, from: usize, place: usize, m: Link) -> bool
 
 /// Lets the number `z`, linked by `l`, tell the kinds of the places from `first` on, except its own,
 /// `from`. False if no value is left of one.
-pub(crate) fn tell_kinds(
+fn tell_kinds(
     precision: Precision,
     z: Number,
     l: Link,
@@ -175,4 +178,87 @@ pub(crate) fn tell_kinds(
         }
     }
     true
+}
+
+impl Frame {
+    /// True if a register of a comparison is linked.
+    #[inline(always)]
+    pub(crate) fn is_told(&self, dst: Register, source: &Operand) -> bool
+        ensures { result ≡ is_told self.now dst source.now }
+    {
+        let first = self.link(usize::from(dst.number())).form;
+        match *source {
+            Operand::Immediate(_) => first.is_linked(),
+            Operand::Register(src) => {
+                first.is_linked() || self.link(usize::from(src.number())).form.is_linked()
+            }
+        }
+    }
+
+    /// What the registers of a comparison know along an edge of `Edges::Forks`, they tell the places
+    /// with links of the same names. False if no value is left of one: the edge is dead.
+    pub fn tell(&mut self, precision: Precision, compared: &Compared) -> bool
+        ensures { heard precision self.old compared.now ≡ if_live result self.new }
+    {
+        self.tell_both(precision, compared.dst, &compared.source)
+    }
+
+    /// The same, by the registers.
+    #[tactic(auto, unfolding(crate::specs::Links::told))]
+    pub(crate) fn tell_both(
+        &mut self,
+        precision: Precision,
+        dst: Register,
+        source: &Operand,
+    ) -> bool
+        ensures { told precision dst source.now self.old ≡ if_live result self.new }
+    {
+        match *source {
+            Operand::Immediate(_) => self.tell_from(precision, dst),
+            Operand::Register(src) => {
+                self.tell_from(precision, dst)
+                    && (dst.number() == src.number() || self.tell_from(precision, src))
+            }
+        }
+    }
+
+    /// A register that is linked tells its number.
+    #[tactic(auto, unfolding(crate::specs::Links::tell))]
+    fn tell_from(&mut self, precision: Precision, register: Register) -> bool
+        ensures { tell precision register self.old ≡ if_live result self.new }
+    {
+        let place = usize::from(register.number());
+        let link = self.link(place);
+        if link.form.is_linked() {
+            match self.at(register) {
+                Kind::Num(z) => self.tell_all(precision, z, link, place),
+                Kind::Unset | Kind::Ptr(_, _) => true,
+            }
+        } else {
+            true
+        }
+    }
+
+    /// A number tells the kinds of all places but its own.
+    fn tell_all(&mut self, precision: Precision, z: Number, link: Link, from: usize) -> bool
+        ensures { tell_all precision (view z) link from self.old ≡ if_live result self.new }
+    {
+        tell_kinds(
+            precision,
+            z,
+            link,
+            from,
+            &self.links,
+            0,
+            &mut self.registers,
+        ) && tell_kinds(
+            precision,
+            z,
+            link,
+            from,
+            &self.links,
+            FIRST_SLOT,
+            &mut self.slots,
+        )
+    }
 }
