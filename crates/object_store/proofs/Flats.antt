@@ -1,7 +1,7 @@
 -- Lemmas on the bytes of extents.
 use Rattle.std.proofs.Common.{◌≡◌, ℕ, zero, suc, ◌⊎◌, inl, inr, length-drop, ◌+◌, ◌-◌, ◌<◌, ◌≤◌, min, List, [], ◌∷◌, ◌++◌, length, take, drop, replicate, get_or, refl, ap, sym, ◌∙◌, append_assoc, arith, length-append}
 use Rattle.std.proofs.lemmas.Bool.Decides.{leb_tells}
-use Rattle.std.proofs.lemmas.List.{drop-drop, take_at, drop_at, length-take, length-replicate, append-nil, take-append-drop, take_more, take-append-le, drop-append-le}
+use Rattle.std.proofs.lemmas.List.{drop-drop, take_at, drop_at, length-take, length-replicate, append-nil, take-append-drop, take_more, take-append-le, drop-append-le, replicate-append-replicate}
 use Rattle.std.proofs.Math.Seq.{take-add, take-append-add, drop-append-add, take-nil}
 use Rattle.std.proofs.Math.ListN.{drop_of_length-le}
 use Rattle.object_store.proofs.Splice.{spliced_some}
@@ -235,3 +235,13 @@ resized_is xs len kept from others m all ef low eo em ea =
     ∙ ap (λ w. take from (flat xs) ++ w) (em ∙ append-nil _ ∙ append-nil _)
     ∙ sym (append_assoc (take from (flat xs)) (cut from len (flat xs)) z)
     ∙ ap (λ l. l ++ z) (front_parts from len (flat xs) low)
+
+pub zeros_more : (a b c : ℕ) → a + b ≡ c → ◌≡◌ {A = List ℕ} (replicate a 0 ++ replicate b 0) (replicate c 0)
+zeros_more a b c e = replicate-append-replicate a b 0 ∙ ap (λ n. replicate n 0) e
+
+-- an extension in two steps
+pub resized_twice : (s : List ℕ) (near len : ℕ) → length s ≤ near → near ≤ len → resized s near ++ replicate (len - near) 0 ≡ resized s len
+resized_twice s near len low high =
+    append_assoc (take near s) (replicate (near - length s) 0) (replicate (len - near) 0)
+    ∙ ap (λ l. take near s ++ l) (zeros_more (near - length s) (len - near) (len - length s) (omega (arith, low, high)))
+    ∙ ap (λ l. l ++ replicate (len - length s) 0) (take_whole s near low ∙ sym (take_whole s len (omega (arith, low, high))))

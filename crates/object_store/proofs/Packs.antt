@@ -94,6 +94,14 @@ few [] p = omega arith
 few (x ∷ []) p = omega (arith, length-append x [], p.0)
 few (x ∷ y ∷ xs) p = omega (arith, length-append x (flat (y ∷ xs)), p.2 (omega arith), few (y ∷ xs) p.3)
 
+-- packed extents whose bytes fill a number of extents are full
+pub filled-full : (xs : List (List ℕ)) (n : ℕ) → ArePacked xs → length (flat xs) ≡ n * EXTENT_LIMIT → AreFull xs
+filled-full [] n p e = tt
+filled-full (x ∷ []) n p e = (omega (arith, length-append x [], p.0, p.1, e), tt)
+filled-full (x ∷ y ∷ xs) n p e =
+    let first : length x ≡ EXTENT_LIMIT = p.2 (omega arith) in
+    (first, filled-full (y ∷ xs) (n - 1) p.3 (omega (arith, length-append x (flat (y ∷ xs)), some_bytes_left (y ∷ xs) p.3 (omega arith), e)))
+
 apart : (x y a b : List ℕ) → length x ≡ length y → x ++ a ≡ y ++ b → (x ≡ y) × (a ≡ b)
 apart [] [] a b e h = (refl, h)
 apart [] (z ∷ y) a b e h = absurd (omega arith)

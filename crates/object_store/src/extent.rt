@@ -62,7 +62,7 @@ impl Extent {
         })
     }
 
-    /// True if another list has it too.
+    /// True if it stands in another place too: in another list or, of zeros, in the same.
     pub(crate) fn is_shared(&self) -> bool {
         Arc::strong_count(&self.content) > 1
     }

@@ -13,8 +13,8 @@ use std::marker::Model;
 use std::sync::Arc;
 
 /// Data in extents of 1 to 4,096 bytes, as few as it needs, which never change once they are made:
-/// a copy costs one pointer, and a write copies the extents that it touches and shares the others.
-/// Contracts see the bytes.
+/// a copy costs one pointer, a write copies the extents that it touches and shares the others, and
+/// all full extents of a gap are one extent of zeros, shared. Contracts see the bytes.
 #[derive(Drop)]
 pub struct ExtentData {
     parts: Option<Arc<Vec<Extent>>>,
@@ -176,7 +176,8 @@ impl ExtentData {
         most
     }
 
-    /// The number of its extents that another list has too.
+    /// The number of its extents that stand in another place too: in other data or, of zeros, in
+    /// the same.
     pub fn shared_count(&self) -> usize {
         let mut count = 0usize;
         for part in self.parts() {

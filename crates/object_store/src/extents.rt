@@ -22,20 +22,62 @@ pub(crate) fn with_text(
     ensures bytes { IfOk result (λ v. flat v.items ≡ spliced (flat parts.now) at text.now) }
     ensures packed { IfOk result (λ v. ArePacked v.items) }
 {
+    if at <= len {
+        return with_text_within(alloc, parts, at, text);
+    }
+    let longer = with_len(alloc, parts, len, at)?;
+    with_text_within(alloc, &longer, at, text)
+}
+
+/// The same where the text leaves no gap after the bytes.
+fn with_text_within(
+    alloc: Global,
+    parts: &[Extent],
+    at: usize,
+    text: &[u8],
+) -> Result<Vec<Extent>, AllocError>
+    requires len { (at ≤ length (flat parts.now)) × (length (flat parts.now) ≤ 65536) }
+    requires text { 0 < length text.now }
+    requires end { at + length text.now ≤ 65536 }
+    requires packed { ArePacked parts.now }
+    ensures bytes { IfOk result (λ v. flat v.items ≡ spliced (flat parts.now) at text.now) }
+    ensures packed { IfOk result (λ v. ArePacked v.items) }
+{
     let (kept, from) = before(parts, at);
     let (_, rest) = parts.split_at(kept);
     let low = at - from;
     let end = low + text.len();
     let (count, to) = past(rest, end);
     let (old, _) = rest.split_at(count);
-    let gap = at.saturating_sub(len);
     // A text that ends past the old data leaves no old bytes after it: hence `end.min(to)`.
-    let middle = touched(alloc, old, (0, low), gap, text, (end.min(to), to))?;
+    let middle = touched(alloc, old, (0, low), 0, text, (end.min(to), to))?;
     replaced(alloc, parts, kept, middle, kept + count)
 }
 
 /// The extents of the bytes cut, or extended with zeros, to a length.
 pub(crate) fn with_len(
+    alloc: Global,
+    parts: &[Extent],
+    len: usize,
+    new_len: usize,
+) -> Result<Vec<Extent>, AllocError>
+    requires len { (len ≡ length (flat parts.now)) × (len ≤ 65536) }
+    requires end { new_len ≤ 65536 }
+    requires packed { ArePacked parts.now }
+    ensures bytes { IfOk result (λ v. flat v.items ≡ resized (flat parts.now) new_len) }
+    ensures packed { IfOk result (λ v. ArePacked v.items) }
+{
+    // Zeros fill the last extent first; those past it stand in extents of their own.
+    let near = new_len.min(parts.len() * EXTENT_LIMIT);
+    let mut all = with_near_len(alloc, parts, len, near)?;
+    if near < new_len {
+        push_zeros(alloc, &mut all, new_len - near)?;
+    }
+    Ok(all)
+}
+
+/// The same, of a length that needs at most one new extent.
+fn with_near_len(
     alloc: Global,
     parts: &[Extent],
     len: usize,
@@ -240,6 +282,33 @@ fn push_bytes(alloc: Global, parts: &mut Vec<Extent>, bytes: Vec<u8>) -> Result<
         return push_cut(alloc, parts, &bytes);
     }
     push_extent(alloc, parts, bytes)
+}
+
+/// Adds zeros in new extents. The full ones are one extent, shared: it is made and zeroed once.
+fn push_zeros(alloc: Global, parts: &mut Vec<Extent>, more: usize) -> Result<(), AllocError>
+    requires full { AreFull parts.old.items }
+    requires more { (1 ≤ more) × (more ≤ 65536) }
+    ensures bytes { OnOk result (flat parts.new.items ≡ flat parts.old.items ++ replicate more 0) }
+    ensures packed { OnOk result (ArePacked parts.new.items) }
+{
+    let full = more / EXTENT_LIMIT;
+    let zeros = zeros(alloc, more.min(EXTENT_LIMIT))?;
+    parts.reserve(full + 1)?;
+    for _ in 0..full {
+        parts.push(zeros.share()?)?;
+    }
+    let bytes: &[u8] = zeros.bytes();
+    push_cut(alloc, parts, &bytes[..more % EXTENT_LIMIT])
+}
+
+/// An extent of zeros.
+fn zeros(alloc: Global, len: usize) -> Result<Extent, AllocError>
+    requires { (1 ≤ len) × (len ≤ EXTENT_LIMIT) }
+    ensures { IfOk result (λ e. e ≡ replicate len 0) }
+{
+    let mut bytes = Vec::with_capacity(alloc, len)?;
+    append_zeros(&mut bytes, len)?;
+    Extent::new(alloc, bytes)
 }
 
 /// Adds extents of copied bytes, each full but the last.

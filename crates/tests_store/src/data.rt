@@ -23,7 +23,7 @@ const SIX: [Step; 6] = [Put(0, b"a"), Put(1, b"b"), Put(2, b"c"), Put(3, b"d"), 
 const LAST_REFUSED: [Step; 6] = [Put(0, b"a"), Put(1, b"b"), Put(2, b"c"), Put(3, b"d"), Put(4, b"e"), Cut(65_537)];
 
 #[rattlefmt::skip]
-static ROWS: [Row; 12] = [
+static ROWS: [Row; 14] = [
     (&[], None, 10, 0, b"0123456789"),
     (&[Put(2, b"ab")], None, 10, 0, b"01ab456789"),
     (&[Put(9, b"abc")], None, 12, 7, b"78abc"),
@@ -31,6 +31,8 @@ static ROWS: [Row; 12] = [
     (&[Put(4_094, b"abcd")], None, 4_098, 4_094, b"abcd"),
     (&[Put(4_094, b"abcd"), Cut(4_095), Cut(4_098)], None, 4_098, 4_094, b"a\0\0\0"),
     (&[Cut(65_536), Put(65_535, b"z")], None, 65_536, 65_535, b"z"),
+    (&[Cut(12_288), Put(4_096, b"z")], None, 12_288, 8_190, b"\0\0\0\0\0\0\0\0"),
+    (&[Put(12_289, b"z"), Put(8_192, b"y")], None, 12_290, 12_286, b"\0\0\0z"),
     (&[Put(0, b"lost"), Put(65_536, b"z"), Cut(0)], Some(DataError::TooBig), 10, 0, b"0123456789"),
     (&[Put(u64::MAX, b"z")], Some(DataError::TooBig), 10, 8, b"89"),
     (&[Cut(65_537)], Some(DataError::TooBig), 10, 8, b"89"),
@@ -154,4 +156,34 @@ fn a_write_shares_what_it_does_not_touch(rt: HostRuntime) {
     let stays = holds(&old, 65_536, 4_999, &[7; 16]);
     drop(old);
     assert!(rt; shared == (15, 1) && stays);
+}
+
+/// Data of 65,536 zeros, all in one hole.
+fn hole<R: Abort>(rt: &R, alloc: Global) -> ExtentData {
+    let mut data = ExtentData::new();
+    data.truncate(alloc, 65_536).expect(rt, "memory");
+    data
+}
+
+/// True if the second extent's place begins with these bytes, and each other extent's with zeros.
+fn has_in_second(data: &ExtentData, bytes: &[u8]) -> bool {
+    for place in 0..16 {
+        let expected = if place == 1 { bytes } else { &[0; 16] };
+        if !holds(data, 65_536, place * 4_096, expected) {
+            return false;
+        }
+    }
+    true
+}
+
+#[test]
+fn a_write_into_a_hole_leaves_the_others_zero(rt: HostRuntime) {
+    let mut data = hole(&rt, rt.alloc());
+    let before = data.shared_count();
+    data.write(rt.alloc(), 4_096, &[7; 16])
+        .expect(&rt, "memory");
+    let after = data.shared_count();
+    let right = has_in_second(&data, &[7; 16]);
+    drop(data);
+    assert!(rt; (before, after) == (16, 15) && right);
 }

@@ -3,7 +3,7 @@ use Rattle.std.proofs.lemmas.Result.{IfOk-weaker}
 use Rattle.object_store.specs.Extents.{flat, cut}
 use Rattle.object_store.proofs.Flats.{flat-halves, length-flat-take, length-flat-drop, touched_is, spliced_laid}
 use Rattle.object_store.proofs.Packs.{packed-drop, fills}
-use Rattle.object_store.proofs.extents.with_text.Goals as goal
+use Rattle.object_store.proofs.extents.with_text_within.Goals as goal
 
 pub past-count-requires : goal.past-count-requires
 past-count-requires c =
@@ -30,16 +30,16 @@ replaced-requires-clause-seam c =
     let p = flat (take count rest) in
     let whole : length (flat xs) ≡ length (flat (take kept xs)) + length (flat rest) =
     sym (ap length (flat-halves xs kept)) ∙ length-append (flat (take kept xs)) (flat rest) in
-    let em : c.in_ok-middle.middle.items ≡ ((cut 0 (at - from) p ++ replicate c.saturating_sub-gap.result 0) ++ text) ++ cut (min (at - from + length text) to) to p =
+    let em : c.in_ok-middle.middle.items ≡ ((cut 0 (at - from) p ++ replicate 0 0) ++ text) ++ cut (min (at - from + length text) to) to p =
     c.in_ok-middle.ensures
-    ∙ ap (λ l. ((cut 0 (at - from) (flat l) ++ replicate c.saturating_sub-gap.result 0) ++ text) ++ cut c.min.result to (flat l)) (c.split_at-2.ensures.front ∙ ap (take count) b)
-    ∙ ap (λ n. ((cut 0 (at - from) p ++ replicate c.saturating_sub-gap.result 0) ++ text) ++ cut n to p) c.min.ensures in
-    fills rest count (at - from) c.saturating_sub-gap.result (at - from + length text) to text c.in_ok-middle.middle.items
+    ∙ ap (λ l. ((cut 0 (at - from) (flat l) ++ replicate 0 0) ++ text) ++ cut c.min.result to (flat l)) (c.split_at-2.ensures.front ∙ ap (take count) b)
+    ∙ ap (λ n. ((cut 0 (at - from) p ++ replicate 0 0) ++ text) ++ cut n to p) c.min.ensures in
+    fills rest count (at - from) 0 (at - from + length text) to text c.in_ok-middle.middle.items
     (packed-drop xs kept c.requires.packed) (omega (arith, h, length-drop kept xs))
     (c.past-count.ensures.1 ∙ ap (λ l. length (flat (take count l))) b)
     (omega (arith, c.past-count.ensures.2, ap (λ l. length (flat l)) b))
     refl
-    (λ e. omega (arith, e, c.saturating_sub-gap.ensures, c.requires.len.0, whole, c.before-kept.ensures.place.1, c.before-kept.ensures.place.2))
+    (λ e. refl)
     em
 
 pub returns-clause-bytes : goal.returns-clause-bytes
@@ -54,10 +54,11 @@ returns-clause-bytes c =
     let b = c.split_at.ensures.back in
     let p = flat (take count (drop kept xs)) in
     let m = c.in_ok-middle.middle.items in
+    let none : 0 ≡ at - length (flat xs) = omega arith in
     let em : m ≡ ((cut 0 (at - from) p ++ replicate (at - length (flat xs)) 0) ++ text) ++ cut (min (at - from + length text) to) to p =
     c.in_ok-middle.ensures
-    ∙ ap (λ l. ((cut 0 (at - from) (flat l) ++ replicate c.saturating_sub-gap.result 0) ++ text) ++ cut c.min.result to (flat l)) (c.split_at-2.ensures.front ∙ ap (take count) b)
-    ∙ ap (λ n. ((cut 0 (at - from) p ++ replicate n 0) ++ text) ++ cut c.min.result to p) (c.saturating_sub-gap.ensures ∙ ap (λ n. at - n) c.requires.len.0)
+    ∙ ap (λ l. ((cut 0 (at - from) (flat l) ++ replicate 0 0) ++ text) ++ cut c.min.result to (flat l)) (c.split_at-2.ensures.front ∙ ap (take count) b)
+    ∙ ap (λ n. ((cut 0 (at - from) p ++ replicate n 0) ++ text) ++ cut c.min.result to p) none
     ∙ ap (λ n. ((cut 0 (at - from) p ++ replicate (at - length (flat xs)) 0) ++ text) ++ cut n to p) c.min.ensures in
     IfOk-weaker c.replaced.result _ _
     (λ v is. touched_is xs at text kept from count to m (flat v.items) c.before-kept.ensures.place.1 c.before-kept.ensures.place.2
