@@ -13,7 +13,7 @@ ghost use Rattle.verifier.specs.Kind.{range_is_read_only};
 use crate::advice::{Advice, Last, LongRange, OutsideAccess};
 use crate::read::{count_registers, first_read, sets, unsets};
 use crate::ways::Read;
-use abstract_num::{Number, arithmetic, constant};
+use abstract_num::{Number, Precision, arithmetic, constant};
 use abstract_regs::{Content, Frame, Kind, range_fits};
 use bpf_decode::{Arithmetic, Insn, Method, OpWidth, Region, RuleSet, width};
 use bpf_machine::Caps;
@@ -121,7 +121,13 @@ fn access_advice(
         Kind::Unset => None,
         Kind::Num(_) => Some(Advice::NoPlace(register)),
         Kind::Ptr(region, at) => {
-            let place = arithmetic(OpWidth::Bits64, Arithmetic::Add, at, constant(distance))?;
+            let place = arithmetic(
+                Precision::Whole,
+                OpWidth::Bits64,
+                Arithmetic::Add,
+                at,
+                constant(distance),
+            )?;
             Some(Advice::Outside(OutsideAccess {
                 register,
                 is_moved: moves(&at),

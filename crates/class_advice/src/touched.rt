@@ -11,7 +11,7 @@ ghost use Rattle.helpers.specs.Table.{signature_of};
 
 use crate::known::push_kind;
 use crate::read::count_registers;
-use abstract_num::{Number, arithmetic, constant};
+use abstract_num::{Number, Precision, arithmetic, constant};
 use abstract_regs::{Frame, Kind};
 use bpf_decode::{Arithmetic, Insn, OpWidth, Region};
 use helpers::{Argument, signature};
@@ -33,7 +33,13 @@ fn access_touches(kind: Kind, distance: u64, bytes: usize, slot: u64) -> bool
 {
     match kind {
         Kind::Ptr(Region::Stack, at) => {
-            match arithmetic(OpWidth::Bits64, Arithmetic::Add, at, constant(distance)) {
+            match arithmetic(
+                Precision::Whole,
+                OpWidth::Bits64,
+                Arithmetic::Add,
+                at,
+                constant(distance),
+            ) {
                 None => false,
                 Some(place) => are_in(place.first.low, place.first.high, bytes as u64, slot),
             }
