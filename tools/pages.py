@@ -130,9 +130,13 @@ def code_of(lines):
 
 def try_rules(pages):
     """docs/VERIFIER.md: each example is refused at its marked line, by its section's rule, and
-    accepted with what stands after `instead`."""
+    accepted with what stands after `instead`. Those before the rules are accepted by rule set 3 alone."""
     pages.on("docs/VERIFIER.md", pages.work)
-    sections = re.split(r"^### ", pages.text.partition("\n## Numbers")[0], flags=re.M)[1:]
+    before, *sections = re.split(r"^### ", pages.text.partition("\n## Numbers")[0], flags=re.M)
+    for block in (it for it in blocks(before) if it[0] == ".rules 3"):
+        text = whole(block, [])
+        pages.is_read(text, "", "radoscls verify -")
+        pages.is_read(text.replace(".rules 3", ".rules 2"), r"refused method 0 slot \d+: 1[03] \w+\n", "radoscls verify -")
     for section in sections:
         rule = section.partition("\n")[0]
         for block in blocks(section):
