@@ -15,7 +15,7 @@ use Rattle.bpf_machine.specs.Safe.{caps_of, EndsAlways, EndsAlwaysIsSafe}
 use Rattle.verifier.specs.inner.Pass.{IsSpaced, AllSound}
 use Rattle.verifier.specs.Verified.{IsVerified}
 use Rattle.verifier.specs.Verdict.{method_verdict}
-use Rattle.verifier.proofs.Runs.{ends_at_exit, entry_is_held}
+use Rattle.verifier.proofs.Runs.{ends_at_exit, none_named, entry_is_held}
 use Rattle.verifier.proofs.Memory.{Laws}
 
 length-slots : (is : List Insn) → length (slots is) ≡ slot_total is
@@ -49,7 +49,7 @@ first_begins : (is : List Insn) → 1 ≤ slot_total is → (i : Insn) × (fetch
 first_begins [] h = absurd (omega arith)
 first_begins (i ∷ is) h = (i, refl)
 
-pub slots_small : (m : ClassMethod) → IsMethod m → length (slots m.instructions) < 2 ^ 62
+pub slots_small : (m : ClassMethod) → IsMethod m → length (slots m.instructions) < 2 ^ 32
 slots_small m ok = let long = length-slots m.instructions in omega (arith, ok.slots)
 
 -- no instruction begins within another
@@ -78,7 +78,7 @@ ends_always laws rules m ok sound clear object caller input call =
     let sizes : AreCapacities (caps_of m) = record { input = ok.in_cap; output = ok.out_cap } in
     let first = first_begins m.instructions ok.some_slot in
     let s = typed_entry (caps_of m) object caller input in
-    ends_at_exit laws (caps_of m) rules m.instructions sound ok.fit (slots_small m ok) clear object s first.0 refl first.1
+    ends_at_exit laws (caps_of m) rules m.instructions sound ok.fit (none_named laws rules (caps_of m) sizes) (omega (arith, slots_small m ok)) clear object s first.0 refl first.1
     (entry_is_held laws rules (caps_of m) sizes object caller input call.within_limits call.client call.short call.bytes)
 
 pub accept : EndsAlwaysIsSafe → Laws → (rules : RuleSet) (m : ClassMethod) → IsMethod m → AllSound rules (caps_of m) (slots m.instructions) → method_verdict rules m ≡ None → IsVerified m

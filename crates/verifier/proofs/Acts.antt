@@ -29,13 +29,12 @@ use Rattle.bpf_machine.specs.State.{le_value, size, set_reg, go}
 use Rattle.bpf_machine.specs.Typed.{Typed, operand_value, locate, typed_after, typed_act, typed_exit_of}
 use Rattle.bpf_machine.specs.Slots.{slot_values}
 use Rattle.abstract_regs.specs.Kind.{PlainKind, Unset, Num, Ptr, is_unset, is_ptr}
-use Rattle.abstract_regs.specs.declared.content.Content.TheVariants.{Nothing}
 use Rattle.abstract_regs.specs.Frame.{PlainFrame, kind_at, operand_kind, kept_kind}
 use Rattle.abstract_regs.specs.Moves.{value_at, Reached, IsNumber, IsSlot, LoadIsKnown, Moves, KindFits, EachFits}
 use Rattle.abstract_regs.specs.Laws.{AccessesFit}
 use Rattle.verifier.specs.Kind.{stays, is_read_only}
 use Rattle.verifier.specs.Frame.{IsWithin, Holds}
-use Rattle.verifier.specs.Rules.{load_meets, operand_is_unset, room_of}
+use Rattle.verifier.specs.Rules.{operand_is_unset, room_of}
 use Rattle.verifier.specs.Answers.{answer_of}
 use Rattle.verifier.proofs.Allowed.{when_left, allowed}
 use Rattle.verifier.proofs.Holding.{HoldsValue, read, value_is, operand_is, not_ptr_is_num, numbered, form_of, number_of, operand_read, operand_is_set, computes, copies, extended_small16, not_false}

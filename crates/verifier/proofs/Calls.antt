@@ -1,7 +1,7 @@
 -- A helper's call that no rule refuses has its arguments, and what it leaves is what its frame
 -- says.
 use Rattle.std.proofs.Common.{◌≡◌, ℕ, zero, suc, ◌+◌, ◌%◌, ◌^◌, ◌<◌, ◌≤◌, List, [], ◌∷◌, Option, Some, None, Bool, true, false, refl, ap, ◌∙◌, sym, subst, arith, length, inl, inr, ⊎_elim}
-use Rattle.std.specs.Prelude.{◌-◌, ◌⊎◌, min, ◌==◌, ◌&&◌, ◌||◌, not, nat_le, if◌then◌else◌, is_some, slice_get, unwrap_or}
+use Rattle.std.specs.Prelude.{◌-◌, min, ◌==◌, ◌&&◌, ◌||◌, not, nat_le, if◌then◌else◌, is_some, slice_get, unwrap_or}
 use Rattle.std.specs.List.{AllByRecursion}
 use Rattle.std.proofs.lemmas.Bool.{eqb-false, leb-true, le-leb, false≢true, cond-true}
 use Rattle.std.specs.Option.{option_map}
@@ -37,7 +37,7 @@ use Rattle.verifier.specs.Kind.{is_at_most, range_leaves, range_is_read_only}
 use Rattle.abstract_regs.specs.Frame.{PlainFrame, or_unset, kind_at}
 use Rattle.abstract_regs.specs.Moves.{value_at, Reached, IsNumber, Overwritten, KindFits, EachFits}
 use Rattle.abstract_regs.specs.Laws.{RangesAreKnown}
-use Rattle.verifier.specs.Frame.{IsMemory, IsWithin, Holds}
+use Rattle.verifier.specs.Frame.{precision_of, IsMemory, IsWithin, Holds}
 use Rattle.verifier.specs.Rules.{range_meets, has_fault, some_fault, takes_of, taken_fault, call_fault, room_in, room_of_takes, room_of, writes_object}
 use Rattle.verifier.specs.Answers.{greatest_of, longest, text_in, most_of, ranged_answer, helper_answer, answer_of}
 use Rattle.verifier.proofs.Holding.{not_false, HoldsValue, Read, read, value_is, num_is_set, ptr_is_set, numbered}
@@ -368,12 +368,12 @@ module _ (laws : Laws) (rules : RuleSet) (caps : Caps) (known : ℕ) (few : know
       any_holds : numbers.Holds any (done g.given).answer
       any_holds = laws.any (done g.given).answer small
 
-      in_range : (o : Option AnswerRange) → answer_range_of helper ≡ o → numbers.Holds (ranged_answer f (Some takes) o) (done g.given).answer
+      in_range : (o : Option AnswerRange) → answer_range_of helper ≡ o → numbers.Holds (ranged_answer (precision_of Three) f (Some takes) o) (done g.given).answer
       in_range None e = any_holds
       in_range (Some r) e =
           let range = laws.answers helper r s.object (asked g.given) e (h.within).object g.small in
           let errno = errno_is_small helper r e in
-          answers_hold laws.any laws.tighten r.errno (most_of f takes.arguments r.most) (done g.given).answer errno small
+          answers_hold laws.any laws.tighten (precision_of Three) r.errno (most_of f takes.arguments r.most) (done g.given).answer errno small
           (λ most is.
           let le = within_limit f takes.arguments g.given g.room_short g.text_short r.most most is in
           ⊎_elim (λ (below : (done g.given).answer ≤ limit_of (asked g.given) r.most). inl (omega (arith, below, le))) (λ (negative : 2 ^ 64 - r.errno ≤ (done g.given).answer). inr negative) range.side)
@@ -382,7 +382,7 @@ module _ (laws : Laws) (rules : RuleSet) (caps : Caps) (known : ℕ) (few : know
       by_set One = any_holds
       by_set Two = any_holds
       by_set Three =
-          subst (λ (o : Option Takes). numbers.Holds (ranged_answer f o (answer_range_of helper)) (done g.given).answer) (sym sig) (in_range (answer_range_of helper) refl)
+          subst (λ (o : Option Takes). numbers.Holds (ranged_answer (precision_of Three) f o (answer_range_of helper)) (done g.given).answer) (sym sig) (in_range (answer_range_of helper) refl)
 
   -- a call that no rule refuses is made
   pub call_made : not (is_some (takes_of rules helper)) ≡ false → call_fault rules caps f NotSet helper ≡ false → call_fault rules caps f OutOfRegion helper ≡ false → call_fault rules caps f ReadOnly helper ≡ false → call_fault rules caps f WrongKind helper ≡ false → call_fault rules caps f HasPointer helper ≡ false → (writes_object (takes_of rules helper) && not caps.writes) ≡ false → Made rules known caps f helper s

@@ -14,11 +14,13 @@ use Rattle.bpf_machine.specs.declared.caps.Caps.{Caps}
 use Rattle.bpf_machine.specs.Typed.{fetch}
 use Rattle.verifier.specs.declared.rule.Rule.{Rule}
 use Rattle.abstract_regs.specs.Frame.{PlainFrame, kind_at, with_kind, join, after_call, after_store, operand_kind, HoldsEach}
-use Rattle.abstract_regs.specs.Flow.{target, edge_to, computed, along_edge, flow}
+use Rattle.abstract_regs.specs.Links.{relinked}
+use Rattle.abstract_regs.specs.Flow.{target, edge_to, computed, along_edge, edges_of, flow}
 use Rattle.abstract_num.specs.Plain.{Plain, constant}
 use Rattle.abstract_regs.specs.Kind.{PlainKind, Num}
-use Rattle.abstract_regs.specs.Moves.{Among}
+use Rattle.abstract_regs.specs.Moves.{Among, HoldsLinks}
 use Rattle.abstract_regs.specs.Laws.{JoinsHold}
+use Rattle.verifier.specs.Frame.{precision_of}
 use Rattle.verifier.specs.Rules.{begins_at, rule_at, room_of}
 use Rattle.verifier.specs.Answers.{answer_of}
 use Rattle.verifier.specs.Verdict.{Table, frame_at, joined, met, along, unless_refused, flow_from, incoming, whole_table}
@@ -35,21 +37,23 @@ pub record Meets (inflow : Option PlainFrame) (cs vs : List (Option Value)) : Ty
   pub is : inflow ≡ Some frame
   pub holds : HoldsEach frame.registers cs
   pub slots : HoldsEach frame.slots vs
+  pub links : HoldsLinks frame cs vs
 
 -- a frame is true of both
 pub record Both (f : PlainFrame) (cs vs : List (Option Value)) : Type 0 where
   pub holds : HoldsEach f.registers cs
   pub slots : HoldsEach f.slots vs
+  pub links : HoldsLinks f cs vs
 
 module _ (law : JoinsHold) where
   meets_joined : (inflow : Option PlainFrame) (g : PlainFrame) (cs vs : List (Option Value)) → Both g cs vs → Both (joined inflow g) cs vs
   meets_joined None g cs vs h = h
-  meets_joined (Some f) g cs vs h = let both = law f g in record { holds = both.right cs h.holds; slots = both.slots_right vs h.slots }
+  meets_joined (Some f) g cs vs h = let both = law f g in record { holds = both.right cs h.holds; slots = both.slots_right vs h.slots; links = both.links_right cs vs h.links }
 
   meets_kept : (inflow : Option PlainFrame) (g : PlainFrame) (cs vs : List (Option Value)) → Meets inflow cs vs → Meets (Some (joined inflow g)) cs vs
   meets_kept inflow g cs vs h =
       let both = law h.frame g in
-      record { frame = join h.frame g; is = ap (λ o. Some (joined o g)) h.is; holds = both.left cs h.holds; slots = both.slots_left vs h.slots }
+      record { frame = join h.frame g; is = ap (λ o. Some (joined o g)) h.is; holds = both.left cs h.holds; slots = both.slots_left vs h.slots; links = both.links_left cs vs h.links }
 
   -- a flow along an edge is joined in
   one_meets : (a q : ℕ) (g : PlainFrame) (inflow : Option PlainFrame) (cs vs : List (Option Value)) → Both g cs vs → q ≡ a → Meets (met a g q inflow) cs vs
@@ -60,6 +64,7 @@ module _ (law : JoinsHold) where
         is = cond-true (a == q) (Some (joined inflow g)) inflow (eq-eqb a q (sym e));
         holds = all.holds;
         slots = all.slots;
+        links = all.links;
       }
 
   -- and one along another edge leaves what is there
@@ -84,10 +89,10 @@ module _ (law : JoinsHold) (rules : RuleSet) (caps : Caps) (code : List (Option 
   flow_keeps : (p q : ℕ) (o : Option Insn) (frame inflow : Option PlainFrame) (cs vs : List (Option Value)) → Meets inflow cs vs → Meets (flow_from rules caps code p q o frame inflow) cs vs
   flow_keeps p q None frame inflow cs vs h = h
   flow_keeps p q (Some i) None inflow cs vs h = h
-  flow_keeps p q (Some i) (Some f) inflow cs vs h = unless_keeps (rule_at rules caps code p i (Some f)) (along (flow (room_of i) (answer_of rules f i) i p f) q inflow) inflow cs vs (along_keeps law (flow (room_of i) (answer_of rules f i) i p f) q inflow cs vs h) h
+  flow_keeps p q (Some i) (Some f) inflow cs vs h = unless_keeps (rule_at rules caps code p i (Some f)) (along (flow (precision_of rules) (room_of i) (answer_of rules f i) i p f) q inflow) inflow cs vs (along_keeps law (flow (precision_of rules) (room_of i) (answer_of rules f i) i p f) q inflow cs vs h) h
 
   -- the flow from slot p is in what the slots below n bring to q, where p is below n
-  flowed : (table : Table) (p q : ℕ) (i : Insn) (f g : PlainFrame) (cs vs : List (Option Value)) → fetch code p ≡ Some i → frame_at table p ≡ Some f → rule_at rules caps code p i (Some f) ≡ None → Both g cs vs → Among q g (flow (room_of i) (answer_of rules f i) i p f) → (n : ℕ) → p < n → Meets (incoming rules caps code table q n) cs vs
+  flowed : (table : Table) (p q : ℕ) (i : Insn) (f g : PlainFrame) (cs vs : List (Option Value)) → fetch code p ≡ Some i → frame_at table p ≡ Some f → rule_at rules caps code p i (Some f) ≡ None → Both g cs vs → Among q g (flow (precision_of rules) (room_of i) (answer_of rules f i) i p f) → (n : ℕ) → p < n → Meets (incoming rules caps code table q n) cs vs
   flowed table p q i f g cs vs at is none h to zero lt = absurd (omega arith)
   flowed table p q i f g cs vs at is none h to (suc n) lt =
       ⊎_elim (λ less. flow_keeps n q (fetch code n) (frame_at table n) (incoming rules caps code table q n) cs vs (flowed table p q i f g cs vs at is none h to n less))
@@ -98,10 +103,10 @@ module _ (law : JoinsHold) (rules : RuleSet) (caps : Caps) (code : List (Option 
           let inflow = incoming rules caps code table q p in
           subst (λ o. Meets o cs vs) (sym (ap (λ o. flow_from rules caps code p q o (frame_at table p) inflow) at
           ∙ ap (λ f. flow_from rules caps code p q (Some i) f inflow) is
-          ∙ ap (λ r. unless_refused r (along (flow (room_of i) (answer_of rules f i) i p f) q inflow) inflow) none)) (along_meets law (flow (room_of i) (answer_of rules f i) i p f) q g inflow cs vs h to)
+          ∙ ap (λ r. unless_refused r (along (flow (precision_of rules) (room_of i) (answer_of rules f i) i p f) q inflow) inflow) none)) (along_meets law (flow (precision_of rules) (room_of i) (answer_of rules f i) i p f) q g inflow cs vs h to)
 
   -- so the frame at the slot is true of what the flow is true of
-  pub arrives : (p q : ℕ) (i : Insn) (f g : PlainFrame) (cs vs : List (Option Value)) → fetch code p ≡ Some i → frame_at (whole_table rules caps code) p ≡ Some f → rule_at rules caps code p i (Some f) ≡ None → Both g cs vs → Among q g (flow (room_of i) (answer_of rules f i) i p f) → p < q → q < length code → Meets (frame_at (whole_table rules caps code) q) cs vs
+  pub arrives : (p q : ℕ) (i : Insn) (f g : PlainFrame) (cs vs : List (Option Value)) → fetch code p ≡ Some i → frame_at (whole_table rules caps code) p ≡ Some f → rule_at rules caps code p i (Some f) ≡ None → Both g cs vs → Among q g (flow (precision_of rules) (room_of i) (answer_of rules f i) i p f) → p < q → q < length code → Meets (frame_at (whole_table rules caps code) q) cs vs
   arrives p q i f g cs vs at is none h to lt inside =
       subst (λ o. Meets o cs vs) (sym (whole_at rules caps code q inside)) (flowed (whole_table rules caps code) p q i f g cs vs at is none h to q lt)
 
@@ -147,22 +152,26 @@ module _ (rules : RuleSet) (caps : Caps) (code : List (Option Insn)) where
   either q a b g None y e = inr (only q b g y e)
   either q a b g (Some h) y e = ⊎_elim (λ (here : (q ≡ a) × (g ≡ h)). inl here.0) (λ (later : Among q g (edge_to b y)). inr (only q b g y later)) e
 
-  pub edge : (p q : ℕ) (answer : Plain) (i : Insn) (f g : PlainFrame) → p < 2 ^ 62 → Fits i → Passed rules caps code p i f → Among q g (flow (room_of i) answer i p f) → Edge p q
-  edge p q answer (Alu bits operation d x) f g small fit ok e = next_computed p q (p + 1) g f d _ (omega arith) (not_false _ ok.falls) e
-  edge p q answer (Neg bits d) f g small fit ok e = next_computed p q (p + 1) g f d _ (omega arith) (not_false _ ok.falls) e
-  edge p q answer (Mov bits d x) f g small fit ok e = next_computed p q (p + 1) g f d _ (omega arith) (not_false _ ok.falls) e
-  edge p q answer (MovSigned extension d src) f g small fit ok e = next_computed p q (p + 1) g f d _ (omega arith) (not_false _ ok.falls) e
-  edge p q answer (End order width d) f g small fit ok e = next_computed p q (p + 1) g f d _ (omega arith) (not_false _ ok.falls) e
-  edge p q answer (LoadWide d value) f g small fit ok e = next_computed p q (p + 2) g f d (Some (Num (constant value))) (omega arith) (not_false _ ok.falls) e
-  edge p q answer (Load width d from offset) f g small fit ok e = next_computed p q (p + 1) g f d _ (omega arith) (not_false _ ok.falls) e
-  edge p q answer (LoadSigned width d from offset) f g small fit ok e = next_computed p q (p + 1) g f d _ (omega arith) (not_false _ ok.falls) e
-  edge p q answer (Store width to offset x) f g small fit ok e = next p q (p + 1) g (Some (after_store f (kind_at f to) (extended offset) (byte_count width) (operand_kind f x))) (omega arith) (not_false _ ok.falls) e
-  edge p q answer (Call helper) f g small fit ok e = next p q (p + 1) g (Some (after_call (room_of (Call helper)) answer f)) (omega arith) (not_false _ ok.falls) e
-  edge p q answer (Jump offset) f g small fit ok e = jump p q offset g _ small (near16 offset fit) ok.backward (not_false _ ok.target) e
-  edge p q answer (JumpLong distance) f g small fit ok e = jump p q distance g _ small fit.sfits ok.backward (not_false _ ok.target) e
-  edge p q answer (Branch bits comparison d x offset) f g small fit ok e = ⊎_elim
+  -- of an instruction whose links are h's
+  edge_of : (p q : ℕ) (answer : Plain) (i : Insn) (f h g : PlainFrame) → p < 2 ^ 62 → Fits i → Passed rules caps code p i f → Among q g (edges_of (precision_of rules) (room_of i) answer i p h) → Edge p q
+  edge_of p q answer (Alu bits operation d x) f h g small fit ok e = next_computed p q (p + 1) g h d _ (omega arith) (not_false _ ok.falls) e
+  edge_of p q answer (Neg bits d) f h g small fit ok e = next_computed p q (p + 1) g h d _ (omega arith) (not_false _ ok.falls) e
+  edge_of p q answer (Mov bits d x) f h g small fit ok e = next_computed p q (p + 1) g h d _ (omega arith) (not_false _ ok.falls) e
+  edge_of p q answer (MovSigned extension d src) f h g small fit ok e = next_computed p q (p + 1) g h d _ (omega arith) (not_false _ ok.falls) e
+  edge_of p q answer (End order width d) f h g small fit ok e = next_computed p q (p + 1) g h d _ (omega arith) (not_false _ ok.falls) e
+  edge_of p q answer (LoadWide d value) f h g small fit ok e = next_computed p q (p + 2) g h d (Some (Num (constant value))) (omega arith) (not_false _ ok.falls) e
+  edge_of p q answer (Load width d from offset) f h g small fit ok e = next_computed p q (p + 1) g h d _ (omega arith) (not_false _ ok.falls) e
+  edge_of p q answer (LoadSigned width d from offset) f h g small fit ok e = next_computed p q (p + 1) g h d _ (omega arith) (not_false _ ok.falls) e
+  edge_of p q answer (Store width to offset x) f h g small fit ok e = next p q (p + 1) g (Some (after_store h (kind_at h to) (extended offset) (byte_count width) (operand_kind h x))) (omega arith) (not_false _ ok.falls) e
+  edge_of p q answer (Call helper) f h g small fit ok e = next p q (p + 1) g (Some (after_call (room_of (Call helper)) answer h)) (omega arith) (not_false _ ok.falls) e
+  edge_of p q answer (Jump offset) f h g small fit ok e = jump p q offset g _ small (near16 offset fit) ok.backward (not_false _ ok.target) e
+  edge_of p q answer (JumpLong distance) f h g small fit ok e = jump p q distance g _ small fit.sfits ok.backward (not_false _ ok.target) e
+  edge_of p q answer (Branch bits comparison d x offset) f h g small fit ok e = ⊎_elim
       (λ (taken : q ≡ target p offset). subst (Edge p) (sym taken) (forward p offset small (near16 offset fit.1) ok.backward (not_false _ ok.target)))
       (λ (fallen : q ≡ p + 1). subst (Edge p) (sym fallen) (edge_at p (p + 1) (omega arith) (not_false _ ok.falls)))
-      (either q (target p offset) (p + 1) g (along_edge bits comparison true d x f) (along_edge bits comparison false d x f) e)
-  edge p q answer (CallLocal distance) f g small fit ok e = absurd e
-  edge p q answer Exit f g small fit ok e = absurd e
+      (either q (target p offset) (p + 1) g (along_edge (precision_of rules) bits comparison true d x h) (along_edge (precision_of rules) bits comparison false d x h) e)
+  edge_of p q answer (CallLocal distance) f h g small fit ok e = absurd e
+  edge_of p q answer Exit f h g small fit ok e = absurd e
+
+  pub edge : (p q : ℕ) (answer : Plain) (i : Insn) (f g : PlainFrame) → p < 2 ^ 62 → Fits i → Passed rules caps code p i f → Among q g (flow (precision_of rules) (room_of i) answer i p f) → Edge p q
+  edge p q answer i f g small fit ok e = edge_of p q answer i f (relinked (room_of i) i p f) g small fit ok e

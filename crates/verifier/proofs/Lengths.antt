@@ -12,7 +12,7 @@ use Rattle.abstract_regs.specs.Frame.{PlainFrame}
 use Rattle.abstract_regs.specs.Flow.{flow}
 use Rattle.abstract_regs.specs.Moves.{Among}
 use Rattle.abstract_regs.specs.Laws.{FlowsKeepSlots, JoinsKeepSlots}
-use Rattle.verifier.specs.Frame.{entry}
+use Rattle.verifier.specs.Frame.{precision_of, entry}
 use Rattle.verifier.specs.Rules.{rule_at, room_of}
 use Rattle.verifier.specs.Answers.{answer_of}
 use Rattle.verifier.specs.Verdict.{Table, frame_at, joined, met, along, unless_refused, flow_from, start, incoming, whole_table}
@@ -47,8 +47,8 @@ module _ (flows : FlowsKeepSlots) (joins : JoinsKeepSlots) (known : ℕ) where
     flow_long p q None frame inflow f h = h
     flow_long p q (Some i) None inflow f h = h
     flow_long p q (Some i) (Some g) inflow f h =
-        unless_long (rule_at rules caps code p i (Some g)) (along (flow (room_of i) (answer_of rules g i) i p g) q inflow) inflow
-        (along_long (flow (room_of i) (answer_of rules g i) i p g) q inflow h (λ a k e. flows (room_of i) (answer_of rules g i) i p a g k e ∙ f g refl)) h
+        unless_long (rule_at rules caps code p i (Some g)) (along (flow (precision_of rules) (room_of i) (answer_of rules g i) i p g) q inflow) inflow
+        (along_long (flow (precision_of rules) (room_of i) (answer_of rules g i) i p g) q inflow h (λ a k e. flows (precision_of rules) (room_of i) (answer_of rules g i) i p a g k e ∙ f g refl)) h
 
     start_long : (q : ℕ) → IsLong known (start rules caps q)
     start_long zero g e = subst (λ (f : PlainFrame). length f.slots ≡ known) (same_Some (entry rules caps) g e) first

@@ -8,6 +8,7 @@ pub mod Memory
 pub mod Calls
 pub mod Flows
 pub mod Lengths
+pub mod Names
 pub mod Allowed
 pub mod Acts
 pub mod Verdicts

@@ -16,7 +16,7 @@ use Rattle.bpf_machine.specs.Slots as machine
 use Rattle.bpf_machine.specs.declared.limits.TheConstants.{STACK_SIZE}
 use Rattle.bpf_machine.specs.Slots.{IsStack, slot_of, slot_value, slot_values, Touches, SlotsHaveValues, SlotsBeginAtZero, NumbersAreRead, LeavesNumbers, BytesAreWritten, PlacesAreWritten, NumbersAreTheirBytes}
 use Rattle.abstract_regs.specs.Moves.{flat_option, value_at, Reached, IsNumber, IsSlot, Loads, Stores, Overwrites, LoadIsKnown}
-use Rattle.abstract_regs.specs.Laws.{JoinsHold, EntryHolds, AccessesFit, FlowsKeepSlots, JoinsKeepSlots, SlotsAreKnown, LoadsAreKnown, RangesAreKnown}
+use Rattle.abstract_regs.specs.Laws.{JoinsHold, EntryHolds, AccessesFit, FlowsKeepSlots, JoinsKeepSlots, FlowsKeepNames, JoinsKeepNames, SlotsAreKnown, LoadsAreKnown, RangesAreKnown}
 use Rattle.abstract_num.specs.Keeping.{AnyHolds, TightenKeeps}
 use Rattle.helpers.specs.Laws.{EffectsAreWithinLimits}
 use Rattle.helpers.specs.Ranges.{AnswersAreInRange}
@@ -39,6 +39,8 @@ pub record Laws : Type 0 where
   pub accesses : AccessesFit
   pub along : FlowsKeepSlots
   pub joined : JoinsKeepSlots
+  pub names : FlowsKeepNames
+  pub joined_names : JoinsKeepNames
   pub places : SlotsAreKnown
   pub loads : LoadsAreKnown
   pub ranges : RangesAreKnown

@@ -6,6 +6,7 @@ use Rattle.std.proofs.lemmas.Bool.{cond_both, ltb-true}
 use Rattle.std.proofs.lemmas.Int.{ints}
 use Rattle.std.proofs.lemmas.Option.{none-some}
 use Rattle.abstract_num.specs.Signed.{signed}
+use Rattle.abstract_num.specs.declared.precision.Precision.{Precision}
 use Rattle.abstract_num.specs.Plain.{Plain, Holds, any}
 use Rattle.abstract_num.specs.Tighten.{tighten}
 use Rattle.abstract_num.specs.Transfer.{signed_ranged}
@@ -108,12 +109,14 @@ module _ (anything : AnyHolds) (tighten_keeps : TightenKeeps) where
         at_least = above_least errno most n a b c side;
         at_most = below_greatest errno most n a b c side;
         agrees = all.agrees;
+        half_at_least = all.half_at_least;
+        half_at_most = all.half_at_most;
       }
 
-  pub answers_hold : (errno : ℕ) (o : Option ℕ) (n : ℕ) → errno < 2 ^ 63 → n < 2 ^ 64 → ((most : ℕ) → o ≡ Some most → (n ≤ most) ⊎ (2 ^ 64 - errno ≤ n)) → Holds (answers_to errno o) n
-  answers_hold errno None n a c side = anything n c
-  answers_hold errno (Some most) n a c side =
+  pub answers_hold : (precision : Precision) (errno : ℕ) (o : Option ℕ) (n : ℕ) → errno < 2 ^ 63 → n < 2 ^ 64 → ((most : ℕ) → o ≡ Some most → (n ≤ most) ⊎ (2 ^ 64 - errno ≤ n)) → Holds (answers_to precision errno o) n
+  answers_hold precision errno None n a c side = anything n c
+  answers_hold precision errno (Some most) n a c side =
       let range = signed_ranged (pos 0 -ℤ pos errno) (pos most) in
-      cond_both (nat_lt most (2 ^ 63)) (unwrap_or (tighten range) any) any (λ x. Holds x n)
-      (λ t. tightened (tighten range) n (tighten_keeps range n (range_holds errno most n a (ltb-true most (2 ^ 63) t) c (side most refl))))
+      cond_both (nat_lt most (2 ^ 63)) (unwrap_or (tighten precision range) any) any (λ x. Holds x n)
+      (λ t. tightened (tighten precision range) n (tighten_keeps precision range n (range_holds errno most n a (ltb-true most (2 ^ 63) t) c (side most refl))))
       (λ t. anything n c)

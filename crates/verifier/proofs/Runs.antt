@@ -15,9 +15,10 @@ use Rattle.bpf_machine.specs.State.{◌>>=◌, AreCapacities, opening, Outcome, 
 use Rattle.bpf_machine.specs.Slots.{slot_values}
 use Rattle.bpf_machine.specs.Typed.{Typed, fetch, typed_act, typed_exit_of, typed_outcome, typed_ends, typed_run, typed_entry}
 use Rattle.abstract_regs.specs.Frame.{PlainFrame, HoldsEach}
+use Rattle.abstract_regs.specs.Moves.{NamesBelow}
 use Rattle.abstract_regs.specs.Kind.{Num}
 use Rattle.abstract_num.specs.Plain.{constant}
-use Rattle.verifier.specs.Frame.{known_slots, entry, Holds}
+use Rattle.verifier.specs.Frame.{precision_of, known_slots, known_links, entry, Holds}
 use Rattle.verifier.specs.inner.Pass.{Sound, IsSound, AllSound}
 use Rattle.verifier.specs.Rules.{rule_at}
 use Rattle.verifier.specs.Answers.{answer_of}
@@ -28,6 +29,7 @@ use Rattle.verifier.proofs.Allowed.{allowed}
 use Rattle.verifier.proofs.Acts.{steps, exits}
 use Rattle.verifier.proofs.Memory.{Laws, length-values, zeros_known, begins_within}
 use Rattle.verifier.proofs.Lengths.{long_at}
+use Rattle.verifier.proofs.Names.{below_at}
 use Rattle.verifier.proofs.Tables.{whole_at}
 use Rattle.verifier.proofs.Flows.{arrives, edge}
 use Rattle.verifier.proofs.Verdicts.{passes}
@@ -86,7 +88,7 @@ few_known Three = omega arith
 first_long : (rules : RuleSet) (caps : Caps) → length (entry rules caps).slots ≡ known_slots rules
 first_long rules caps = length-replicate (known_slots rules) (Num (constant 0))
 
-module _ (laws : Laws) (caps : Caps) (rules : RuleSet) (is : List Insn) (sound : AllSound rules caps (slots is)) (fit : AllFit is) (small : length (slots is) < 2 ^ 62) (clear : code_verdict rules caps (slots is) ≡ None) (before : PlainObject) where
+module _ (laws : Laws) (caps : Caps) (rules : RuleSet) (is : List Insn) (sound : AllSound rules caps (slots is)) (fit : AllFit is) (first : (n : ℕ) → NamesBelow n (entry rules caps)) (small : length (slots is) < 2 ^ 62) (clear : code_verdict rules caps (slots is) ≡ None) (before : PlainObject) where
   -- of how many slots frames speak
   abbrev known : ℕ
   known = known_slots rules
@@ -121,14 +123,15 @@ module _ (laws : Laws) (caps : Caps) (rules : RuleSet) (is : List Insn) (sound :
       let t = steps laws rules caps (slots is) s.slot known (few_known rules) a.frame s h kept.fits a.insn fits ok not_exit in
       let vs = slot_values known s.memory.stack in
       let ws = slot_values known (t.to).memory.stack in
-      let reached = kept.keeps fits (allowed rules caps (slots is) s.slot a.frame a.insn ok) s.regs t.to.regs vs ws t.to.slot (h.long ∙ sym (length-values known s.memory.stack)) h.regs h.slots t.moves in
       let inside = slice_get_within (slots is) s.slot (Some a.insn) (inner _ _ a.there) in
+      let below = below_at laws.names laws.joined_names rules caps (slots is) first s.slot inside a.frame a.is_frame in
+      let reached = kept.keeps fits (allowed rules caps (slots is) s.slot a.frame a.insn ok) below s.regs t.to.regs vs ws t.to.slot (h.long ∙ sym (length-values known s.memory.stack)) h.regs h.slots h.links t.moves in
       let e = edge rules caps (slots is) s.slot t.to.slot (answer_of rules a.frame a.insn) a.insn a.frame reached.frame (omega arith) fits ok reached.there in
       let inside' = slice_get_within (slots is) t.to.slot (Some e.to) (inner _ _ e.begins) in
-      let meets = arrives laws.joins rules caps (slots is) s.slot t.to.slot a.insn a.frame reached.frame t.to.regs ws a.there a.is_frame rule (record { holds = reached.holds; slots = reached.slots }) reached.there e.forward inside' in
+      let meets = arrives laws.joins rules caps (slots is) s.slot t.to.slot a.insn a.frame reached.frame t.to.regs ws a.there a.is_frame rule (record { holds = reached.holds; slots = reached.slots; links = reached.links }) reached.there e.forward inside' in
       let fewer = left_further (slots is) s.slot t.to.slot a.insn a.there e.forward in
       let le' : left (drop t.to.slot (slots is)) ≤ n = omega arith in
-      let rest = later t.to le' (record { insn = e.to; there = e.begins; frame = meets.frame; is_frame = meets.is; holds = record { regs = meets.holds; long = long_at laws.along laws.joined known rules caps (slots is) (first_long rules caps) t.to.slot inside' meets.frame meets.is; slots = meets.slots; within = t.within } }) in (
+      let rest = later t.to le' (record { insn = e.to; there = e.begins; frame = meets.frame; is_frame = meets.is; holds = record { regs = meets.holds; long = long_at laws.along laws.joined known rules caps (slots is) (first_long rules caps) t.to.slot inside' meets.frame meets.is; slots = meets.slots; links = meets.links; within = t.within } }) in (
         rest.0,
         suc rest.1,
         ap (λ o. typed_ends before s (o >>= λ i. typed_exit_of i s) (goes_on (o >>= λ i. typed_act caps i s) (typed_run caps (slots is) before n))) a.there
@@ -177,15 +180,23 @@ module _ (laws : Laws) (caps : Caps) (rules : RuleSet) (is : List Insn) (sound :
       let le : left (drop s.slot (slots is)) ≤ length is = omega (arith, ap left whole) in
       ends_from (length is) s le (record { insn = i; there = ap (fetch (slots is)) zero_slot ∙ at; frame = entry rules caps; is_frame = ap (frame_at (whole_table rules caps (slots is))) zero_slot ∙ whole_at rules caps (slots is) 0 some; holds = h })
 
+-- as a method begins, no place is linked
+pub none_named : Laws → (rules : RuleSet) (caps : Caps) → AreCapacities caps → (n : ℕ) → NamesBelow n (entry rules caps)
+none_named laws rules caps sizes =
+    let most = sizes.input in
+    let first = laws.entry (precision_of rules) caps.in_cap STACK_SIZE (known_slots rules) (known_links rules) 0 (omega (arith, most)) (omega arith) (omega arith) in
+    first.names
+
 -- what a method begins with, the entry frame is true of
 pub entry_is_held : Laws → (rules : RuleSet) (caps : Caps) → AreCapacities caps → (object : PlainObject) (caller : ℕ) (input : List ℕ) → IsObject object → caller < 2 ^ 32 → length input ≤ caps.in_cap → AreBytes input → Holds (known_slots rules) (entry rules caps) (typed_entry caps object caller input)
 entry_is_held laws rules caps sizes object caller input ob client le bytes =
     let most = sizes.input in
-    let first = laws.entry caps.in_cap STACK_SIZE (known_slots rules) (length input) (omega (arith, most)) (omega arith) le in
+    let first = laws.entry (precision_of rules) caps.in_cap STACK_SIZE (known_slots rules) (known_links rules) (length input) (omega (arith, most)) (omega arith) le in
     record {
       regs = first.registers;
       long = first_long rules caps;
       slots = subst (HoldsEach (entry rules caps).slots) (sym (zeros_known laws.slots (known_slots rules) (few_known rules))) first.slots;
+      links = first.links _ _;
       within = record { memory = begins_within laws.slots (known_slots rules) (typed_entry caps object caller input).memory input_is output_is refl; object = ob; client = client };
     }
   where

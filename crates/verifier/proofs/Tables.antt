@@ -11,17 +11,18 @@ use Rattle.bpf_machine.specs.declared.caps.Caps.{Caps}
 use Rattle.bpf_machine.specs.State.{◌>>=◌}
 use Rattle.bpf_machine.specs.Typed.{fetch}
 use Rattle.verifier.specs.declared.rule.Rule.{Rule}
+use Rattle.abstract_num.specs.declared.precision.Precision.{Precision}
 use Rattle.abstract_num.specs.Plain.{Plain}
 use Rattle.abstract_regs.specs.Frame.{PlainFrame}
-use Rattle.abstract_regs.specs.Flow.{flow}
+use Rattle.abstract_regs.specs.Flow.{edge_to, flow}
 use Rattle.abstract_regs.specs.Moves.{EachFits, Keeps}
 use Rattle.verifier.specs.declared.pass.Pass.{Pass}
-use Rattle.verifier.specs.Frame.{entry}
+use Rattle.verifier.specs.Frame.{precision_of, entry}
 use Rattle.verifier.specs.Rules.{rule_at, room_of}
 use Rattle.verifier.specs.Answers.{answer_of}
 use Rattle.verifier.specs.inner.Kept.{unbox}
 use Rattle.verifier.specs.Verdict.{Table, frame_at, joined, met, along, unless_refused, flow_from, start, incoming, frames, whole_table, IsTable, or_else, first_refused}
-use Rattle.verifier.specs.inner.Pass.{merged, fallen, awaited, flown, HasLeft, IsSpaced, IsSound, Sound}
+use Rattle.verifier.specs.inner.Pass.{merged, merged_if, fallen, awaited, flown, HasLeft, IsSpaced, IsSound, Sound}
 
 get_left : {A : Type 0} (xs ys : List A) (p : ℕ) → p < length xs → slice_get (xs ++ ys) p ≡ slice_get xs p
 get_left [] ys p h = absurd (omega arith)
@@ -61,7 +62,7 @@ merged_is table a q g lt = ⊎_elim
     (λ n. ap (λ o. o >>= λ f. f) (get_other table a q _ n) ∙ sym (cond-false _ _ _ (ne_eqb a q n))) (cases_eq a q)
 
 -- the one edge of a jump, which is kept
-pub leaves_one : (rules : RuleSet) (frame : Option PlainFrame) (f h : PlainFrame) (kept : Table) (pass : Pass) (i : Insn) (p a w : ℕ) → frame ≡ Some f → flow (room_of i) (answer_of rules f i) i p f ≡ (a, h) ∷ [] → w ≡ slot_count i → pass.kept ≡ merged kept a h → unbox pass.current ≡ None → pass.landing ≡ p + w → HasLeft rules frame kept i p pass
+pub leaves_one : (rules : RuleSet) (frame : Option PlainFrame) (f h : PlainFrame) (kept : Table) (pass : Pass) (i : Insn) (p a w : ℕ) → frame ≡ Some f → flow (precision_of rules) (room_of i) (answer_of rules f i) i p f ≡ (a, h) ∷ [] → w ≡ slot_count i → pass.kept ≡ merged kept a h → unbox pass.current ≡ None → pass.landing ≡ p + w → HasLeft rules frame kept i p pass
 leaves_one rules frame f h kept pass i p a w is flows width merges current landing = record {
   landing = landing ∙ ap (λ n. p + n) width;
   size = ap length merges ∙ length-set kept a _;
@@ -72,16 +73,16 @@ leaves_one rules frame f h kept pass i p a w is flows width merges current landi
 }
 
 -- what a flow keeps, of the frame at hand
-pub is_sound : (rules : RuleSet) (frame : Option PlainFrame) (f g : PlainFrame) (room : Option ℕ) (answer : Plain) (i : Insn) (p : ℕ) → frame ≡ Some f → g ≡ f → room ≡ room_of i → answer ≡ answer_of rules g i → Keeps room answer i p g → EachFits g.registers → IsSound rules i p frame
-is_sound rules frame f g room answer i p is same rooms answers keeps fits =
+pub is_sound : (rules : RuleSet) (frame : Option PlainFrame) (f g : PlainFrame) (precision : Precision) (room : Option ℕ) (answer : Plain) (i : Insn) (p : ℕ) → frame ≡ Some f → g ≡ f → precision ≡ precision_of rules → room ≡ room_of i → answer ≡ answer_of rules g i → Keeps precision room answer i p g → EachFits g.registers → IsSound rules i p frame
+is_sound rules frame f g precision room answer i p is same precise rooms answers keeps fits =
     let sound : Sound rules i p g = record {
-      keeps = subst (λ a. Keeps (room_of i) a i p g) answers (subst (λ r. Keeps r answer i p g) rooms keeps);
+      keeps = subst (λ a. Keeps (precision_of rules) (room_of i) a i p g) answers (subst (λ r. Keeps (precision_of rules) r answer i p g) rooms (subst (λ x. Keeps x room answer i p g) precise keeps));
       fits = fits;
     } in
     subst (IsSound rules i p) (sym (is ∙ ap Some (sym same))) sound
 
 -- both edges of a jump: one is kept, the other falls through
-pub leaves_both : (rules : RuleSet) (frame : Option PlainFrame) (f g h : PlainFrame) (kept : Table) (pass : Pass) (i : Insn) (p a w : ℕ) → frame ≡ Some f → flow (room_of i) (answer_of rules f i) i p f ≡ (a, h) ∷ (p + slot_count i, g) ∷ [] → w ≡ slot_count i → pass.kept ≡ merged kept a h → unbox pass.current ≡ Some g → pass.landing ≡ p + w → HasLeft rules frame kept i p pass
+pub leaves_both : (rules : RuleSet) (frame : Option PlainFrame) (f g h : PlainFrame) (kept : Table) (pass : Pass) (i : Insn) (p a w : ℕ) → frame ≡ Some f → flow (precision_of rules) (room_of i) (answer_of rules f i) i p f ≡ (a, h) ∷ (p + slot_count i, g) ∷ [] → w ≡ slot_count i → pass.kept ≡ merged kept a h → unbox pass.current ≡ Some g → pass.landing ≡ p + w → HasLeft rules frame kept i p pass
 leaves_both rules frame f g h kept pass i p a w is flows width merges current landing = record {
   landing = landing ∙ ap (λ n. p + n) width;
   size = ap length merges ∙ length-set kept a _;
@@ -89,6 +90,36 @@ leaves_both rules frame f g h kept pass i p a w is flows width merges current la
       ap (λ o. fallen o pass.landing q (frame_at pass.kept q)) current
       ∙ ap (λ n. met n g q (frame_at pass.kept q)) (landing ∙ ap (λ n. p + n) width)
       ∙ ap (met (p + slot_count i) g q) (ap (λ t. frame_at t q) merges ∙ merged_is kept a q h lt)
+      ∙ sym (ap (λ o. flown rules o i p q (frame_at kept q)) is ∙ ap (λ edges. along edges q (frame_at kept q)) flows);
+}
+
+merged_if_is : (table : Table) (a q : ℕ) (x : Option PlainFrame) → q < length table → frame_at (merged_if table a x) q ≡ along (edge_to a x) q (frame_at table q)
+merged_if_is table a q None lt = refl
+merged_if_is table a q (Some g) lt = merged_is table a q g lt
+
+length-merged_if : (table : Table) (a : ℕ) (x : Option PlainFrame) → length (merged_if table a x) ≡ length table
+length-merged_if table a None = refl
+length-merged_if table a (Some g) = length-set table a _
+
+fallen_is : (next q : ℕ) (y inflow : Option PlainFrame) → fallen y next q inflow ≡ along (edge_to next y) q inflow
+fallen_is next q None inflow = refl
+fallen_is next q (Some g) inflow = refl
+
+along_both : (a b q : ℕ) (x y inflow : Option PlainFrame) → along (edge_to b y) q (along (edge_to a x) q inflow) ≡ along (edge_to a x ++ edge_to b y) q inflow
+along_both a b q None y inflow = refl
+along_both a b q (Some g) y inflow = refl
+
+-- both edges of a jump, each of which may be dead
+pub leaves_forks : (rules : RuleSet) (frame : Option PlainFrame) (f : PlainFrame) (x y : Option PlainFrame) (kept : Table) (pass : Pass) (i : Insn) (p a w : ℕ) → frame ≡ Some f → flow (precision_of rules) (room_of i) (answer_of rules f i) i p f ≡ edge_to a x ++ edge_to (p + slot_count i) y → w ≡ slot_count i → pass.kept ≡ merged_if kept a x → unbox pass.current ≡ y → pass.landing ≡ p + w → HasLeft rules frame kept i p pass
+leaves_forks rules frame f x y kept pass i p a w is flows width merges current landing = record {
+  landing = landing ∙ ap (λ n. p + n) width;
+  size = ap length merges ∙ length-merged_if kept a x;
+  flows = λ q lt.
+      ap (λ o. fallen o pass.landing q (frame_at pass.kept q)) current
+      ∙ ap (λ n. fallen y n q (frame_at pass.kept q)) (landing ∙ ap (λ n. p + n) width)
+      ∙ ap (fallen y (p + slot_count i) q) (ap (λ t. frame_at t q) merges ∙ merged_if_is kept a q x lt)
+      ∙ fallen_is (p + slot_count i) q y (along (edge_to a x) q (frame_at kept q))
+      ∙ along_both a (p + slot_count i) q x y (frame_at kept q)
       ∙ sym (ap (λ o. flown rules o i p q (frame_at kept q)) is ∙ ap (λ edges. along edges q (frame_at kept q)) flows);
 }
 
@@ -187,7 +218,7 @@ module _ (rules : RuleSet) (caps : Caps) (code : List (Option Insn)) where
 
   flows_on : (p q : ℕ) (i : Insn) (frame inflow : Option PlainFrame) → rule_at rules caps code p i frame ≡ None → flow_from rules caps code p q (Some i) frame inflow ≡ flown rules frame i p q inflow
   flows_on p q i None inflow none = refl
-  flows_on p q i (Some f) inflow none = ap (λ r. unless_refused r (along (flow (room_of i) (answer_of rules f i) i p f) q inflow) inflow) none
+  flows_on p q i (Some f) inflow none = ap (λ r. unless_refused r (along (flow (precision_of rules) (room_of i) (answer_of rules f i) i p f) q inflow) inflow) none
 
   -- a slot that no rule refuses brings its flow
   pub brought_more : (p : ℕ) (i : Insn) (pass pass' : Pass) → IsSpaced code → p < length code → fetch code p ≡ Some i → rule_at rules caps code p i (awaited pass p) ≡ None → HasLeft rules (awaited pass p) (slice_set pass.kept p None) i p pass' → Brought p pass → Brought (p + 1) pass'

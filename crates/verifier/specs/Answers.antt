@@ -4,6 +4,7 @@ use Rattle.std.specs.Option.{option_map}
 use Rattle.bpf_decode.specs.declared.insn.Insn.{Insn}
 use Rattle.bpf_decode.specs.declared.rule_set.RuleSet.{RuleSet}
 use Rattle.bpf_decode.specs.declared.rule_set.RuleSet.TheVariants.{One, Two, Three}
+use Rattle.abstract_num.specs.declared.precision.Precision.{Precision}
 use Rattle.abstract_num.specs.Plain.{Plain, any}
 use Rattle.abstract_num.specs.Tighten.{tighten}
 use Rattle.abstract_num.specs.Transfer.{signed_ranged}
@@ -20,6 +21,7 @@ use Rattle.helpers.specs.Ranges.{answer_range_of}
 use Rattle.verifier.specs.declared.facets.Callee.{Callee}
 use Rattle.verifier.specs.declared.facets.Callee.TheVariants as callee
 use Rattle.verifier.specs.Facets.{callee_of}
+use Rattle.verifier.specs.Frame.{precision_of}
 use Rattle.verifier.specs.Rules.{room_in}
 
 -- the greatest number of a kind, if it is a number
@@ -50,22 +52,22 @@ most_of f arguments limit.Text = longest f (text_in arguments 1)
 
 -- the numbers from the negative of an errno to the greatest answer; every number, where that isn't
 -- known or is no signed number
-abbrev pub answers_to : ℕ → Option ℕ → Plain
-answers_to errno None = any
-answers_to errno (Some n) =
-    if nat_lt n (2 ^ 63) then unwrap_or (tighten (signed_ranged (pos 0 -ℤ pos errno) (pos n))) any else any
+abbrev pub answers_to : Precision → ℕ → Option ℕ → Plain
+answers_to precision errno None = any
+answers_to precision errno (Some n) =
+    if nat_lt n (2 ^ 63) then unwrap_or (tighten precision (signed_ranged (pos 0 -ℤ pos errno) (pos n))) any else any
 
 -- what a helper that takes such arguments answers in such a range
-abbrev pub ranged_answer : PlainFrame → Option Takes → Option AnswerRange → Plain
-ranged_answer f None range = any
-ranged_answer f (Some takes) None = any
-ranged_answer f (Some takes) (Some range) = answers_to range.errno (most_of f takes.arguments range.most)
+abbrev pub ranged_answer : Precision → PlainFrame → Option Takes → Option AnswerRange → Plain
+ranged_answer precision f None range = any
+ranged_answer precision f (Some takes) None = any
+ranged_answer precision f (Some takes) (Some range) = answers_to precision range.errno (most_of f takes.arguments range.most)
 
 -- in rule sets 1 and 2 every number
 abbrev pub helper_answer : RuleSet → PlainFrame → ℕ → Plain
 helper_answer One f helper = any
 helper_answer Two f helper = any
-helper_answer Three f helper = ranged_answer f (signature_of helper) (answer_range_of helper)
+helper_answer Three f helper = ranged_answer (precision_of Three) f (signature_of helper) (answer_range_of helper)
 
 abbrev pub callee_answer : RuleSet → PlainFrame → Callee → Plain
 callee_answer rules f callee.Nothing = any

@@ -8,7 +8,16 @@ use Rattle.object_store.specs.Object.{AreBytes, IsObject}
 use Rattle.bpf_machine.specs.State.{size}
 use Rattle.bpf_machine.specs.Typed.{Typed, TypedMemory}
 use Rattle.bpf_machine.specs.Slots.{slot_value, slot_values, IsStack, IsNumber}
+use Rattle.abstract_num.specs.declared.precision.Precision.{Precision}
+use Rattle.abstract_num.specs.declared.precision.Precision.TheVariants.{Whole, Halves}
 use Rattle.abstract_regs.specs.Frame.{PlainFrame, HoldsEach, entry_frame}
+use Rattle.abstract_regs.specs.Moves.{HoldsLinks}
+
+-- whether numbers have a half: in rule set 3 alone
+abbrev pub precision_of : RuleSet → Precision
+precision_of One = Whole
+precision_of Two = Whole
+precision_of Three = Halves
 
 -- of how many slots of the stack frames speak: of all but in rule set 1
 abbrev pub known_slots : RuleSet → ℕ
@@ -16,9 +25,15 @@ known_slots One = 0
 known_slots Two = 64
 known_slots Three = 64
 
+-- how many places frames may link: the eleven registers and the slots of the stack, in rule set 3 alone
+abbrev pub known_links : RuleSet → ℕ
+known_links One = 0
+known_links Two = 0
+known_links Three = 75
+
 -- what is known as a method begins
 abbrev pub entry : RuleSet → Caps → PlainFrame
-entry rules caps = entry_frame caps.in_cap (size caps Stack) (known_slots rules)
+entry rules caps = entry_frame (precision_of rules) caps.in_cap (size caps Stack) (known_slots rules) (known_links rules)
 
 -- regions of bytes, a stack of 64 slots, of which all but the first ones, that many, are numbers
 pub record IsMemory (known : ℕ) (m : TypedMemory) : Type 0 where
@@ -35,9 +50,10 @@ pub record IsWithin (known : ℕ) (s : Typed) : Type 0 where
   pub client : s.caller < 2 ^ 32
 
 -- A state that a frame is true of. The frame speaks of the first slots, that many: of all of them,
--- or of none.
+-- or of none. Its links are true of the registers and of the slots.
 pub record Holds (known : ℕ) (f : PlainFrame) (s : Typed) : Type 0 where
   pub regs : HoldsEach f.registers s.regs
   pub long : length f.slots ≡ known
   pub slots : HoldsEach f.slots (slot_values known s.memory.stack)
+  pub links : HoldsLinks f s.regs (slot_values known s.memory.stack)
   pub within : IsWithin known s

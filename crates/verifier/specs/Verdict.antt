@@ -15,7 +15,7 @@ use Rattle.verifier.specs.declared.refusal.Refusal.{Refusal}
 use Rattle.verifier.specs.declared.refused.RefusedSlot.{RefusedSlot}
 use Rattle.abstract_regs.specs.Frame.{PlainFrame, join}
 use Rattle.abstract_regs.specs.Flow.{flow}
-use Rattle.verifier.specs.Frame.{entry}
+use Rattle.verifier.specs.Frame.{precision_of, entry}
 use Rattle.verifier.specs.Rules.{breaks, rule_at, room_of}
 use Rattle.verifier.specs.Answers.{answer_of}
 
@@ -50,7 +50,7 @@ abbrev pub flow_from : RuleSet → Caps → List (Option Insn) → ℕ → ℕ �
 flow_from rules caps code p q None frame inflow = inflow
 flow_from rules caps code p q (Some i) None inflow = inflow
 flow_from rules caps code p q (Some i) (Some f) inflow =
-    unless_refused (rule_at rules caps code p i (Some f)) (along (flow (room_of i) (answer_of rules f i) i p f) q inflow) inflow
+    unless_refused (rule_at rules caps code p i (Some f)) (along (flow (precision_of rules) (room_of i) (answer_of rules f i) i p f) q inflow) inflow
 
 -- what a method begins with, at slot 0
 abbrev pub start : RuleSet → Caps → ℕ → Option PlainFrame

@@ -7,7 +7,8 @@ ghost use Rattle.verifier.specs.Answers.{answer_of, answers_to, greatest_of, lon
 
 use crate::facets::{Callee, callee_of};
 use crate::fault::room_in;
-use abstract_num::{Number, any, highest, signed_between};
+use crate::known::precision;
+use abstract_num::{Number, Precision, any, highest, signed_between};
 use abstract_regs::{Frame, Kind};
 use bpf_decode::{Insn, RuleSet};
 use helpers::{AnswerLimit, Argument, answer_range, signature};
@@ -21,21 +22,25 @@ pub fn answer(rules: RuleSet, frame: &Frame, insn: &Insn) -> Number
     match rules {
         RuleSet::One | RuleSet::Two => any(),
         RuleSet::Three => match callee_of(insn) {
-            Callee::Helper(helper) => ranged_answer(frame, helper),
+            Callee::Helper(helper) => ranged_answer(precision(rules), frame, helper),
             Callee::Nothing | Callee::Local => any(),
         },
     }
 }
 
 /// The number that a helper of a known range answers; else any.
-fn ranged_answer(frame: &Frame, helper: u32) -> Number
-    ensures { view result ≡ ranged_answer frame.now (signature_of helper) (answer_range_of helper) }
+fn ranged_answer(precision: Precision, frame: &Frame, helper: u32) -> Number
+    ensures { view result ≡ ranged_answer precision frame.now (signature_of helper) (answer_range_of helper) }
 {
     match signature(helper) {
         None => any(),
         Some(takes) => match answer_range(helper) {
             None => any(),
-            Some(range) => answers_to(range.errno, most_of(frame, takes.arguments, range.most)),
+            Some(range) => answers_to(
+                precision,
+                range.errno,
+                most_of(frame, takes.arguments, range.most),
+            ),
         },
     }
 }
@@ -92,15 +97,15 @@ fn greatest_of(kind: &Kind) -> Option<u64>
 
 /// The numbers from an error's negative to the greatest answer; any number if that isn't known, or
 /// is no signed number.
-fn answers_to(errno: u64, most: Option<u64>) -> Number
+fn answers_to(precision: Precision, errno: u64, most: Option<u64>) -> Number
     requires { errno < 2 ^ 63 }
-    ensures { view result ≡ answers_to errno most }
+    ensures { view result ≡ answers_to precision errno most }
 {
     match most {
         None => any(),
         Some(most) => {
             if most < 1 << 63 {
-                signed_between(-(errno as i64), most as i64)
+                signed_between(precision, -(errno as i64), most as i64)
             } else {
                 any()
             }

@@ -1,6 +1,6 @@
 ghost use Rattle.std.specs.Prelude.{◌≡◌, IfOk, None, replicate, slice_set};
 ghost use Rattle.verifier.specs.Verdict.{frame_at, joined};
-ghost use Rattle.verifier.specs.inner.Pass.{merged};
+ghost use Rattle.verifier.specs.inner.Pass.{merged, merged_if};
 ghost use Rattle.verifier.specs.inner.Kept.{unbox};
 
 use abstract_regs::Frame;
@@ -65,7 +65,16 @@ impl PendingFrames {
         Ok(())
     }
 
-    /// Keeps the only flow of an instruction, in its own memory if it is the first into its slot.
+    /// An equal frame, in the memory of the spare one, if there is one.
+    pub fn copy(&mut self, alloc: Global, flow: &Frame) -> Result<Box<Frame>, AllocError>
+        ensures copied { IfOk result (λ b. b.value ≡ flow.now) }
+        ensures left { self.new ≡ self.old }
+    {
+        let spare = self.spare.take();
+        copied(alloc, spare, flow)
+    }
+
+    /// Keeps a flow in its own memory, if it is the first into its slot.
     pub fn give(&mut self, slot: usize, flow: Box<Frame>)
         ensures { self.new ≡ merged self.old slot flow.value }
     {
@@ -74,6 +83,15 @@ impl PendingFrames {
             let (first, done) = united(kept, flow);
             self.frames[slot] = Some(first);
             self.reuse(done);
+        }
+    }
+
+    /// Keeps a flow in its own memory, if there is one.
+    pub fn give_if(&mut self, slot: usize, flow: Option<Box<Frame>>)
+        ensures { self.new ≡ merged_if self.old slot (unbox flow) }
+    {
+        if let Some(flow) = flow {
+            self.give(slot, flow);
         }
     }
 

@@ -1,15 +1,29 @@
-//! What a rule set knows: slots of the stack, and helpers.
+//! What a rule set knows: halves of numbers, slots of the stack, links, and helpers.
 ghost use Rattle.std.specs.Prelude.{◌≡◌, ◌≤◌, length, IfSome};
 ghost use Rattle.helpers.specs.View.{given_signature};
-ghost use Rattle.verifier.specs.Frame.{known_slots};
+ghost use Rattle.verifier.specs.Frame.{precision_of, known_slots, known_links};
 ghost use Rattle.verifier.specs.Rules.{last_helper, takes_of};
 
+use abstract_num::Precision;
 use bpf_decode::RuleSet;
 use bpf_machine::STACK_SIZE;
 use helpers::{Signature, signature};
 
 /// The stack's slots of eight bytes.
 const STACK_SLOTS: usize = STACK_SIZE / 8;
+
+const REGISTERS: usize = 11;
+
+/// Numbers have a half in rule set 3 alone.
+#[inline(always)]
+pub(crate) fn precision(rules: RuleSet) -> Precision
+    ensures { result ≡ precision_of rules }
+{
+    match rules {
+        RuleSet::One | RuleSet::Two => Precision::Whole,
+        RuleSet::Three => Precision::Halves,
+    }
+}
 
 /// The number of stack slots that frames know.
 pub(crate) fn frame_slots(rules: RuleSet) -> usize
@@ -20,6 +34,17 @@ pub(crate) fn frame_slots(rules: RuleSet) -> usize
         // them serves all.
         RuleSet::One => 0,
         RuleSet::Two | RuleSet::Three => STACK_SLOTS,
+    }
+}
+
+/// The number of places that frames may link: the registers and the stack's slots.
+pub(crate) fn linked_places(rules: RuleSet) -> usize
+    ensures { result ≡ known_links rules }
+{
+    match rules {
+        // Where no place can be linked, no link is ever made.
+        RuleSet::One | RuleSet::Two => 0,
+        RuleSet::Three => REGISTERS + STACK_SLOTS,
     }
 }
 

@@ -4,16 +4,18 @@ ghost use Rattle.verifier.specs.Rules.{rule_at};
 ghost use Rattle.verifier.specs.Verdict.{IsFirstRefused, code_verdict, frame_at, whole_table};
 ghost use Rattle.verifier.specs.Frame.{entry};
 ghost use Rattle.verifier.specs.inner.Kept.{unbox};
-ghost use Rattle.verifier.specs.inner.Pass.{IsSpaced, awaited, HasLeft, IsSound, AllSound};
+ghost use Rattle.abstract_regs.specs.Edged.{heard, refined};
+ghost use Rattle.verifier.specs.inner.Pass.{IsSpaced, awaited, merged_if, HasLeft, IsSound, AllSound};
 
 use crate::answer::answer;
 use crate::fault::room;
 use crate::kept::PendingFrames;
-use crate::known::frame_slots;
+use crate::known::{frame_slots, linked_places, precision};
 use crate::refused::RefusedSlot;
 use crate::rule::Rule;
 use crate::rules::refusing_rule;
-use abstract_regs::{Edges, Frame, Kinds};
+use abstract_num::Precision;
+use abstract_regs::{Compared, Edges, Frame, Kinds};
 use bpf_decode::{Insn, Region, RuleSet, width};
 use bpf_machine::Caps;
 use std::alloc::{AllocError, Global};
@@ -39,7 +41,7 @@ pub fn first_refusal(
     caps: &Caps,
     code: &[Option<Insn>],
 ) -> Result<Option<(usize, Rule)>, AllocError>
-    requires small { length code.now < 2 ^ 62 }
+    requires small { length code.now < 2 ^ 32 }
     requires spaced { IsSpaced code.now }
     ensures verdict { IfOk result (λ r. r ≡ code_verdict rules caps.now code.now) }
     ensures sound { IfOk result (λ r. r ≡ None → AllSound rules caps.now code.now) }
@@ -56,7 +58,7 @@ pub fn first_refused(
     caps: &Caps,
     code: &[Option<Insn>],
 ) -> Result<Option<RefusedSlot>, AllocError>
-    requires small { length code.now < 2 ^ 62 }
+    requires small { length code.now < 2 ^ 32 }
     requires spaced { IsSpaced code.now }
     ensures { IfOk result (λ r. MatchOption r (code_verdict rules caps.now code.now ≡ None) (IsFirstRefused rules caps.now code.now)) }
 {
@@ -106,7 +108,14 @@ impl Pass {
         ensures landing { IfOk result (λ p. p.landing ≡ 0) }
     {
         let stack = caps.size(Region::Stack) as u64;
-        let entry = Frame::entry(alloc, u64::from(caps.in_cap), stack, frame_slots(rules))?;
+        let entry = Frame::entry(
+            alloc,
+            precision(rules),
+            u64::from(caps.in_cap),
+            stack,
+            frame_slots(rules),
+            linked_places(rules),
+        )?;
         Ok(Pass {
             current: Some(Box::new(alloc, entry)?),
             landing: 0,
@@ -123,7 +132,7 @@ impl Pass {
         caps: &Caps,
         code: &[Option<Insn>],
     ) -> Result<Option<(usize, Rule)>, AllocError>
-        requires small { length code.now < 2 ^ 62 }
+        requires small { length code.now < 2 ^ 32 }
         requires spaced { IsSpaced code.now }
         requires kept { self.old.kept ≡ replicate (length code.now) None }
         requires current { unbox self.old.current ≡ Some (entry rules caps.now) }
@@ -153,7 +162,7 @@ impl Pass {
         slot: usize,
         insn: &Insn,
     ) -> Result<Option<Rule>, AllocError>
-        requires { slot < 2 ^ 62 }
+        requires { slot < 2 ^ 32 }
         ensures rule { IfOk result (λ r. r ≡ rule_at rules caps.now code.now slot insn.now (awaited self.old slot)) }
         ensures left { IfOk result (λ r. (r ≡ None) → HasLeft rules (awaited self.old slot) (slice_set self.old.kept slot None) insn.now slot self.new) }
         ensures sound { IfOk result (λ r. (r ≡ None) → IsSound rules insn.now slot (awaited self.old slot)) }
@@ -194,14 +203,15 @@ impl Pass {
         slot: usize,
         insn: &Insn,
     ) -> Result<(), AllocError>
-        requires { slot < 2 ^ 62 }
+        requires { slot < 2 ^ 32 }
         ensures left { IfOk result (λ _. HasLeft rules (unbox self.old.current) self.old.kept insn.now slot self.new) }
         ensures sound { IfOk result (λ _. IsSound rules insn.now slot (unbox self.old.current)) }
     {
         self.landing = slot + width(insn);
         if let Some(mut frame) = self.current.take() {
             let answer = answer(rules, &frame, insn);
-            match frame.flow(room(insn), &answer, insn, slot, &mut self.fallen) {
+            let precision = precision(rules);
+            match frame.flow(precision, room(insn), &answer, insn, slot, &mut self.fallen) {
                 Edges::Leaves => self.kept.reuse(Some(frame)),
                 Edges::Falls => self.current = Some(frame),
                 Edges::Jumps(target) => self.kept.give(target, frame),
@@ -211,8 +221,45 @@ impl Pass {
                     frame.refine(&compared, &self.fallen);
                     self.current = Some(frame);
                 }
+                Edges::Forks(target, compared) => self.fork(
+                    alloc, precision, target, &compared, frame,
+                )?,
             }
         }
         Ok(())
+    }
+
+    /// Goes on along both edges of a comparison of linked registers, each of which may be dead: the
+    /// frame is the one along the first, before what the registers tell of others.
+    fn fork(
+        &mut self,
+        alloc: Global,
+        precision: Precision,
+        target: usize,
+        compared: &Compared,
+        mut frame: Box<Frame>,
+    ) -> Result<(), AllocError>
+        ensures taken { IfOk result (λ _. self.new.kept ≡ merged_if self.old.kept target (heard precision frame.value compared.now)) }
+        ensures fallen { IfOk result (λ _. unbox self.new.current ≡ heard precision (refined frame.value compared.now self.old.fallen) compared.now) }
+        ensures landing { IfOk result (λ _. self.new.landing ≡ self.old.landing) }
+    {
+        let taken = self.kept.copy(alloc, &frame)?;
+        self.kept.give_if(target, told(precision, compared, taken));
+        frame.refine(compared, &self.fallen);
+        self.current = told(precision, compared, frame);
+        Ok(())
+    }
+}
+
+/// A frame once compared registers have told what they know to the places with links of the same
+/// names. None if no value is left of one.
+#[inline(always)]
+fn told(precision: Precision, compared: &Compared, mut frame: Box<Frame>) -> Option<Box<Frame>>
+    ensures { unbox result ≡ heard precision frame.value compared.now }
+{
+    if frame.tell(precision, compared) {
+        Some(frame)
+    } else {
+        None
     }
 }

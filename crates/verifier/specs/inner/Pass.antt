@@ -11,6 +11,7 @@ use Rattle.abstract_regs.specs.Flow.{flow}
 use Rattle.abstract_regs.specs.Moves.{EachFits, Keeps}
 use Rattle.verifier.specs.declared.pass.Pass.{Pass}
 use Rattle.bpf_machine.specs.declared.caps.Caps.{Caps}
+use Rattle.verifier.specs.Frame.{precision_of}
 use Rattle.verifier.specs.Rules.{room_of}
 use Rattle.verifier.specs.Answers.{answer_of}
 use Rattle.verifier.specs.inner.Kept.{unbox}
@@ -18,6 +19,11 @@ use Rattle.verifier.specs.Verdict.{Table, frame_at, joined, met, along, whole_ta
 
 abbrev pub merged : Table → ℕ → PlainFrame → Table
 merged table q g = slice_set table q (Some (joined (frame_at table q) g))
+
+-- a flow that may be dead
+abbrev pub merged_if : Table → ℕ → Option PlainFrame → Table
+merged_if table q None = table
+merged_if table q (Some g) = merged table q g
 
 -- what has flowed into slot q, and what falls through to a slot more
 abbrev pub fallen : Option PlainFrame → ℕ → ℕ → Option PlainFrame → Option PlainFrame
@@ -31,7 +37,7 @@ awaited pass q = fallen (unbox pass.current) pass.landing q (frame_at pass.kept 
 -- the flows of an instruction whose frame is given, if there is one
 abbrev pub flown : RuleSet → Option PlainFrame → Insn → ℕ → ℕ → Option PlainFrame → Option PlainFrame
 flown rules None i p q inflow = inflow
-flown rules (Some f) i p q inflow = along (flow (room_of i) (answer_of rules f i) i p f) q inflow
+flown rules (Some f) i p q inflow = along (flow (precision_of rules) (room_of i) (answer_of rules f i) i p f) q inflow
 
 -- what the pass has once instruction i at slot p, whose frame is given, has flowed on
 pub record HasLeft (rules : RuleSet) (frame : Option PlainFrame) (kept : Table) (i : Insn) (p : ℕ) (pass : Pass) : Type 0 where
@@ -41,7 +47,7 @@ pub record HasLeft (rules : RuleSet) (frame : Option PlainFrame) (kept : Table) 
 
 -- what the flow of instruction i at slot p keeps, of a frame that is given, if there is one
 pub record Sound (rules : RuleSet) (i : Insn) (p : ℕ) (f : PlainFrame) : Type 0 where
-  pub keeps : Keeps (room_of i) (answer_of rules f i) i p f
+  pub keeps : Keeps (precision_of rules) (room_of i) (answer_of rules f i) i p f
   pub fits : EachFits f.registers
 
 abbrev pub IsSound : RuleSet → Insn → ℕ → Option PlainFrame → Type 0
