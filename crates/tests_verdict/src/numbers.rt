@@ -2,7 +2,7 @@ mod edges;
 mod parts;
 mod rows;
 
-use abstract_num::{Bits, Number, Product, SRange, URange};
+use abstract_num::{Bits, Half, Number, Product, SRange, URange};
 
 /// Unsigned ends, signed ends, value and unknown bits.
 type Six = (u64, u64, i64, i64, u64, u64);
@@ -20,7 +20,13 @@ const MAX: i64 = i64::MAX;
 
 const ANY: Six = (0, ALL, MIN, MAX, 0, ALL);
 
-/// The number of these six parts, if each part is a valid one.
+/// Every half.
+const ANY_HALF: Half = Half {
+    low: i32::MIN,
+    high: i32::MAX,
+};
+
+/// The number of these six parts and any half, if each part is a valid one.
 fn number(six: Six) -> Option<Number> {
     let (low, high, least, greatest, value, unknown) = six;
     if low <= high && least <= greatest && value & unknown == 0 {
@@ -31,7 +37,10 @@ fn number(six: Six) -> Option<Number> {
                     low: least,
                     high: greatest,
                 },
-                second: Bits { value, unknown },
+                second: Product {
+                    first: Bits { value, unknown },
+                    second: ANY_HALF,
+                },
             },
         })
     } else {
@@ -39,10 +48,10 @@ fn number(six: Six) -> Option<Number> {
     }
 }
 
-/// True if a number has these six parts.
+/// True if a number has these six parts, whatever its half.
 fn is(x: Number, six: Six) -> bool {
     match number(six) {
-        Some(y) => x == y,
+        Some(y) => x.unsigned() == y.unsigned() && x.signed() == y.signed() && x.bits() == y.bits(),
         None => false,
     }
 }

@@ -5,6 +5,7 @@ mod arithmetic;
 mod branches;
 mod calls;
 mod classes;
+mod copies;
 mod longest;
 mod methods;
 mod ranges;
@@ -18,7 +19,7 @@ use std::process::Abort;
 use verifier::{Refusal, verify};
 
 /// The most bytes that the code of a row has.
-const CODE_ROOM: usize = 128;
+const CODE_ROOM: usize = 160;
 
 /// The value of a hexadecimal digit; 0 of any other byte.
 fn digit(byte: u8) -> u8 {
@@ -204,6 +205,7 @@ fn judges_by_the_third_set(rt: HostRuntime) {
     let sets = (RuleSet::Three, RuleSet::Two);
     check_both(&rt, rt.alloc(), sets, third::THIRD, 26);
     check_both(&rt, rt.alloc(), sets, answers::ANSWERS, 42);
+    check_both(&rt, rt.alloc(), sets, copies::COPIES, 25);
 }
 
 #[test]

@@ -1,7 +1,7 @@
 //! Both edges of each comparison, by hand.
 
 use super::{ALL, ANY, MAX, MIN, Six, TOP, gives, number};
-use abstract_num::{Number, between, constant, loaded, refine};
+use abstract_num::{Number, Precision, between, constant, loaded, refine};
 use bpf_decode::{Comparison, OpWidth, Width};
 use std::process::Abort;
 
@@ -78,7 +78,7 @@ fn holds(bits: OpWidth, row: Row) -> bool {
     let (comparison, taken, six, by, want) = row;
     match number(six) {
         Some(x) => gives(
-            first(refine(bits, comparison, taken, x, constant(by))),
+            first(refine(Precision::Whole, bits, comparison, taken, x, constant(by))),
             want,
         ),
         None => false,
@@ -106,10 +106,11 @@ fn of_32_bits(rt: HostRuntime) {
 #[test]
 fn bits_of_a_loaded_byte(rt: HostRuntime) {
     let both = refine(
+        Precision::Whole,
         OpWidth::Bits64,
         Comparison::SharesBits,
         true,
-        loaded(Width::Byte),
+        loaded(Precision::Whole, Width::Byte),
         constant(256),
     );
     assert!(rt; gives(first(both), Some((0, 255, 0, 255, 0, ALL))));
@@ -118,10 +119,34 @@ fn bits_of_a_loaded_byte(rt: HostRuntime) {
 /// Both numbers are refined: the second one by the first, and by a constant first one.
 #[test]
 fn second_numbers(rt: HostRuntime) {
-    let (x, y) = (between(0, 20), between(5, 30));
-    let above = refine(OpWidth::Bits64, Comparison::Greater, true, x, y);
-    let apart = refine(OpWidth::Bits64, Comparison::NotEqual, true, constant(5), y);
-    let same = refine(OpWidth::Bits32, Comparison::Equal, true, x, y);
+    let (x, y) = (
+        between(Precision::Whole, 0, 20),
+        between(Precision::Whole, 5, 30),
+    );
+    let above = refine(
+        Precision::Whole,
+        OpWidth::Bits64,
+        Comparison::Greater,
+        true,
+        x,
+        y,
+    );
+    let apart = refine(
+        Precision::Whole,
+        OpWidth::Bits64,
+        Comparison::NotEqual,
+        true,
+        constant(5),
+        y,
+    );
+    let same = refine(
+        Precision::Whole,
+        OpWidth::Bits32,
+        Comparison::Equal,
+        true,
+        x,
+        y,
+    );
     assert!(rt;
         gives(first(above), Some((6, 20, 6, 20, 0, ALL)))
             && gives(second(above), Some((5, 19, 5, 19, 0, ALL)))

@@ -2,8 +2,8 @@
 
 use super::{ALL, MAX, MIN, Six, TOP, gives, is, number};
 use abstract_num::{
-    any, arithmetic, between, constant, highest, holds, is_below, join, loaded, loaded_signed,
-    signed_between, tighten,
+    Precision, any, arithmetic, between, constant, highest, holds, is_below, join, loaded,
+    loaded_signed, signed_between, tighten,
 };
 use bpf_decode::{Arithmetic, OpWidth, SignedWidth, Width};
 
@@ -25,7 +25,7 @@ fn tightened(rt: HostRuntime) {
     for (i, row) in ONCE.iter().enumerate() {
         let (six, want) = *row;
         let x = number(six).expect(&rt, "a number");
-        assert!(rt; gives(tighten(x), want), "row {i}");
+        assert!(rt; gives(tighten(Precision::Whole, x), want), "row {i}");
     }
 }
 
@@ -44,12 +44,18 @@ fn joined(rt: HostRuntime) {
 #[test]
 fn ranges(rt: HostRuntime) {
     assert!(rt;
-        is(between(0, 8), (0, 8, 0, 8, 0, ALL))
-            && is(between(3, 3), (3, 3, 3, 3, 3, 0))
-            && is(signed_between(-8, -5), (ALL - 7, ALL - 4, -8, -5, 0, ALL))
-            && is(loaded(Width::Double), (0, ALL, MIN, MAX, 0, ALL))
+        is(between(Precision::Whole, 0, 8), (0, 8, 0, 8, 0, ALL))
+            && is(between(Precision::Whole, 3, 3), (3, 3, 3, 3, 3, 0))
             && is(
-                loaded_signed(SignedWidth::Byte),
+                signed_between(Precision::Whole, -8, -5),
+                (ALL - 7, ALL - 4, -8, -5, 0, ALL)
+            )
+            && is(
+                loaded(Precision::Whole, Width::Double),
+                (0, ALL, MIN, MAX, 0, ALL)
+            )
+            && is(
+                loaded_signed(Precision::Whole, SignedWidth::Byte),
                 (0, ALL, -128, 127, 0, ALL)
             )
     );
@@ -57,7 +63,7 @@ fn ranges(rt: HostRuntime) {
 
 #[test]
 fn readings(rt: HostRuntime) {
-    let x = between(2, 9);
+    let x = between(Precision::Whole, 2, 9);
     assert!(rt; highest(&x) == 9 && holds(&x, 2) && !holds(&x, 10) && !holds(&constant(4), 5));
 }
 
@@ -73,7 +79,13 @@ fn constant_by_the_range(rt: HostRuntime) {
     let x = number((5, 5, MIN, MAX, 0, ALL)).expect(&rt, "a number");
     assert!(rt;
         gives(
-            arithmetic(OpWidth::Bits64, Arithmetic::Add, x, constant(1)),
+            arithmetic(
+                Precision::Whole,
+                OpWidth::Bits64,
+                Arithmetic::Add,
+                x,
+                constant(1)
+            ),
             Some((6, 6, 6, 6, 6, 0))
         )
     );

@@ -2,7 +2,7 @@
 
 use super::{ALL, ANY, LOW, MAX, MIN, Six, TOP, gives, number};
 use abstract_num::{
-    Number, arithmetic, between, constant, copied, negative, ordered, sign_extended,
+    Number, Precision, arithmetic, between, constant, copied, negative, ordered, sign_extended,
 };
 use bpf_decode::{Arithmetic, ByteOrder, EndWidth, OpWidth, SignedMove};
 use std::process::Abort;
@@ -90,7 +90,13 @@ fn holds(bits: OpWidth, row: Row) -> bool {
         return false;
     }
     gives(
-        arithmetic(bits, operation, between(a, b), between(c, d)),
+        arithmetic(
+            Precision::Whole,
+            bits,
+            operation,
+            between(Precision::Whole, a, b),
+            between(Precision::Whole, c, d),
+        ),
         Some(want),
     )
 }
@@ -149,7 +155,10 @@ fn known_parts(rt: HostRuntime) {
         let (bits, operation, six, by, want) = *row;
         let x = number(six).expect(&rt, "a number");
         assert!(rt;
-            gives(arithmetic(bits, operation, x, constant(by)), want),
+            gives(
+                arithmetic(Precision::Whole, bits, operation, x, constant(by)),
+                want
+            ),
             "row {i}"
         );
     }
@@ -192,10 +201,10 @@ const CHANGES: [One; 12] = [
 /// The number that an operation gives for a number.
 fn changed(change: &Change, x: Number) -> Option<Number> {
     match change {
-        Change::Copied(bits) => copied(*bits, x),
-        Change::Negative(bits) => negative(*bits, x),
-        Change::Extended(extension) => sign_extended(*extension, x),
-        Change::Ordered(order, width) => ordered(*order, *width, x),
+        Change::Copied(bits) => copied(Precision::Whole, *bits, x),
+        Change::Negative(bits) => negative(Precision::Whole, *bits, x),
+        Change::Extended(extension) => sign_extended(Precision::Whole, *extension, x),
+        Change::Ordered(order, width) => ordered(Precision::Whole, *order, *width, x),
     }
 }
 
@@ -205,7 +214,10 @@ fn changes_so(row: &One) -> bool {
     if low == high {
         gives(changed(change, constant(*low)), Some(*want))
     } else if low < high {
-        gives(changed(change, between(*low, *high)), Some(*want))
+        gives(
+            changed(change, between(Precision::Whole, *low, *high)),
+            Some(*want),
+        )
     } else {
         false
     }
