@@ -47,7 +47,7 @@ fn push_signed(out: &mut String, n: Number) -> Result<(), AllocError>
 fn says_bits(n: &Number) -> bool
     ensures { result ≡ says_bits (view n.now) }
 {
-    let unknown = n.second.second.unknown;
+    let unknown = n.second.second.first.unknown;
     unknown & unknown.wrapping_add(1) != 0
 }
 
@@ -86,8 +86,8 @@ fn push_bits(out: &mut String, n: Number) -> Result<(), AllocError>
     push_bits_if(
         out,
         says_bits(&n),
-        n.second.second.value,
-        n.second.second.unknown,
+        n.second.second.first.value,
+        n.second.second.first.unknown,
     )
 }
 
