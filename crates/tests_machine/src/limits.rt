@@ -9,7 +9,8 @@ use std::process::Abort;
 
 /// Copies the input's last byte to the output's last, writes the input to the object's last 65,535
 /// bytes, and answers with all of the output.
-const LONGEST: &str = ".rules 3; .method f w 65535 65535; mov r2, r1; add r1, 65534; ldxb r4, [r1+0];
+const LONGEST: &str =
+    ".rules 3; .method f w 65535 65535; mov r2, r1; add r1, 65534; ldxb r4, [r1+0];
 add r3, 65534; stxb [r3+0], r4; mov r1, 1; mov r3, 65535; call 3; mov r6, r0; mov r1, 65535; call 13;
 mov r0, r6; exit";
 

@@ -14,7 +14,8 @@ const SMALL: &str = ".method f r 24 16; ldxdw r0, [r1+8]; stdw [r3+0], -1; exit"
 
 /// Adds the last bytes of the input, the output and the stack as they were at first, leaves other
 /// ones in the last two for the next run, and puts out all of the output.
-const GREATEST: &str = ".rules 3; .method f r 65535 65535; add r1, 65534; ldxb r6, [r1+0]; add r3, 65534;
+const GREATEST: &str =
+    ".rules 3; .method f r 65535 65535; add r1, 65534; ldxb r6, [r1+0]; add r3, 65534;
 ldxb r4, [r3+0]; add r6, r4; ldxdw r4, [r10-512]; add r6, r4; stb [r3+0], 9; stdw [r10-512], -1;
 mov r1, 65535; call 13; mov r0, r6; exit";
 
