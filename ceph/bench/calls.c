@@ -1,12 +1,15 @@
 /* Calls of object classes, as many as come in a time: what ceph/bench.sh measures with.
  *
- *     calls WORK CLIENTS SECONDS SIZE CLASSES [MOST]
+ *     calls WORK,WORK,.. CLIENTS SECONDS SIZE CLASSES [MOST]
  *
- * Each client is a thread with a session of its own, and one object of its own with SIZE bytes of
- * data and KEYS of the environment (0) other keys. CLASSES is a folder of our class images. With MOST
- * it ends after so many calls, if the time isn't up before. The cluster is that of CEPH_CONF, its pool
- * `bpf`. It prints calls per second, mean and 99th percentile of the latency in microseconds, and
- * failed calls. WORK is one of
+ * Each client is a thread with a session of its own, and for each work an object of its own with SIZE
+ * bytes of data and KEYS of the environment (0) other keys, which is removed at the end. CLASSES is a
+ * folder of our class images. All clients make calls of one work for a turn, then of the next, and so on,
+ * SECONDS for each, so that all works meet with the same machine; what begins while calls of the turn
+ * before are on their way isn't counted. With MOST a single work ends after so many calls. The cluster is
+ * that of CEPH_CONF, its pool `bpf`, and OSDS has the ids of its OSDs. For each work it prints its name,
+ * calls a second, mean and 99th percentile of the latency and the OSDs' processor time a call, all in
+ * microseconds, and failed calls. WORK is one of
  *
  *     lock                 Ceph's class lock, in C++: lock and unlock by turns
  *     lock.2               ours, installed
@@ -16,9 +19,11 @@
  *     bpf_count            ours, loaded beside the object
  *     lua                  the same in Ceph's class for tenants' code
  *     hello                Ceph's class hello, in C++: answers a word and reads nothing
+ *     replay               the same class: the first 1,100 bytes of the data
  *     stat, read           ours, installed: the length of the data; its first 64 bytes
  *     bpf_stat, bpf_read   ours, loaded beside the object
  */
+#include <math.h>
 #include <pthread.h>
 #include <rados/librados.h>
 #include <stdint.h>
@@ -26,8 +31,12 @@
 #include <stdlib.h>
 #include <string.h>
 #include <time.h>
+#include <unistd.h>
 
-enum { MOST_CLIENTS = 64, MOST_CALLS = 1000000 };
+enum { MOST_CLIENTS = 64, MOST_WORKS = 16, MOST_CALLS = 200000 };
+
+/* The seconds of a turn, and of its beginning that isn't counted. */
+static const double TURN = 0.5, SETTLING = 0.05;
 
 struct message {
     char bytes[1 << 13];
@@ -35,19 +44,23 @@ struct message {
 };
 
 struct client {
-    rados_t cluster;
+    const char *work;
     rados_ioctx_t pool;
     char object[64];
     struct message first, second; /* requests that are made by turns */
-    long calls, failed;
+    long asked, counted, failed;
     int error;
     float *latency;
 };
 
-static const char *work, *classes;
+static rados_t clusters[MOST_CLIENTS];
+static rados_ioctx_t pools[MOST_CLIENTS];
+static struct client clients[MOST_WORKS][MOST_CLIENTS];
+static int works;
+static const char *classes;
 static size_t size;
 static long most;
-static double end;
+static double start, end;
 static char data[4 << 20];
 
 static const char SCRIPT[] = "function add(input, output) local found, value = pcall(objclass.map_get_val, 'n') "
@@ -106,26 +119,33 @@ static void load(struct client *one, const char *class) {
 
 /* Keys beside the one that is counted. */
 static void put_keys(struct client *one, int count) {
-    char names[16];
+    rados_write_op_t op = rados_create_write_op();
     for (int i = 0; i < count; i++) {
-        const char *name = names, *value = "value";
-        size_t length = snprintf(names, sizeof names, "other%d", i), size = 5;
-        rados_write_op_t op = rados_create_write_op();
+        char text[16];
+        const char *name = text, *value = "value";
+        size_t length = snprintf(text, sizeof text, "other%d", i), size = 5;
         rados_write_op_omap_set2(op, &name, &value, &length, &size, 1);
-        must(rados_write_op_operate(op, one->pool, one->object, NULL, 0), "key");
-        rados_release_write_op(op);
     }
+    must(rados_write_op_operate(op, one->pool, one->object, NULL, 0), "keys");
+    rados_release_write_op(op);
 }
 
-static void begin(struct client *one, int number) {
-    must(rados_create2(&one->cluster, "ceph", "client.admin", 0), "session");
-    must(rados_conf_read_file(one->cluster, getenv("CEPH_CONF")), "CEPH_CONF");
-    must(rados_connect(one->cluster), "cluster");
-    must(rados_ioctx_create(one->cluster, "bpf", &one->pool), "pool");
+static void connect_client(int number) {
+    must(rados_create2(&clusters[number], "ceph", "client.admin", 0), "session");
+    must(rados_conf_read_file(clusters[number], getenv("CEPH_CONF")), "CEPH_CONF");
+    must(rados_connect(clusters[number]), "cluster");
+    must(rados_ioctx_create(clusters[number], "bpf", &pools[number]), "pool");
+}
+
+static void begin(struct client *one, const char *work, int number) {
+    one->work = work;
+    one->pool = pools[number];
     snprintf(one->object, sizeof one->object, "bench.%s.%zu.%d", work, size, number);
     rados_remove(one->pool, one->object);
     must(rados_write_full(one->pool, one->object, data, size), "object");
-    put_keys(one, getenv("KEYS") ? atoi(getenv("KEYS")) : 0);
+    int keys = getenv("KEYS") ? atoi(getenv("KEYS")) : 0;
+    if (keys)
+        put_keys(one, keys);
     one->latency = malloc(sizeof(float) * MOST_CALLS);
     if (!strcmp(work, "bpf_lock")) {
         load(one, "lock");
@@ -153,8 +173,9 @@ static void begin(struct client *one, int number) {
 }
 
 static int call(struct client *one) {
-    char out[256];
-    int second = one->calls & 1;
+    char out[2048];
+    const char *work = one->work;
+    int second = one->asked++ & 1;
     struct message *request = second ? &one->second : &one->first;
     const char *class = "bpf", *method = "run";
     if (!strcmp(work, "lock"))
@@ -172,16 +193,31 @@ static int call(struct client *one) {
         class = "lua", method = "eval_json";
     else if (!strcmp(work, "hello"))
         class = "hello", method = "say_hello";
+    else if (!strcmp(work, "replay"))
+        class = "hello", method = "replay";
     else if (!strcmp(work, "bpf_stat") || !strcmp(work, "bpf_read"))
         method = "see";
     return rados_exec(one->pool, one->object, class, method, request->bytes, request->length, out, sizeof out);
 }
 
+/* Whose turn it is at a time. */
+static int turn(double time) {
+    return (long)((time - start) / TURN) % works;
+}
+
+static int counts(double time) {
+    return works == 1 || fmod(time - start, TURN) >= SETTLING;
+}
+
 static void *run(void *argument) {
-    struct client *one = argument;
-    for (double start = now(); start < end && one->calls < most; start = now()) {
+    long number = (long)argument;
+    for (double time = now(); time < end; time = now()) {
+        struct client *one = &clients[turn(time)][number];
+        if (one->asked == most)
+            break;
         int result = call(one);
-        one->latency[one->calls++] = (now() - start) * 1e6;
+        if (counts(time) && one->counted < MOST_CALLS)
+            one->latency[one->counted++] = (now() - time) * 1e6;
         if (result < 0) {
             one->failed++;
             one->error = result;
@@ -190,50 +226,97 @@ static void *run(void *argument) {
     return NULL;
 }
 
+/* The processor time that the OSDs took so far, in seconds. */
+static double taken(void) {
+    char ids[256];
+    double sum = 0;
+    snprintf(ids, sizeof ids, "%s", getenv("OSDS") ? getenv("OSDS") : "");
+    for (char *id = strtok(ids, " "); id; id = strtok(NULL, " ")) {
+        clockid_t clock;
+        struct timespec time;
+        must(-clock_getcpuclockid(atoi(id), &clock), "OSDS");
+        must(clock_gettime(clock, &time), "OSDS");
+        sum += time.tv_sec + time.tv_nsec / 1e9;
+    }
+    return sum;
+}
+
+static void sleep_until(double time) {
+    double left = time - now();
+    if (left > 0)
+        usleep(left * 1e6);
+}
+
 static int compare(const void *a, const void *b) {
     float x = *(const float *)a, y = *(const float *)b;
     return (x > y) - (x < y);
 }
 
+/* What the calls of one work took in so many seconds, and of the OSDs' processor time. */
+static int print(struct client *of, int number, double took, double processor) {
+    long calls = 0, failed = 0, at = 0;
+    double sum = 0;
+    for (int i = 0; i < number; i++) {
+        calls += of[i].counted;
+        failed += of[i].failed;
+        if (of[i].failed)
+            fprintf(stderr, "%s: %ld failed: %s\n", of[i].work, of[i].failed, strerror(-of[i].error));
+    }
+    float *all = malloc(sizeof(float) * (calls + 1));
+    for (int i = 0; i < number; i++)
+        for (long j = 0; j < of[i].counted; j++)
+            sum += all[at++] = of[i].latency[j];
+    qsort(all, calls, sizeof *all, compare);
+    printf("%s %.0f %.0f %.0f %.0f %ld\n", of->work, calls / took, sum / calls, all[calls * 99 / 100],
+           processor / calls * 1e6, failed);
+    return failed != 0;
+}
+
 int main(int count, char **words) {
-    static struct client clients[MOST_CLIENTS];
     pthread_t threads[MOST_CLIENTS];
+    const char *names[MOST_WORKS];
     if (count < 6)
         return 2;
-    work = words[1];
+    for (char *name = strtok(words[1], ","); name && works < MOST_WORKS; name = strtok(NULL, ","))
+        names[works++] = name;
     int number = atoi(words[2]);
     size = strtoul(words[4], NULL, 10);
     classes = words[5];
-    most = count > 6 ? atol(words[6]) / number : MOST_CALLS;
-    if (number < 1 || number > MOST_CLIENTS || size > sizeof data || most > MOST_CALLS)
+    most = count > 6 ? atol(words[6]) / number : -1;
+    if (!works || (works > 1 && count > 6) || number < 1 || number > MOST_CLIENTS || size > sizeof data)
         return 2;
-    for (int i = 0; i < number; i++)
-        begin(&clients[i], i);
-    double start = now();
-    end = start + atof(words[3]);
-    for (int i = 0; i < number; i++)
-        pthread_create(&threads[i], NULL, run, &clients[i]);
-    long calls = 0, failed = 0;
-    int error = 0;
     for (int i = 0; i < number; i++) {
+        connect_client(i);
+        for (int j = 0; j < works; j++)
+            begin(&clients[j][i], names[j], i);
+    }
+    double took[MOST_WORKS] = {0}, processor[MOST_WORKS] = {0}, before = taken();
+    start = now();
+    end = start + works * atof(words[3]);
+    for (long i = 0; i < number; i++)
+        pthread_create(&threads[i], NULL, run, (void *)i);
+    for (double time = start; works > 1 && time < end; time += TURN) {
+        int whose = turn(time + TURN / 2);
+        sleep_until(time + SETTLING);
+        before = taken();
+        sleep_until(time + TURN);
+        processor[whose] += taken() - before;
+        took[whose] += TURN - SETTLING;
+    }
+    for (int i = 0; i < number; i++)
         pthread_join(threads[i], NULL);
-        calls += clients[i].calls;
-        failed += clients[i].failed;
-        error = clients[i].error ? clients[i].error : error;
+    if (works == 1) {
+        took[0] = now() - start;
+        processor[0] = taken() - before;
     }
-    double took = now() - start, sum = 0;
-    float *all = malloc(sizeof(float) * (calls + 1));
-    long at = 0;
-    for (int i = 0; i < number; i++)
-        for (long j = 0; j < clients[i].calls; j++)
-            sum += all[at++] = clients[i].latency[j];
-    qsort(all, calls, sizeof *all, compare);
-    printf("%.0f %.0f %.0f %ld\n", calls / took, sum / calls, all[calls * 99 / 100], failed);
-    if (failed)
-        fprintf(stderr, "%s: %ld failed: %s\n", work, failed, strerror(-error));
+    int bad = 0;
+    for (int j = 0; j < works; j++)
+        bad |= print(clients[j], number, took[j], processor[j]);
     for (int i = 0; i < number; i++) {
-        rados_ioctx_destroy(clients[i].pool);
-        rados_shutdown(clients[i].cluster);
+        for (int j = 0; j < works; j++)
+            rados_remove(pools[i], clients[j][i].object);
+        rados_ioctx_destroy(pools[i]);
+        rados_shutdown(clusters[i]);
     }
-    return failed != 0;
+    return bad;
 }
