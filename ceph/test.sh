@@ -113,6 +113,10 @@ await() {
 
 is_clean() { ceph_within 20 pg stat | grep -qE '^([0-9]+) pgs: \1 active\+clean;'; }
 
+# Each OSD has groups and answers. A slow machine's groups are clean for some seconds after an OSD was
+# killed, as nobody has told the monitor yet.
+all_asked() { timeout 60 radosbpf check bpf 2>&1 | grep -q '^3 OSDs asked'; }
+
 # A command's status, and all that it prints, in one line.
 said() {
     local printed
@@ -315,6 +319,7 @@ try_rights() {
     "$here/cluster.sh" kill "$cluster" 2
     "$here/cluster.sh" osd "$cluster" 2
     await 120 is_clean
+    await 120 all_asked
     bpf "with bpf on it" "0 " load "$object" lock "$lock"
     bpf "an image in a request" "1 refused -95: the OSD has no class bpf, or no such method of it: those for classes \
 that are sent are off unless asked for" call "$object" @"$lock" lock --input 6d65
