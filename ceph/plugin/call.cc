@@ -18,9 +18,10 @@ int test_answer(const answer &found, kind as) {
     bool changes = found.edits_len > 0;
     if (changes && !as.may_change)
         return CHANGE_IN_READ;
-    // A longer reply of a change is answered -75 by the OSD, and the change stands.
-    size_t most = ceph::global::g_conf().get_val<Option::size_t>("osd_max_write_op_reply_len").value;
-    if (changes && found.output_len + (as.framed ? FRAME : 0) > most)
+    // A longer reply of a change is answered -75 by the OSD, and the change stands. The setting is asked for
+    // where it matters alone: it is found by its name, which takes as long as the object's xattrs.
+    size_t reply = found.output_len + (as.framed ? FRAME : 0);
+    if (changes && reply && reply > ceph::global::g_conf().get_val<Option::size_t>("osd_max_write_op_reply_len").value)
         return REPLY_TOO_LONG;
     if (!as.framed && !is_result(found.code))
         return NO_RESULT;
