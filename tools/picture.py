@@ -37,7 +37,7 @@ def table(text):
 
 def picture(size, clients, groups):
     most = max(number for _, rows in groups for _, number in rows)
-    title = f"Calls a second in a Ceph OSD: {clients} clients, objects of {size} bytes, ours loaded beside the object"
+    title = f"Calls a second in a Ceph OSD: {clients} clients, objects of {size} bytes"
     made, at = [f'<text x="10" y="22" font-weight="bold">{title}</text>'], 34
     for group, rows in groups:
         made.append(f'<text x="10" y="{at + 15}" font-weight="bold">{group}</text>')
