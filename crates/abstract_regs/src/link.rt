@@ -20,10 +20,11 @@ pub enum Form {
 /// a distance, modulo `2^64`, in a form.
 #[derive(Clone, Copy)]
 pub struct Link {
-    pub(crate) distance: u64,
+    /// What is added to the number, modulo `2^64`.
+    pub distance: u64,
     /// The slot of the instruction that gave the name.
-    pub(crate) name: u32,
-    pub(crate) form: Form,
+    pub name: u32,
+    pub form: Form,
 }
 
 /// A link takes two words.

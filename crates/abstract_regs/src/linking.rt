@@ -158,9 +158,10 @@ impl Frame {
         }
     }
 
-    /// The link of a place.
+    /// The link of a place: of a register, or of a slot of the stack, from place 11 on. Past the last
+    /// place, and in rule sets 1 and 2, there is none.
     #[inline(always)]
-    pub(crate) fn link(&self, place: usize) -> Link
+    pub fn link(&self, place: usize) -> Link
         ensures { result ≡ link_in self.now.links place }
     {
         link_in(&self.links, place)
