@@ -1,8 +1,10 @@
 -- The text of a register's known kind.
-use Rattle.std.specs.Prelude.{ℕ, pos, negsuc, ◌+◌, ◌%◌, ◌^◌, ◌==◌, ◌&&◌, ◌||◌, not, nat_le, int_lt, bit_and, Bool, true, false, List, [], ◌++◌, codes, if◌then◌else◌}
+use Rattle.std.specs.Prelude.{ℕ, ℤ, pos, negsuc, ◌+◌, ◌%◌, ◌^◌, ◌==◌, ◌&&◌, ◌||◌, not, nat_le, int_lt, bit_and, Bool, true, false, List, [], ◌++◌, codes, if◌then◌else◌}
 use Rattle.std.specs.Fmt.{decimal, signed_decimal}
 use Rattle.abstract_num.specs.Plain.{Plain}
 use Rattle.abstract_regs.specs.Kind.{PlainKind, Unset, Num, Ptr}
+use Rattle.bpf_decode.specs.declared.rule_set.RuleSet.{RuleSet}
+use Rattle.bpf_decode.specs.declared.rule_set.RuleSet.TheVariants.{One, Two, Three}
 use Rattle.bpf_decode.specs.declared.region.Region.{Region}
 use Rattle.bpf_decode.specs.declared.region.Region.TheVariants.{Input, Output, Stack}
 
@@ -39,8 +41,30 @@ bits_if true value unknown = ones_text value ++ others_text unknown
 abbrev pub bits_text : Plain → List ℕ
 bits_text n = bits_if (says_bits n) n.value n.unknown
 
-abbrev pub number_text : Plain → List ℕ
-number_text n = range_text n ++ signed_text n ++ bits_text n
+-- the half says more: the range leaves numbers past 31 bits, and some halves are excluded
+abbrev pub excludes_halves : Plain → Bool
+excludes_halves n =
+    not (n.low == n.high) && nat_le 2147483648 n.high
+    && (int_lt (negsuc 2147483647) n.half_least || int_lt n.half_greatest (pos 2147483647))
+
+-- rule sets 1 and 2 know no halves
+abbrev pub says_half : RuleSet → Plain → Bool
+says_half One n = false
+says_half Two n = false
+says_half Three n = excludes_halves n
+
+unfoldable pub low_half_text : ℤ → ℤ → List ℕ
+low_half_text least greatest = codes ", low half " ++ signed_decimal least ++ codes ".." ++ signed_decimal greatest
+
+abbrev pub half_if : Bool → ℤ → ℤ → List ℕ
+half_if false least greatest = []
+half_if true least greatest = low_half_text least greatest
+
+abbrev pub half_text : RuleSet → Plain → List ℕ
+half_text rules n = half_if (says_half rules n) n.half_least n.half_greatest
+
+abbrev pub number_text : RuleSet → Plain → List ℕ
+number_text rules n = range_text n ++ signed_text n ++ bits_text n ++ half_text rules n
 
 abbrev pub region_text : Region → List ℕ
 region_text Input = codes "input"
@@ -48,7 +72,7 @@ region_text Output = codes "output"
 region_text Stack = codes "stack"
 
 -- a pointer by its region and its distance from the region's first byte
-abbrev pub kind_text : PlainKind → List ℕ
-kind_text Unset = codes "unset"
-kind_text (Num n) = number_text n
-kind_text (Ptr r at) = region_text r ++ codes " + " ++ number_text at
+abbrev pub kind_text : RuleSet → PlainKind → List ℕ
+kind_text rules Unset = codes "unset"
+kind_text rules (Num n) = number_text rules n
+kind_text rules (Ptr r at) = region_text r ++ codes " + " ++ number_text rules at

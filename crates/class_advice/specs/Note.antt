@@ -1,8 +1,10 @@
 -- The note below the line that refuses a method.
-use Rattle.std.specs.Prelude.{ℕ, zero, suc, ◌+◌, List, [], ◌∷◌, ◌++◌, Option, Some, None, codes, slice_get, if◌then◌else◌}
+use Rattle.std.specs.Prelude.{ℕ, zero, suc, ◌+◌, ◌==◌, ◌&&◌, not, Bool, List, [], ◌∷◌, ◌++◌, Option, Some, None, codes, slice_get, if◌then◌else◌}
 use Rattle.std.specs.Fmt.{decimal}
 use Rattle.abstract_regs.specs.Frame.{PlainFrame, kind_at}
 use Rattle.abstract_regs.specs.Kind.{PlainKind}
+use Rattle.abstract_regs.specs.Link.{is_whole, link_in}
+use Rattle.abstract_regs.specs.declared.link.Link.{Link}
 use Rattle.asm_lines.specs.Canonical.{canonical_text}
 use Rattle.bpf_decode.specs.Class.{Class, ClassMethod}
 use Rattle.bpf_decode.specs.declared.rule_set.RuleSet.{RuleSet}
@@ -22,22 +24,43 @@ use Rattle.class_advice.specs.Known.{kind_text}
 use Rattle.class_advice.specs.Read.{is_read}
 use Rattle.class_advice.specs.Touched.{touched_text}
 
-abbrev pub register_line : ℕ → PlainKind → List ℕ
-register_line r kind = codes "  r" ++ decimal r ++ codes " = " ++ kind_text kind ++ codes "\n"
+-- ---- copies: registers that have one number whole, at one distance
 
-abbrev pub line_if_read : Insn → PlainFrame → ℕ → List ℕ
-line_if_read i f r = if is_read i r then register_line r (kind_at f r) else []
+abbrev pub same_whole : Link → Link → Bool
+same_whole l m = is_whole l.form && is_whole m.form && l.name == m.name && l.distance == m.distance
+
+-- s is another register than r, and has the same number
+abbrev pub is_copy : PlainFrame → ℕ → ℕ → Bool
+is_copy f r s = not (r == s) && same_whole (link_in f.links r) (link_in f.links s)
+
+-- the least of the n registers from s on that is a copy of r
+abbrev pub copied_register : PlainFrame → ℕ → ℕ → ℕ → Option ℕ
+copied_register f r s zero = None
+copied_register f r s (suc n) = if is_copy f r s then Some s else copied_register f r (s + 1) n
+
+abbrev pub copy_text : Option ℕ → List ℕ
+copy_text None = []
+copy_text (Some s) = codes ", a copy of r" ++ decimal s
+
+-- ---- the registers
+
+-- a register by its number, with its known kind and the one that it is a copy of
+abbrev pub register_line : RuleSet → ℕ → PlainKind → Option ℕ → List ℕ
+register_line rules r kind copied = codes "  r" ++ decimal r ++ codes " = " ++ kind_text rules kind ++ copy_text copied ++ codes "\n"
+
+abbrev pub line_if_read : RuleSet → Insn → PlainFrame → ℕ → List ℕ
+line_if_read rules i f r = if is_read i r then register_line rules r (kind_at f r) (copied_register f r 0 11) else []
 
 -- the lines of the n registers from r on
-abbrev pub registers_text : Insn → PlainFrame → ℕ → ℕ → List ℕ
-registers_text i f r zero = []
-registers_text i f r (suc n) = line_if_read i f r ++ registers_text i f (r + 1) n
+abbrev pub registers_text : RuleSet → Insn → PlainFrame → ℕ → ℕ → List ℕ
+registers_text rules i f r zero = []
+registers_text rules i f r (suc n) = line_if_read rules i f r ++ registers_text rules i f (r + 1) n
 
 -- a call of what is no helper reads no register
-abbrev pub known_text : Rule → Insn → Option PlainFrame → List ℕ
-known_text rule i None = codes "  nothing leads here\n"
-known_text UnknownHelper i (Some f) = []
-known_text rule i (Some f) = registers_text i f 0 11
+abbrev pub known_text : RuleSet → Rule → Insn → Option PlainFrame → List ℕ
+known_text rules rule i None = codes "  nothing leads here\n"
+known_text rules UnknownHelper i (Some f) = []
+known_text rules rule i (Some f) = registers_text rules i f 0 11
 
 -- the ids of a rule set's helpers
 abbrev pub helper_ids : RuleSet → List ℕ
@@ -77,8 +100,8 @@ wanted_text rules rule = codes "  wanted: " ++ wanted rules rule ++ codes "\n  s
 -- rule wants, the page, the slots of the stack that it may touch, and the advice
 abbrev pub slot_text : RuleSet → ClassMethod → ℕ → Rule → Insn → Option PlainFrame → List ℕ
 slot_text rules m slot rule i known =
-    head_text m ++ canonical_text (i ∷ []) ++ known_text rule i known ++ wanted_text rules rule
-    ++ touched_text rule i known ++ advised_text (advice_for rules rule m.instructions slot (caps_of m) known i)
+    head_text m ++ canonical_text (i ∷ []) ++ known_text rules rule i known ++ wanted_text rules rule
+    ++ touched_text rules rule i known ++ advised_text (advice_for rules rule m.instructions slot (caps_of m) known i)
 
 abbrev pub at_slot : RuleSet → ClassMethod → ℕ → Rule → Option Insn → Option PlainFrame → List ℕ
 at_slot rules m slot rule None known = []

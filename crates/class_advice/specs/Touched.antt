@@ -8,6 +8,7 @@ use Rattle.abstract_regs.specs.Slots.{access_span, stack_place, stack_range, tou
 use Rattle.bpf_decode.specs.Values.{extended}
 use Rattle.bpf_decode.specs.declared.insn.Insn.{Insn}
 use Rattle.bpf_decode.specs.declared.region.Region.TheVariants.{Stack}
+use Rattle.bpf_decode.specs.declared.rule_set.RuleSet.{RuleSet}
 use Rattle.helpers.specs.Effect.{Takes}
 use Rattle.helpers.specs.Table.{signature_of}
 use Rattle.helpers.specs.declared.argument.Argument.{Argument}
@@ -55,17 +56,17 @@ abbrev pub insn_touches : PlainFrame → Insn → ℕ → Bool
 insn_touches f i j = memory_touches f (touches_of i) j || helper_touches f (callee_of i) j
 
 -- a slot by its distance below register 10, and its known kind; nothing in rule set 1
-abbrev pub slot_line : ℕ → Option PlainKind → List ℕ
-slot_line j None = []
-slot_line j (Some x) = codes "  [r10-" ++ decimal (512 - 8 * j) ++ codes "] = " ++ kind_text x ++ codes "\n"
+abbrev pub slot_line : RuleSet → ℕ → Option PlainKind → List ℕ
+slot_line rules j None = []
+slot_line rules j (Some x) = codes "  [r10-" ++ decimal (512 - 8 * j) ++ codes "] = " ++ kind_text rules x ++ codes "\n"
 
-unfoldable pub line_if_touched : Insn → PlainFrame → ℕ → List ℕ
-line_if_touched i f j = if insn_touches f i j then slot_line j (kept_kind f (Ptr Stack (constant (8 * j))) 0 8) else []
+unfoldable pub line_if_touched : RuleSet → Insn → PlainFrame → ℕ → List ℕ
+line_if_touched rules i f j = if insn_touches f i j then slot_line rules j (kept_kind f (Ptr Stack (constant (8 * j))) 0 8) else []
 
 -- the lines of the n slots from j on
-abbrev pub slots_text : Insn → PlainFrame → ℕ → ℕ → List ℕ
-slots_text i f j zero = []
-slots_text i f j (suc n) = line_if_touched i f j ++ slots_text i f (j + 1) n
+abbrev pub slots_text : RuleSet → Insn → PlainFrame → ℕ → ℕ → List ℕ
+slots_text rules i f j zero = []
+slots_text rules i f j (suc n) = line_if_touched rules i f j ++ slots_text rules i f (j + 1) n
 
 -- the rules about slots
 abbrev pub is_of_slots : Rule → Bool
@@ -74,6 +75,6 @@ is_of_slots PointerStored = true
 is_of_slots PointerBytes = true
 is_of_slots rule = false
 
-abbrev pub touched_text : Rule → Insn → Option PlainFrame → List ℕ
-touched_text rule i None = []
-touched_text rule i (Some f) = if is_of_slots rule then slots_text i f 0 64 else []
+abbrev pub touched_text : RuleSet → Rule → Insn → Option PlainFrame → List ℕ
+touched_text rules rule i None = []
+touched_text rules rule i (Some f) = if is_of_slots rule then slots_text rules i f 0 64 else []

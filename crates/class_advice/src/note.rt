@@ -1,10 +1,11 @@
 //! The note below the line that refuses a method.
 ghost use Rattle.std.specs.Prelude.{◌≡◌, ◌++◌, ◌+◌, ◌<◌, [], ◌∷◌, IfOk, OnOk, codes, string_bytes};
 ghost use Rattle.std.specs.Fmt.{decimal};
+ghost use Rattle.abstract_regs.specs.Link.{is_whole};
 ghost use Rattle.abstract_regs.specs.Seen.{seen};
 ghost use Rattle.asm_lines.specs.Canonical.{canonical_text};
 ghost use Rattle.bpf_decode.specs.Class.{IsMethod};
-ghost use Rattle.class_advice.specs.Note.{head_text, helper_ids, known_text, line_if_read, of_verdict, refusal_note, register_line, registers_text, slot_text, wanted, wanted_text};
+ghost use Rattle.class_advice.specs.Note.{copied_register, copy_text, head_text, helper_ids, is_copy, known_text, line_if_read, of_verdict, refusal_note, register_line, registers_text, same_whole, slot_text, wanted, wanted_text};
 ghost use Rattle.verifier.specs.Verdict.{method_verdict};
 
 use crate::advice::push_advised;
@@ -12,31 +13,87 @@ use crate::advise::advice_for;
 use crate::known::push_kind;
 use crate::read::is_read;
 use crate::touched::push_touched;
-use abstract_regs::{Frame, Kind};
+use abstract_regs::{Form, Frame, Kind, Link};
 use bpf_decode::{ClassImage, Insn, Method, RuleSet};
 use std::alloc::{AllocError, Global};
 use verifier::{Refusal, RefusedSlot, Rule, refused_slot};
 
+/// True if the number is had whole.
+fn is_whole(form: Form) -> bool
+    ensures { result ≡ is_whole form }
+{
+    match form {
+        Form::Whole => true,
+        Form::Unlinked | Form::Low | Form::Up | Form::Sign => false,
+    }
+}
+
+/// True if both links are of one number whole, at one distance.
+fn same_whole(x: Link, y: Link) -> bool
+    ensures { result ≡ same_whole x y }
+{
+    is_whole(x.form) && is_whole(y.form) && x.name == y.name && x.distance == y.distance
+}
+
+/// True if another register has the same number.
+fn is_copy(frame: &Frame, register: usize, other: usize) -> bool
+    ensures { result ≡ is_copy frame.now register other }
+{
+    register != other && same_whole(frame.link(register), frame.link(other))
+}
+
+/// The least that is a copy of a register, of the `left` registers from `first` on.
+fn copied_register(frame: &Frame, register: usize, first: usize, left: usize) -> Option<usize>
+    requires { first + left < 100 }
+    ensures { result ≡ copied_register frame.now register first left }
+{
+    for each in first..first + left {
+        if is_copy(frame, register, each) {
+            return Some(each);
+        }
+    }
+    None
+}
+
+/// Adds the register that one is a copy of, if there is one.
+fn push_copy(out: &mut String, copied: Option<usize>) -> Result<(), AllocError>
+    ensures { OnOk result (string_bytes out.new ≡ string_bytes out.old ++ copy_text copied) }
+{
+    match copied {
+        None => Ok(()),
+        Some(other) => write!(out, ", a copy of r{other}"),
+    }
+}
+
 /// Adds a register's line.
-fn push_register(out: &mut String, register: usize, kind: Kind) -> Result<(), AllocError>
-    ensures { OnOk result (string_bytes out.new ≡ string_bytes out.old ++ register_line register (seen kind)) }
+fn push_register(
+    out: &mut String,
+    rules: RuleSet,
+    register: usize,
+    kind: Kind,
+    copied: Option<usize>,
+) -> Result<(), AllocError>
+    ensures { OnOk result (string_bytes out.new ≡ string_bytes out.old ++ register_line rules register (seen kind) copied) }
 {
     write!(out, "  r{register} = ")?;
-    push_kind(out, kind)?;
+    push_kind(out, rules, kind)?;
+    push_copy(out, copied)?;
     out.push_str("\n")
 }
 
 /// Adds the line of a register, if an instruction reads it.
 fn push_if_read(
     out: &mut String,
+    rules: RuleSet,
     insn: &Insn,
     frame: &Frame,
     register: usize,
 ) -> Result<(), AllocError>
-    ensures { OnOk result (string_bytes out.new ≡ string_bytes out.old ++ line_if_read insn.now frame.now register) }
+    ensures { OnOk result (string_bytes out.new ≡ string_bytes out.old ++ line_if_read rules insn.now frame.now register) }
 {
     if is_read(insn, register) {
-        push_register(out, register, frame.kind(register))
+        let copied = copied_register(frame, register, 0, 11);
+        push_register(out, rules, register, frame.kind(register), copied)
     } else {
         Ok(())
     }
@@ -45,16 +102,17 @@ fn push_if_read(
 /// Adds the lines of those that an instruction reads of the `left` registers from a number on.
 fn push_registers(
     out: &mut String,
+    rules: RuleSet,
     insn: &Insn,
     frame: &Frame,
     register: usize,
     left: usize,
 ) -> Result<(), AllocError>
     requires { register + left < 100 }
-    ensures { OnOk result (string_bytes out.new ≡ string_bytes out.old ++ registers_text insn.now frame.now register left) }
+    ensures { OnOk result (string_bytes out.new ≡ string_bytes out.old ++ registers_text rules insn.now frame.now register left) }
 {
     for each in register..register + left {
-        push_if_read(out, insn, frame, each)?;
+        push_if_read(out, rules, insn, frame, each)?;
     }
     Ok(())
 }
@@ -62,18 +120,19 @@ fn push_registers(
 /// Adds what is known before an instruction; a call of what is no helper reads no register.
 fn push_known(
     out: &mut String,
+    rules: RuleSet,
     rule: Rule,
     insn: &Insn,
     known: &Option<Frame>,
 ) -> Result<(), AllocError>
-    ensures { OnOk result (string_bytes out.new ≡ string_bytes out.old ++ known_text rule insn.now known.now) }
+    ensures { OnOk result (string_bytes out.new ≡ string_bytes out.old ++ known_text rules rule insn.now known.now) }
 {
     match known {
         Some(frame) => {
             if let Rule::UnknownHelper = rule {
                 return Ok(());
             }
-            push_registers(out, insn, frame, 0, 11)
+            push_registers(out, rules, insn, frame, 0, 11)
         }
         None => out.push_str("  nothing leads here\n"),
     }
@@ -156,9 +215,21 @@ fn slot_text(
     let mut text = String::new(alloc);
     push_head(&mut text, method)?;
     text.push_str(&insn_text(alloc, refused.insn)?)?;
-    push_known(&mut text, refused.rule, &refused.insn, &refused.known)?;
+    push_known(
+        &mut text,
+        rules,
+        refused.rule,
+        &refused.insn,
+        &refused.known,
+    )?;
     push_wanted(&mut text, rules, refused.rule)?;
-    push_touched(&mut text, refused.rule, &refused.insn, &refused.known)?;
+    push_touched(
+        &mut text,
+        rules,
+        refused.rule,
+        &refused.insn,
+        &refused.known,
+    )?;
     push_advised(&mut text, advice_for(alloc, rules, method, refused)?)?;
     Ok(text)
 }

@@ -13,7 +13,7 @@ use crate::known::push_kind;
 use crate::read::count_registers;
 use abstract_num::{Number, Precision, arithmetic, constant};
 use abstract_regs::{Frame, Kind};
-use bpf_decode::{Arithmetic, Insn, OpWidth, Region};
+use bpf_decode::{Arithmetic, Insn, OpWidth, Region, RuleSet};
 use helpers::{Argument, signature};
 use std::alloc::AllocError;
 use verifier::{Callee, Rule, Touches, callee_of, touches_of};
@@ -141,15 +141,20 @@ fn helper_touches(frame: &Frame, callee: Callee, slot: u64) -> bool
 }
 
 /// Adds a slot's line, where something of it is known.
-fn push_slot(out: &mut String, slot: u64, kind: Option<Kind>) -> Result<(), AllocError>
+fn push_slot(
+    out: &mut String,
+    rules: RuleSet,
+    slot: u64,
+    kind: Option<Kind>,
+) -> Result<(), AllocError>
     requires { slot < 64 }
-    ensures { OnOk result (string_bytes out.new ≡ string_bytes out.old ++ slot_line slot (option_map seen kind)) }
+    ensures { OnOk result (string_bytes out.new ≡ string_bytes out.old ++ slot_line rules slot (option_map seen kind)) }
 {
     match kind {
         None => Ok(()),
         Some(kind) => {
             write!(out, "  [r10-{}] = ", 512 - 8 * slot)?;
-            push_kind(out, kind)?;
+            push_kind(out, rules, kind)?;
             out.push_str("\n")
         }
     }
@@ -167,15 +172,16 @@ fn slot_at(frame: &Frame, slot: u64) -> Option<Kind>
 #[tactic(auto, unfolding(crate::specs::Touched::line_if_touched))]
 fn push_if_touched(
     out: &mut String,
+    rules: RuleSet,
     insn: &Insn,
     frame: &Frame,
     slot: u64,
 ) -> Result<(), AllocError>
     requires { slot < 64 }
-    ensures { OnOk result (string_bytes out.new ≡ string_bytes out.old ++ line_if_touched insn.now frame.now slot) }
+    ensures { OnOk result (string_bytes out.new ≡ string_bytes out.old ++ line_if_touched rules insn.now frame.now slot) }
 {
     if insn_touches(frame, insn, slot) {
-        push_slot(out, slot, slot_at(frame, slot))
+        push_slot(out, rules, slot, slot_at(frame, slot))
     } else {
         Ok(())
     }
@@ -184,16 +190,17 @@ fn push_if_touched(
 /// Adds the lines of those that an instruction may touch of the `left` slots from a slot on.
 fn push_slots(
     out: &mut String,
+    rules: RuleSet,
     insn: &Insn,
     frame: &Frame,
     slot: u64,
     left: u64,
 ) -> Result<(), AllocError>
     requires { slot + left ≤ 64 }
-    ensures { OnOk result (string_bytes out.new ≡ string_bytes out.old ++ slots_text insn.now frame.now slot left) }
+    ensures { OnOk result (string_bytes out.new ≡ string_bytes out.old ++ slots_text rules insn.now frame.now slot left) }
 {
     for each in slot..slot + left {
-        push_if_touched(out, insn, frame, each)?;
+        push_if_touched(out, rules, insn, frame, each)?;
     }
     Ok(())
 }
@@ -215,17 +222,18 @@ fn is_of_slots(rule: Rule) -> bool
 /// Adds the lines of the slots that a refused instruction may touch, where the rule looks at slots.
 pub(crate) fn push_touched(
     out: &mut String,
+    rules: RuleSet,
     rule: Rule,
     insn: &Insn,
     known: &Option<Frame>,
 ) -> Result<(), AllocError>
-    ensures { OnOk result (string_bytes out.new ≡ string_bytes out.old ++ touched_text rule insn.now known.now) }
+    ensures { OnOk result (string_bytes out.new ≡ string_bytes out.old ++ touched_text rules rule insn.now known.now) }
 {
     match known {
         None => Ok(()),
         Some(frame) => {
             if is_of_slots(rule) {
-                push_slots(out, insn, frame, 0, 64)
+                push_slots(out, rules, insn, frame, 0, 64)
             } else {
                 Ok(())
             }

@@ -4,4 +4,4 @@ use Rattle.class_advice.proofs.note.push_registers.Given as goal
 
 -- the text so far and that of the registers that are left is the whole
 abbrev pub invariant-loop-each : goal.invariant-loop-each
-invariant-loop-each l = string_bytes l.out ++ registers_text l.insn l.frame l.each (l.each-end - l.each) ≡ string_bytes l.initial.out ++ registers_text l.insn l.frame l.register l.left
+invariant-loop-each l = string_bytes l.out ++ registers_text l.rules l.insn l.frame l.each (l.each-end - l.each) ≡ string_bytes l.initial.out ++ registers_text l.rules l.insn l.frame l.register l.left
