@@ -139,6 +139,20 @@ mended by stw [r10-8], 0 => stdw [r10-8], 0
     see docs/VERIFIER.md, 17 PointerBytes // [r10-8] = output + 0 // load the pointer whole: `ldxdw` of its slot //
     line 4: ldxw r0, [r10-8]
 mended by ldxw r0, [r10-8] => ldxdw r3, [r10-8] / ldxb r0, [r3+0]
+.rules 3 / .method f r 8 16 / ldxdw r4, [r1+0] / mov r0, 0 / jsgt32 r4, 15, end / jslt32 r4, 0, end / add r3, r4 /
+    stb [r3+0], 1 / end: / exit
+=> 1 refused method 0 slot 5: 10 Bounds // method f, IN 8, OUT 16 // stb [r3+0], 1 //
+    r3 = output + any number, low half 0..15 // wanted: a pointer, and all of the bytes within its region //
+    see docs/VERIFIER.md, 10 Bounds //
+    it may be 1 bytes from output + 18446744073709551615 on, of 16: from output + 15 on at most //
+    bound what is added to r3, by `jgt` or `and` before the `add` // line 8: stb [r3+0], 1
+mended by add r3 => mov32 r4, r4 / add r3
+.rules 3 / .method f r 8 8 / ldxdw r4, [r1+0] / mov r6, r4 / mov r0, 0 / jgt r6, 9, end / call 9 / end: / exit
+=> 1 refused method 0 slot 4: 10 Bounds // method f, IN 8, OUT 8 // call 9 // r1 = input + 0 // r2 = 0..8 //
+    r3 = output + 0 // r4 = 0..9, a copy of r6 // wanted: a pointer, and all of the bytes within its region //
+    see docs/VERIFIER.md, 10 Bounds // r4 may be 9: at most 8 bytes from output + 0; `jgt r4, 8, ..` before it //
+    line 7: call 9
+mended by jgt r6, 9 => jgt r6, 8
 .method f r 8 8 / jeq r2, 0, none / mov r4, r3 / ja end / none: / mov r4, 0 / end: / mov r0, r4 / exit
 => 1 refused method 0 slot 4: 5 UnsetRead // method f, IN 8, OUT 8 // mov r0, r4 // r4 = unset //
     wanted: each of these registers set on every way that leads here // see docs/VERIFIER.md, 5 UnsetRead //
