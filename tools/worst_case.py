@@ -17,12 +17,19 @@ TOP = Path(__file__).resolve().parent.parent
 SLOTS = 4096
 VALUE = 4096
 DATA = 65536
+MOST = 65535
 
 
 def truncating(times):
     """An object is created, and its data cut to nothing and filled with zeros by turns."""
     pair = ["mov r1, 0", "call 4", f"mov r1, {DATA}", "call 4"]
     return [".method f rw 0 0", "mov r1, 0", "call 14"] + pair * times + ["exit"]
+
+
+def writing(times):
+    """The whole input, of 65,535 bytes, is written over the data, again and again."""
+    write = ["mov r1, 0", "mov r2, r6", f"mov r3, {MOST}", "call 3"]
+    return [".rules 3", f".method f rw {MOST} 0", "mov r6, r1"] + write * times + ["exit"]
 
 
 def filling(keys):
@@ -35,11 +42,24 @@ def filling(keys):
 
 def branching(rules, methods):
     """Half of each method's slots branch to slots of the other half, each to its own."""
-    lines = [f".rules {rules}"] if rules == 2 else []
+    lines = [f".rules {rules}"] if rules > 1 else []
     for method in range(methods):
         lines.append(f".method f{method:02} r 0 0")
         lines += [f"jne r2, {slot}, +{SLOTS // 2 - 1}" for slot in range(SLOTS // 2 - 1)]
         lines += [f"jne r2, {slot}, +0" for slot in range(SLOTS // 2 - 1)]
+        lines += ["mov r0, 0", "exit"]
+    return lines
+
+
+def telling(methods):
+    """The same in rule set 3, where all registers and slots of the stack are copies of what is compared."""
+    copies = [f"mov r{register}, r2" for register in (1, *range(3, 10))] + [f"stxdw [r10-{8 * slot}], r2" for slot in range(1, 65)]
+    half = (SLOTS - len(copies) - 2) // 2
+    lines = [".rules 3"]
+    for method in range(methods):
+        lines += [f".method f{method:02} r {MOST} 0"] + copies
+        lines += [f"jne r2, {slot}, +{half - 1}" for slot in range(half)]
+        lines += [f"jne r2, {slot}, +0" for slot in range(half)]
         lines += ["mov r0, 0", "exit"]
     return lines
 
@@ -96,6 +116,11 @@ def main():
         few, _ = program.least(["run", program.image("few", truncating(1)), "f", "--object", "00"])
         line(f"a call of {4 * most + 3} steps, {2 * most} of which truncate", many - few, memory)
 
+        most, text = (SLOTS - 2) // 4, program.file("input", "a" * MOST)
+        many, memory = program.least(["run", program.image("writes", writing(most)), "f", "--input", f"@{text}", "--object", "00"])
+        few, _ = program.least(["run", program.image("write", writing(1)), "f", "--input", f"@{text}", "--object", "00"])
+        line(f"a call of {4 * most + 2} steps, {most} of which write {MOST} bytes", many - few, memory)
+
         keys = (SLOTS - 5) // 6
         image = program.image("fill", filling(keys))
         opening = "map 1\nsee 1 1\ndeliver 1\ndeliver 2\n"
@@ -107,9 +132,11 @@ def main():
         long = program.least(["sim", more, "--class", f"fill={image}"])
         line(f"an entry that sets {keys} keys", (long[0] - short[0]) / 100, (long[1] - short[1]) / 100)
 
-        for rules in (1, 2):
+        for rules in (1, 2, 3):
             image = program.image(f"branches{rules}", branching(rules, 32))
             line(f"verify of {os.path.getsize(image)} bytes in rule set {rules}", *program.least(["verify", image]))
+        image = program.image("telling", telling(2))
+        line(f"verify of {os.path.getsize(image)} bytes, two methods, all places linked", *program.least(["verify", image]))
 
 
 main()
