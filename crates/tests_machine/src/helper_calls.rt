@@ -133,6 +133,15 @@ impl Arguments {
     }
 }
 
+/// The lines before a method's code: it is of rule set 3 if it has a later helper or a longer input.
+fn head_of(id: u32, input: usize) -> &'static str {
+    if id > 15 || input > 4096 {
+        ".rules 3; .method f rw 65535 4096"
+    } else {
+        ".method f rw 4096 4096"
+    }
+}
+
 /// The outcome of a method that makes a call and returns 100 more than the helper. Before the call
 /// the output's first 16 bytes are 0xee, afterwards the shown ones are put out.
 fn outcome_of(rt: &impl Abort, alloc: Global, object: Option<&Object>, said: &str) -> Outcome {
@@ -142,16 +151,10 @@ fn outcome_of(rt: &impl Abort, alloc: Global, object: Option<&Object>, said: &st
         arguments.put(rt, alloc, word);
     }
     let id = id_of(name);
-    // what only rule set 3 has: later helpers, and a longer input
-    let method = if id > 15 || arguments.input.len() > 4096 {
-        ".rules 3; .method f rw 65535 4096"
-    } else {
-        ".method f rw 4096 4096"
-    };
     let call = format!(in alloc; "; call {id}; mov r6, r0; mov r1, {SHOWN}");
     let call = call.expect(rt, "memory");
     let pieces = [
-        method,
+        head_of(id, arguments.input.len()),
         "; mov r6, r1; mov r7, r3; lddw r8, 0xeeeeeeeeeeeeeeee",
         "; stxdw [r7+0], r8; stxdw [r7+8], r8",
         &arguments.code,
