@@ -1,3 +1,5 @@
+//! What is wrong with a text of assembly, and on which line.
+
 ghost use Rattle.std.specs.Prelude.{◌≡◌};
 ghost use Rattle.asm_lines.specs.Fault.{fault_number, fault_name};
 ghost use Rattle.asm_lines.specs.Operands.{least};

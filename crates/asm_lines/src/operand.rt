@@ -1,3 +1,5 @@
+//! The operands of a line: each text becomes a register, a number, a place in memory or a target.
+
 ghost use Rattle.std.specs.Prelude.{◌≡◌, ◌≤◌, ◌<◌, IfOk, length};
 ghost use Rattle.std.specs.List.{position_or_len};
 ghost use Rattle.asm_lines.specs.Operands.{least, both, register_of, immediate_of, offset_of, distance_of, unsigned_of, source_of, is_sign, offset_or_zero, place_within, memory_of, near_target_of, far_target_of};

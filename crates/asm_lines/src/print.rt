@@ -1,3 +1,5 @@
+//! The one text of instructions and classes: what the disassembler gives.
+
 ghost use Rattle.std.specs.Prelude.{◌≡◌, ◌++◌, ◌<◌, IfOk, OnOk, string_bytes, codes};
 ghost use Rattle.asm_lines.specs.Canonical.{register_text, source_text, offset_text, memory_text, hex_digits, wide_text, line_of, canonical_text, with_one, with_two, with_three, directive_line, methods_text, rules_text, class_text, slot_line, code_with_slots, methods_with_slots, class_with_slots};
 ghost use Rattle.asm_lines.specs.Printing.{item_text};

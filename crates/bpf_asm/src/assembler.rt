@@ -1,3 +1,5 @@
+//! From the text of one method to its instructions.
+
 ghost use Rattle.std.specs.Prelude.{◌≡◌, ◌⊎◌, ◌+◌, ◌<◌, ◌^◌, Ok, Err, IfOk, IfErr, MatchResult, length};
 ghost use Rattle.asm_lines.specs.Fault.{no_memory};
 ghost use Rattle.std.specs.Prelude.{List};

@@ -1,3 +1,5 @@
+//! The lines of a method become instructions: labels become distances of jumps.
+
 ghost use Rattle.std.specs.Prelude.{◌≡◌, ◌≤◌, ◌<◌, ◌^◌, ◌+◌, ◌-ℤ◌, ◌⊎◌, ◌≤ℤ◌, pos, [], IfOk, OnOk, MatchResult, length, is_some, take, count_by};
 ghost use Rattle.std.specs.Option.{ForSome};
 ghost use Rattle.bpf_decode.specs.Instruction.{slot_count, slot_total};

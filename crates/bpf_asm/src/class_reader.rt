@@ -1,3 +1,5 @@
+//! From the text of a whole class to its image: its rule set, and its methods in their order.
+
 ghost use Rattle.std.specs.Prelude.{◌≡◌, ◌⊎◌, ◌+◌, ◌<◌, ◌≤◌, ◌^◌, ℕ, true, List, [], Ok, Err, IfOk, OnOk, IfErr, MatchResult, length, drop};
 ghost use Rattle.std.specs.List.{position_or_len};
 ghost use Rattle.bpf_decode.specs.ImageReading.{is_above, method_after, methods_after};

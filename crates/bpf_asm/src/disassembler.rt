@@ -1,3 +1,5 @@
+//! From instructions and classes back to their one text.
+
 ghost use Rattle.std.specs.Prelude.{◌≡◌, ◌≤◌, IfOk, IfErr, string_bytes};
 ghost use Rattle.bpf_decode.specs.Instruction.{slot_total};
 ghost use Rattle.asm_lines.specs.Canonical.{canonical_text, class_text, class_with_slots};

@@ -1,3 +1,5 @@
+//! How many bytes loads and stores move, without and with sign extension.
+
 ghost use Rattle.std.specs.Prelude.{◌≡◌};
 ghost use Rattle.bpf_decode.specs.Instruction.{byte_count, signed_byte_count, size_code, signed_size_code};
 

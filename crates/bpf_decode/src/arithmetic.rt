@@ -1,3 +1,6 @@
+//! What arithmetic, comparisons and sign extension of RFC 9669 give for plain numbers: for each
+//! crate that runs code, or judges what a run of it computes.
+
 ghost use Rattle.std.specs.Prelude.{◌≡◌, ◌<◌, ◌%◌, ◌^◌};
 ghost use Rattle.bpf_decode.specs.Instruction.{signed_byte_count};
 ghost use Rattle.std.specs.Int.{w32, w64};

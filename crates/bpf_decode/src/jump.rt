@@ -1,3 +1,5 @@
+//! Where a jump leads, for each crate that runs, judges or prints code.
+
 ghost use Rattle.std.specs.Prelude.{◌≡◌, ◌<◌, ◌^◌};
 ghost use Rattle.bpf_decode.specs.Jump.{jump_target};
 ghost use Rattle.bpf_decode.specs.Values.{extended};

@@ -1,3 +1,5 @@
+//! The table of opcodes, by which code is both read and spelled.
+
 ghost use Rattle.std.specs.Prelude.{◌≡◌, ◌<◌, ◌/◌, ◌%◌};
 ghost use Rattle.bpf_decode.specs.Table.{opcode, row_of, alu_row, branch_row, other_row, fields_allowed, high_half, instruction};
 

@@ -1,3 +1,5 @@
+//! Digits to a base: whether a text is made of them, and the number that they write.
+
 ghost use Rattle.std.specs.Prelude.{◌≡◌, ◌≤◌};
 ghost use Rattle.std.specs.Char.{digit_value, is_digit};
 ghost use Rattle.std.specs.List.{list_all};
