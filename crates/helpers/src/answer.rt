@@ -1,3 +1,5 @@
+//! From the result of a lookup or a change to what a helper answers.
+
 ghost use Rattle.std.specs.Prelude.{◌≡◌, ◌-◌, ◌^◌, ◌<◌, ◌≤◌, IfOk, OnErr, Err, length};
 ghost use Rattle.object_store.specs.Returned.{behind};
 ghost use Rattle.helpers.specs.Effect.{refuses};

@@ -1,3 +1,5 @@
+//! Between which numbers the answers of each helper lie, for the verifier.
+
 ghost use Rattle.std.specs.Prelude.{◌≡◌, ◌≤◌, IfSome};
 ghost use Rattle.helpers.specs.Ranges.{answer_range_of, range_row, down_to, number_in};
 

@@ -1,3 +1,5 @@
+//! The helpers that change the object.
+
 ghost use Rattle.std.specs.Prelude.{◌≡◌, IfOk, OnErr};
 ghost use Rattle.helpers.specs.Table.{write_effect, truncate_effect, remove_effect, setxattr_effect, rmxattr_effect, map_set_effect, map_rm_effect, create_effect};
 

@@ -1,3 +1,5 @@
+//! What the helpers that look something up find in the object, not yet copied to memory.
+
 ghost use Rattle.std.specs.Prelude.{◌≡◌, ◌≤◌, length};
 ghost use Rattle.helpers.specs.Table.{stat_answer, getxattr_answer, map_get_answer, map_next_answer, xattr_next_answer};
 

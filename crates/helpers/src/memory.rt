@@ -1,3 +1,5 @@
+//! The helpers that copy bytes into a method's memory, or compare bytes there.
+
 ghost use Rattle.std.specs.Prelude.{◌≡◌, ◌+◌, ◌≤◌, length};
 ghost use Rattle.object_store.specs.Object.{part};
 ghost use Rattle.helpers.specs.Table.{read_answer, getxattr_answer, map_get_answer, map_next_answer, compare_answer, copy_answer, xattr_next_answer};

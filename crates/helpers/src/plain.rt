@@ -1,3 +1,5 @@
+//! The helpers that touch neither the object nor memory, and the order of bytes.
+
 ghost use Rattle.std.specs.Prelude.{◌≡◌, None, Some};
 ghost use Rattle.helpers.specs.Effect.{gives};
 ghost use Rattle.helpers.specs.Table.{out_len_effect, compare_answer};

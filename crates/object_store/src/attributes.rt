@@ -1,3 +1,5 @@
+//! Values by name, in order: the form in which an object keeps its xattrs and its omap.
+
 ghost use Rattle.std.specs.Prelude.{◌≡◌, OnOk, OnErr};
 ghost use Rattle.std.specs.Option.{option_copied};
 ghost use Rattle.std.specs.FinMap as fin;

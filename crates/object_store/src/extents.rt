@@ -1,3 +1,5 @@
+//! Data in extents: an edit makes anew the extents that it touches, and shares all others.
+
 ghost use Rattle.std.specs.Prelude.{◌≡◌, ◌+◌, ◌-◌, ◌%◌, ◌<◌, ◌≤◌, ◌^◌, ◌++◌, ◌↔◌, IsTrue, IfOk, OnOk, min, length, take, drop, replicate};
 ghost use Rattle.object_store.specs.Object.{spliced, resized};
 ghost use Rattle.object_store.specs.Extents.{flat, AreFull, ArePacked, cut};

@@ -1,3 +1,5 @@
+//! How much an object may hold, and how long names and values may be.
+
 /// The most bytes of data of an object.
 pub const DATA_LIMIT: usize = 65_536;
 
