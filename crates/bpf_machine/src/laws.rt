@@ -1,3 +1,5 @@
+//! Laws of the machine, for the proofs of the crates above. Each function does nothing.
+
 ghost use Rattle.bpf_machine.specs.Safe.{Simulates, EndsAlwaysIsSafe, RunsAreChains, StuckRunsAreChains, UnfinishedRunsAreChains, BytesAreInstructions, ElsewhereIsStuck, HasLayout, OutcomesAreOne};
 ghost use Rattle.bpf_machine.specs.Address.{PlacesAreAddresses, NoByteElsewhere, LoadsAreOfAddresses, SignedLoadsAreOfAddresses, StoresAreAtAddresses, RangesAreOfAddresses, RoomsAreAtAddresses, OpeningIsAtAddresses};
 ghost use Rattle.bpf_machine.specs.Slots.{SlotsHaveValues, SlotsBeginAtZero, NumbersAreRead, BytesAreWritten, PlacesAreWritten, NumbersAreTheirBytes};
