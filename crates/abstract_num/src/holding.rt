@@ -1,3 +1,6 @@
+//! A law, for the proofs of the crates above: a number's parts hold what its definition says. The
+//! function does nothing.
+
 ghost use Rattle.std.specs.Prelude.{ℕ, ◌↔◌};
 ghost use Rattle.abstract_num.specs.Plain.{Holds, view};
 ghost use Rattle.abstract_num.specs.Plain.{Number as PlainNumber};

@@ -1,3 +1,5 @@
+//! Laws of abstract numbers, for the proofs of the crates above. Each function does nothing.
+
 ghost use Rattle.abstract_num.specs.Keeping.{NumbersFit, ConstantsFit, AnyHolds, ConstantHolds, ArithmeticKeeps, NegativeKeeps, CopyKeeps, ExtensionKeeps, OrderKeeps, RangeKeeps, LoadKeeps, SignedLoadKeeps, TightenKeeps, EdgeKeeps, JoinKeeps, WholeHasAnyHalf};
 ghost use Rattle.abstract_num.specs.Laws.{JoinCommutes, JoinAssociates, JoinOfSame, JoinIsAbove, BelowIsReflexive, BelowIsTransitive, BelowHolds};
 

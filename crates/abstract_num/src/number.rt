@@ -1,3 +1,5 @@
+//! Abstract numbers of four parts: how they are made, joined, compared and looked at.
+
 ghost use Rattle.std.specs.Prelude.{◌≡◌, ℕ, ◌+◌, ◌-◌, ◌*◌, ◌^◌, ◌<◌, ◌≤◌, ◌≤ℤ◌, ◌↔◌, Some, IsTrue, ℤ, pos, negsuc};
 ghost use Rattle.bpf_decode.specs.Instruction.{byte_count, signed_byte_count};
 ghost use Rattle.bpf_decode.specs.Arithmetic.{signed_load_value};

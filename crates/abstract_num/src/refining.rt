@@ -1,3 +1,5 @@
+//! What is left of two abstract numbers once a comparison of them went one way.
+
 ghost use Rattle.std.specs.Prelude.{◌≡◌, ℕ, IsSomeAnd, MatchOption, Some, None};
 ghost use Rattle.bpf_decode.specs.Arithmetic.{is_taken};
 ghost use Rattle.abstract_num.specs.Plain.{Gives, GivesBoth, Holds, view};

@@ -1,3 +1,5 @@
+//! The four parts of a number tell each other what they know.
+
 ghost use Rattle.std.specs.Prelude.{◌≡◌, ℕ, ◌-◌, ◌^◌, ◌<◌, ◌<ℤ◌, ◌≤ℤ◌, ◌||◌, nat_lt, int_lt, pos, negsuc, true, MatchOption};
 ghost use Rattle.std.specs.Int.{int_max, int_min};
 ghost use Rattle.abstract_num.specs.Plain.{Gives, Holds, Kept, view};

@@ -1,3 +1,5 @@
+//! What the operations of instructions make of abstract numbers.
+
 ghost use Rattle.std.specs.Prelude.{◌≡◌, pos, ◌*ℤ◌, ℕ, ◌%◌, ◌^◌, ◌<◌, ◌≤◌, IsTrue};
 ghost use Rattle.bpf_decode.specs.Arithmetic.{alu_value, neg_value, mov_value, signed_move_value, end_value};
 ghost use Rattle.bpf_decode.specs.Instruction.{signed_move_bits};

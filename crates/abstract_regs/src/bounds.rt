@@ -1,3 +1,5 @@
+//! Whether bytes at an abstract place surely stay in their region.
+
 ghost use Rattle.std.specs.Prelude.{◌≡◌};
 ghost use Rattle.abstract_num.specs.Plain.{view};
 ghost use Rattle.abstract_regs.specs.Kind.{access_fits, range_fits};

@@ -1,3 +1,6 @@
+//! A law, for the proofs of the crates above: what frames say is true of plain addresses too. The
+//! function does nothing.
+
 ghost use Rattle.abstract_regs.specs.Flat.{FlatRegistersHold};
 
 /// A law, proved when the crate is checked; a call does nothing. A frame that holds the registers

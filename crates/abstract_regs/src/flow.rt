@@ -1,3 +1,5 @@
+//! What an instruction makes of a frame, along each of its edges.
+
 ghost use Rattle.std.specs.Prelude.{◌≡◌, ℕ, ◌<◌, ◌+◌, ◌++◌, ◌^◌, Some, true, false};
 ghost use Rattle.std.specs.Option.{option_map, option_and_then};
 ghost use Rattle.bpf_decode.specs.Instruction.{slot_count, byte_count};

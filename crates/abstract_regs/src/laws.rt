@@ -1,3 +1,5 @@
+//! Laws of frames, for the proofs of the crates above. Each function does nothing.
+
 ghost use Rattle.abstract_regs.specs.Laws.{LinksCommute, LinksAssociate, LinksOfSame, LinksAreAbove, FlowsKeepLinks, JoinsKeepLinks, FlowsKeepNames, JoinsKeepNames};
 ghost use Rattle.abstract_regs.specs.Laws.{JoinCommutes, JoinAssociates, JoinOfSame, JoinIsAbove, JoinsHold, EntryHolds, AccessesFit, RangesFit, FlowsKeepSlots, JoinsKeepSlots, SlotsAreKnown, LoadsAreKnown, RangesAreKnown};
 

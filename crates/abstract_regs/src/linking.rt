@@ -1,3 +1,5 @@
+//! Which places hold numbers that come from one, after an instruction.
+
 ghost use Rattle.std.specs.Prelude.{◌≡◌, ◌<◌, ◌^◌, IfSome, length, slice_set};
 ghost use Rattle.abstract_num.specs.Plain.{view};
 ghost use Rattle.abstract_regs.specs.Seen.{seen};

@@ -1,3 +1,5 @@
+//! The links of all places of a frame, as a list: made empty, joined, and taken away.
+
 ghost use Rattle.std.specs.Prelude.{◌≡◌, ◌≤◌, ◌&&◌, nat_lt, nat_le, IfOk, length, replicate};
 ghost use Rattle.abstract_regs.specs.Link.{no_link, link_in, join_links, unlinked};
 

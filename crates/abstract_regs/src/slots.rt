@@ -1,3 +1,5 @@
+//! The kinds of the stack's slots, as a list: joined, overwritten in part, and looked at.
+
 ghost use Rattle.std.specs.Prelude.{◌≡◌, ◌≤◌, Some, IfOk, length, replicate};
 ghost use Rattle.abstract_regs.specs.Frame.{join_each};
 ghost use Rattle.abstract_regs.specs.Moves.{EachFits};

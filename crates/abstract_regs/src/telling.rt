@@ -1,3 +1,5 @@
+//! What a comparison taught of one number, its links tell the numbers that come from the same one.
+
 ghost use Rattle.std.specs.Prelude.{◌≡◌, ◌≤◌, ◌+◌, ◌<◌, ◌^◌, Some, true, MatchOption};
 ghost use Rattle.std.specs.Option.{option_map};
 ghost use Rattle.std.specs.Int.{int_shr};

@@ -1,3 +1,5 @@
+//! What can go wrong as a built-in class is loaded.
+
 ghost use Rattle.std.specs.Prelude.{◌≡◌};
 ghost use Rattle.builtin_classes.specs.declared.failure.BuiltInFailure.TheVariants.{NoMemory};
 

@@ -1,3 +1,5 @@
+//! Reads and verifies the built-in classes, for a program that starts.
+
 ghost use Rattle.std.specs.Prelude.{IfOk, IfErr};
 ghost use Rattle.builtin_classes.specs.BuiltIn.{IsLoaded, LoadFails};
 

@@ -1,3 +1,5 @@
+//! The text of the built-in class for locks on objects.
+
 /// The class `lock`: an exclusive lock on an object. Its owner is the number in the 8 bytes of the
 /// xattr `lock`, little-endian; of a shorter value the rest is zero.
 ///

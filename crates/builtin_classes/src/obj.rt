@@ -1,3 +1,5 @@
+//! The text of the built-in class for the data and xattrs of objects.
+
 /// The class `obj`: an object's data and xattrs. Numbers are of 8 bytes, little-endian.
 ///
 /// - `getxattr`: the input is a name; the value is the output, and its length the answer.

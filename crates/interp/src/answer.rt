@@ -1,3 +1,5 @@
+//! The outcome of a run that reached its exit.
+
 ghost use Rattle.std.specs.Prelude.{◌≡◌, ◌+◌, ◌≤◌, ℕ, pos, ◌<ℤ◌, length, IfErr, IfOk};
 ghost use Rattle.object_store.specs.Object.{IsObject, part};
 ghost use Rattle.std.specs.Option.{option_copied};

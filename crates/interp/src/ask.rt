@@ -1,3 +1,5 @@
+//! Calls of helpers from a run.
+
 ghost use Rattle.std.specs.Prelude.{IfOk};
 ghost use Rattle.helpers.specs.Table.{row};
 ghost use Rattle.bpf_machine.specs.Flat.{help};

@@ -1,3 +1,5 @@
+//! What is known of register 0 after a call of a helper.
+
 ghost use Rattle.std.specs.Prelude.{◌≡◌, ◌+◌, ◌^◌, ◌<◌, ◌≤◌, length};
 ghost use Rattle.abstract_num.specs.Plain.{view};
 ghost use Rattle.abstract_regs.specs.Seen.{seen};

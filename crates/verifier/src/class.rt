@@ -1,3 +1,5 @@
+//! The verdict on a class.
+
 ghost use Rattle.std.specs.Prelude.{◌≡◌, ◌⊎◌, ◌++◌, ◌∷◌, [], IfOk, IfErr, OnOk, Some, None};
 ghost use Rattle.bpf_decode.specs.Class.{IsMethod};
 ghost use Rattle.std.specs.List.{AllByRecursion};

@@ -1,3 +1,6 @@
+//! The sides of an instruction that rules look at: where a run goes on, and what it reads, writes,
+//! computes with and calls.
+
 ghost use Rattle.std.specs.Prelude.{◌≡◌};
 ghost use Rattle.verifier.specs.Facets.{goes_of, writes_of, reads_of, uses_of, touches_of, callee_of};
 

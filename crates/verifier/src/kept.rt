@@ -1,3 +1,5 @@
+//! What is known at the targets of jumps, kept until the pass comes to them.
+
 ghost use Rattle.std.specs.Prelude.{◌≡◌, IfOk, None, replicate, slice_set};
 ghost use Rattle.verifier.specs.Verdict.{frame_at, joined};
 ghost use Rattle.verifier.specs.inner.Pass.{merged, merged_if};

@@ -1,3 +1,5 @@
+//! The tests that rules make of the kinds of values: of pointers, lengths and regions.
+
 ghost use Rattle.std.specs.Prelude.{◌≡◌};
 ghost use Rattle.bpf_decode.specs.Values.{moves_pointer, is_addition};
 ghost use Rattle.abstract_regs.specs.Seen.{seen};

@@ -1,3 +1,5 @@
+//! Laws of the verdict. Each function does nothing.
+
 ghost use Rattle.verifier.specs.Verdict.{FirstSetHasFewerRules, TableIsOne};
 
 use abstract_regs::slots_stay;

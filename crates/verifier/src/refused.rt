@@ -1,3 +1,5 @@
+//! Where a method is refused, and what was known there: for advice to its author.
+
 ghost use Rattle.std.specs.Prelude.{◌≡◌, None, IfOk, MatchOption};
 ghost use Rattle.bpf_decode.specs.Class.{IsMethod};
 ghost use Rattle.bpf_decode.specs.Instruction.{slots};

@@ -1,3 +1,5 @@
+//! The rules: for each a test of one instruction, and which of them refuses first.
+
 ghost use Rattle.std.specs.Prelude.{◌≡◌, ◌<◌, ◌^◌};
 ghost use Rattle.verifier.specs.Rules.{begins_at, is_backward, misses, falls_off, is_local_call, reads_unset, writes_r10, computes_with_pointer, compares_pointer, stores_pointer, leaves_region, writes_read_only, calls_unknown, passes_wrong_kind, writes_in_reader, returns_pointer, reads_pointer, load_meets, operand_is_unset, unset_among, asks, may_write, leaves, access_leaves, stores_read_only, is_slot, loads_unset, loads_pointer, rule_at, shape_rule, frame_rule};
 ghost use Rattle.verifier.specs.Facets.{callee_of};

@@ -1,3 +1,5 @@
+//! What the outcome of a comparison tells of known bits.
+
 ghost use Rattle.std.specs.Prelude.{◌≡◌};
 ghost use Rattle.abstract_num.specs.proved.BitsFacts.{BitsRefine};
 

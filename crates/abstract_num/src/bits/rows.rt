@@ -1,3 +1,5 @@
+//! What each row of the table makes of known bits.
+
 ghost use Rattle.std.specs.Prelude.{◌≡◌, ◌%◌};
 ghost use Rattle.abstract_num.specs.proved.Shifts.{arsh};
 ghost use Rattle.abstract_num.specs.Masks.{clear};

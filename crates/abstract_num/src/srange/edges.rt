@@ -1,3 +1,5 @@
+//! What the outcome of a comparison tells of signed ranges.
+
 ghost use Rattle.std.specs.Prelude.{◌≡◌, ◌-◌, ◌^◌, ◌<ℤ◌, ◌+ℤ◌, ◌-ℤ◌, pos, negsuc};
 ghost use Rattle.std.specs.Int.{int_max, int_min};
 ghost use Rattle.abstract_num.specs.Refined.{IsRefined};

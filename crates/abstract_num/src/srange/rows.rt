@@ -1,3 +1,5 @@
+//! What each row of the table makes of signed ranges.
+
 ghost use Rattle.std.specs.Prelude.{◌≡◌, ◌^◌, ◌≤◌, pos};
 ghost use Rattle.abstract_num.specs.proved.Scaled.{IsScaled};
 ghost use Rattle.abstract_num.specs.SignedRows.{all, signed_row};

@@ -1,3 +1,5 @@
+//! The unsigned range as a part of abstract numbers, by the trait that all parts have.
+
 ghost use Rattle.std.specs.Prelude.{◌≡◌, ℕ, ◌^◌, ◌<◌, ◌↔◌, IsTrue};
 
 use crate::domain::Domain;

@@ -1,3 +1,5 @@
+//! What the outcome of a comparison tells of unsigned ranges.
+
 ghost use Rattle.std.specs.Prelude.{◌≡◌};
 ghost use Rattle.abstract_num.specs.Refined.{IsRefined};
 ghost use Rattle.abstract_num.specs.UnsignedFacts.{crosses};

@@ -1,3 +1,5 @@
+//! What each row of the table makes of unsigned ranges.
+
 ghost use Rattle.std.specs.Prelude.{◌≤◌, ◌≡◌, ◌^◌, ◌-◌};
 ghost use Rattle.abstract_num.specs.UnsignedRows.{digits, all, ends, unsigned_row};
 ghost use Rattle.abstract_num.specs.proved.UnsignedRows.{IsSpan};
