@@ -1,3 +1,5 @@
+//! Why bytes are no object's flat form.
+
 use std::alloc::AllocError;
 
 /// Why bytes give no object.
