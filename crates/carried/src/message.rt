@@ -1,3 +1,5 @@
+//! A message while it is on its way between two nodes.
+
 ghost use Rattle.std.specs.Prelude.{◌≡◌, IfOk};
 ghost use Rattle.carried.specs.Carried.{reported_by};
 

@@ -1,3 +1,5 @@
+//! From what a node sends to what is carried: lists go without what the receiver has.
+
 ghost use Rattle.std.specs.Prelude.{◌≡◌};
 ghost use Rattle.carried.specs.Carried.{kind_as, packed_as};
 

@@ -1,3 +1,5 @@
+//! From what is carried to what comes to a node: lists get back what was left out.
+
 ghost use Rattle.std.specs.Prelude.{◌≡◌, ◌≤◌, length, take, IfOk};
 ghost use Rattle.pg_log.specs.Entries.{requests_of};
 ghost use Rattle.replication.specs.Packed.{spread};

@@ -1,3 +1,5 @@
+//! A node of a group: what it has, and how it takes each event.
+
 ghost use Rattle.std.specs.Prelude.{◌≡◌, ◌≤◌, length, IfOk, IfErr, OnErr};
 ghost use mathlib.Core.List.{IsPrefix};
 ghost use Rattle.pg_log.specs.Log.{Legal};

@@ -1,3 +1,5 @@
+//! Which group an object belongs to.
+
 ghost use Rattle.std.specs.Prelude.{◌≡◌, ◌<◌, IsTrue};
 ghost use Rattle.placement.specs.Placement.{is_group_count, group_of, fnv1a};
 

@@ -1,3 +1,5 @@
+//! Laws of acting sets, for the proofs of the crates above. Each function does nothing.
+
 ghost use Rattle.placement.specs.Laws.{ActingSetsMayAct, RankedIsRanking};
 
 /// The ranked nodes are the given ones, and none ranks above one before it.

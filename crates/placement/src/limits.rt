@@ -1,3 +1,5 @@
+//! How many nodes, replicas and groups a cluster may have.
+
 /// The nodes of a cluster have the numbers below this.
 pub const NODE_LIMIT: u64 = 16;
 

@@ -1,3 +1,5 @@
+//! How high a node ranks for a group, as a number.
+
 ghost use Rattle.std.specs.Prelude.{◌≡◌};
 ghost use Rattle.placement.specs.Placement.{score};
 

@@ -1,3 +1,5 @@
+//! How much of a log all members have.
+
 ghost use Rattle.std.specs.Prelude.{◌≡◌, ◌<◌, ℕ, length, min};
 ghost use Rattle.replication.specs.Places.{IsLeast, least_from};
 

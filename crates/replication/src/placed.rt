@@ -1,3 +1,5 @@
+//! How a member takes a request that the primary sent it.
+
 ghost use Rattle.std.specs.Prelude.{◌≡◌, ◌⊎◌, Err, OnOk, OnErr, None, length};
 ghost use mathlib.Core.List.{IsPrefix};
 ghost use Rattle.pg_log.specs.Refusals.{refusal};

@@ -1,3 +1,5 @@
+//! A log that becomes another list: what both begin with stays, and only the rest is run.
+
 ghost use Rattle.std.specs.Prelude.{◌≡◌, ◌<◌, ◌≤◌, ◌+◌, ◌∷◌, ◌++◌, ◌⊎◌, ◌↔◌, [], Some, None, IsTrue, IfOk, IfErr, OnOk, OnErr, Ok, Err, length, take, vec_capacity};
 ghost use Rattle.std.specs.FinMap as fin;
 ghost use mathlib.Core.List.{IsPrefix};

@@ -1,3 +1,5 @@
+//! A log with one request more.
+
 ghost use Rattle.std.specs.Int.{w64, cast_unsigned};
 ghost use Rattle.std.specs.Prelude.{◌≡◌, ◌<◌, ◌≤◌, ◌∷◌, ◌++◌, ◌⊎◌, [], List, length, vec_len, vec_capacity, IfOk, IfErr, OnOk, OnErr, Some, None, Ok, Err};
 ghost use mathlib.Core.List.{IsPrefix};
