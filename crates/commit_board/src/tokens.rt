@@ -1,4 +1,5 @@
-// The tokens of a board.
+//! The tokens of a board: who may write a row, and who knows what of the rows.
+
 ghost use Rattle.std.specs.Prelude.{◌≡◌};
 
 use crate::view::View;

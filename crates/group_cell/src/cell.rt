@@ -1,3 +1,5 @@
+//! A node of a group with its row on the board: what stands under one lock.
+
 ghost use Rattle.std.specs.Prelude.{◌≡◌, ◌≢◌, ℕ, ◌<◌, ◌≤◌, [], length, take, slice_get, Some, IfOk, IfErr, OnErr, MatchOption};
 ghost use Rattle.std.specs.List.{Contains};
 ghost use mathlib.Core.List.{IsPrefix};

@@ -1,3 +1,5 @@
+//! The maps of all groups of a cluster, which are made together.
+
 ghost use Rattle.std.specs.Prelude.{◌≡◌, ◌⊎◌, ℕ, ◌<◌, ◌≤◌, ◌-◌, ◌^◌, true, IsTrue, IfOk, IfErr, OnOk, OnErr, MatchResult, Some, None, length, slice_get, slice_set, All};
 ghost use Rattle.placement.specs.Placement.{is_group_count, is_acting, acting_of};
 ghost use Rattle.placement.specs.Placement as placement;

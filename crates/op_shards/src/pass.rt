@@ -1,4 +1,5 @@
-// The pass of one sender or one taker: an end of each queue.
+//! The pass of one sender or one taker: an end of each queue.
+
 ghost use Rattle.std.specs.Prelude.{◌≡◌, ◌<◌, ◌≤◌, ◌+◌, ◌-◌, ◌%◌, length, map, slice_get, Some, IsTrue, MatchOption, MatchResult, IfOk, OnOk};
 ghost use Rattle.std.specs.List.{range_with_len};
 ghost use Rattle.crossbeam_queue.specs.Passes.{ruled_capacity};

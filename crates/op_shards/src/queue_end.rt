@@ -1,4 +1,5 @@
-// The ends of one queue.
+//! The ends of one queue: of senders, of takers, and the end that both come from.
+
 ghost use Rattle.std.specs.Prelude.{◌≡◌, ◌<◌, ◌≤◌, ◌+◌, ◌-◌, ◌%◌, [], ◌∷◌, ◌++◌, length, IsTrue, MatchOption, MatchResult};
 ghost use Rattle.crossbeam_queue.specs.Fifo.{Held};
 ghost use Rattle.crossbeam_queue.specs.Passes.{view, IsPassOf, ruled_capacity};

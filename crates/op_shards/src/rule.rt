@@ -1,4 +1,5 @@
-// The rule of one queue: the operations that it holds, and the knowledge of each pass of it.
+//! The rule of one queue: the operations that it holds, and the knowledge of each pass of it.
+
 use crate::op::Op;
 use crossbeam_queue::RuledArrayQueue;
 use crossbeam_queue::protocol::{Join, Lesson, Outcome, Protocol, Split};

@@ -1,4 +1,5 @@
-// All queues.
+//! The queues of all shards, as senders and takers use them.
+
 ghost use Rattle.std.specs.Prelude.{◌≡◌, ◌<◌, ◌≤◌, ◌-◌, ◌%◌, length, map, All, IfOk, OnOk, IsTrue, MatchOption, MatchResult};
 ghost use Rattle.crossbeam_queue.specs.Passes.{ruled_capacity};
 ghost use Rattle.std.specs.List.{range_with_len};

@@ -1,3 +1,5 @@
+//! A node's log as it is reported, and why it isn't.
+
 use thiserror::Error;
 
 /// An entry of a node's log.

@@ -1,3 +1,5 @@
+//! The names that tie all parts of one cluster together in proofs.
+
 use group_cell::BoardName;
 use std::marker::Brand;
 

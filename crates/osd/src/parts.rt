@@ -1,3 +1,5 @@
+//! What a cluster is made of before it has a name.
+
 ghost use Rattle.std.specs.Prelude.{◌≡◌, ◌*◌, ◌+◌, IsTrue, IfOk, All, length, vec_len};
 ghost use Rattle.osd.specs.Limits.{is_within_limits};
 ghost use Rattle.osd.specs.Maps.{HasPrimary, IsBookOf};

@@ -1,3 +1,5 @@
+//! A call whose output goes into the caller's buffer, and whose answer is one number.
+
 ghost use Rattle.std.specs.Prelude.{◌≡◌};
 ghost use Rattle.rados_client.specs.Session.{next_request};
 ghost use Rattle.rados_client.specs.Into.{IsInto, filled, into_code};

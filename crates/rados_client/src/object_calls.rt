@@ -1,3 +1,5 @@
+//! Reads and changes of an object, as calls of the built-in class `obj`.
+
 ghost use Rattle.std.specs.Prelude.{◌≡◌, ◌++◌, [], codes};
 ghost use Rattle.std.specs.Int.{w64, to_le_bytes};
 ghost use Rattle.rados_client.specs.Session.{next_request};

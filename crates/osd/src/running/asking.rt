@@ -1,3 +1,5 @@
+//! How a client's request, and any other operation, comes into the queues of a running cluster.
+
 ghost use Rattle.std.specs.Prelude.{◌≡◌, OnOk, OnErr};
 ghost use Rattle.op_shards.specs.Passes.{Grew, WasSent};
 ghost use Rattle.carried.specs.declared.operation.Carried.TheVariants.{Request as ARequest};

@@ -1,3 +1,5 @@
+//! How what a node sends comes to its receiver: a node, the monitors or a client.
+
 ghost use Rattle.std.specs.Prelude.{◌<◌};
 ghost use Rattle.osd.specs.Sent.{OnlySent, IsInternalTo};
 

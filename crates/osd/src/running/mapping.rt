@@ -1,3 +1,5 @@
+//! New maps of a running cluster, and how nodes are told of them.
+
 ghost use Rattle.std.specs.Prelude.{◌<◌, IfOk, IfErr};
 ghost use Rattle.osd.specs.Sent.{OnlySent, IsInternalTo, IsAny};
 ghost use Rattle.osd.specs.Maps.{WasMade, WasRefused};

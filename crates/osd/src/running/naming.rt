@@ -1,3 +1,5 @@
+//! From the parts of a cluster to a running one.
+
 ghost use Rattle.std.specs.Prelude.{◌≡◌, ◌*◌, ◌+◌, ◌<◌, ◌≤◌, IfOk, OnOk, All, vec_len};
 ghost use Rattle.osd.specs.Unnamed.{IsUnused};
 

@@ -1,3 +1,5 @@
+//! Sending again what may have been lost.
+
 ghost use Rattle.std.specs.Prelude.{◌≡◌, ◌<◌};
 ghost use Rattle.op_shards.specs.Passes.{Grew};
 ghost use Rattle.osd.specs.Sent.{OnlySent, IsInternalTo};

@@ -1,3 +1,5 @@
+//! One node as it is handled from outside: its log is read, and it is stopped or let go on.
+
 ghost use Rattle.std.specs.Prelude.{◌≡◌, ◌<◌, ◌↔◌, ◌⊎◌, IsOk, IfOk, OnOk, IfErr, map};
 ghost use Rattle.osd.specs.Logged.{IsLogOf, logged_entry};
 ghost use Rattle.osd.specs.declared.logged.LoggedError.TheVariants.{NoSuch, NoMemory};

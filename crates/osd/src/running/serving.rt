@@ -1,3 +1,5 @@
+//! What a worker does: it takes operations of shards, and sends what comes of each.
+
 ghost use Rattle.std.specs.Prelude.{◌≡◌, ◌<◌, length, IfOk};
 ghost use Rattle.osd.specs.Gates.{gate_number};
 ghost use Rattle.osd.specs.Sent.{OnlySent, IsAny};
