@@ -1,3 +1,5 @@
+//! The commands `asm` and `dis`: from a text to an image, and back.
+
 ghost use Rattle.std.specs.Prelude.{◌≡◌, ◌⊎◌, [], IfErr, IfOk, OnOk, string_bytes};
 ghost use Rattle.class_tool.specs.Assembly.{Assembles, AssembleFails, IsSourceIn, IsTextOf, SourceFails, Spells, TextFails, ClassTextFails, ImageFails, text_of};
 ghost use Rattle.class_tool.specs.Explained.{IfAsked, IsFaultNote, IsReadNote};

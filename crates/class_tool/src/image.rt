@@ -1,3 +1,5 @@
+//! The class that a file holds, as an image or as a text, and the note that says why it holds none.
+
 ghost use Rattle.std.specs.Prelude.{◌≡◌, ◌⊎◌, ◌↔◌, [], IfErr, IfNone, IfOk, IfSome, IsTrue, OnOk, string_bytes};
 ghost use Rattle.bpf_asm.specs.Grammar.{IsClassText};
 ghost use Rattle.class_tool.specs.Explained.{IfAsked, IsFaultNote, IsReadNote, image_note};

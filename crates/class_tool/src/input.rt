@@ -1,3 +1,5 @@
+//! The input of a call, as hexadecimal digits spell it.
+
 ghost use Rattle.std.specs.Prelude.{◌≡◌, ◌⊎◌, IfOk, IfErr, IsErr, Ok};
 ghost use Rattle.hex.specs.Hex.{decode_of};
 

@@ -1,3 +1,5 @@
+//! A call as the first request of a group's log, and what the log then has of it.
+
 ghost use Rattle.std.specs.Prelude.{◌≡◌, ◌∷◌, ◌⊎◌, [], IfOk, IfErr, Some, Err};
 ghost use Rattle.std.specs.Int.{w64, cast_unsigned};
 ghost use Rattle.pg_log.specs.Log.{reply_at};

@@ -1,3 +1,5 @@
+//! The command `pack`: from files of raw code to an image.
+
 ghost use Rattle.std.specs.Prelude.{◌⊎◌, IfOk, IfErr};
 ghost use Rattle.bpf_decode.specs.Class.{IsImage};
 ghost use Rattle.class_tool.specs.Files.{storage};

@@ -1,3 +1,5 @@
+//! The command `run`: a call of one method, on a saved object, a spelled one or none.
+
 ghost use Rattle.std.specs.Prelude.{◌≡◌, ◌⊎◌, FitsSigned, None, Some, IfOk, IfErr};
 ghost use Rattle.std.specs.Option.{option_copied};
 ghost use Rattle.std.specs.Int.{w64};

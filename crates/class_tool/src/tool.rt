@@ -1,3 +1,5 @@
+//! Does what is asked of a class, whichever command it is.
+
 ghost use Rattle.std.specs.Prelude.{IfOk, IfErr, string_bytes};
 ghost use Rattle.class_tool.specs.ActionResult.{Settles, Fails};
 ghost use Rattle.class_tool.specs.Assembly.{AssembleFails, Assembles, IsTextOf};

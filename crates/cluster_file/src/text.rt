@@ -1,3 +1,5 @@
+//! The lines that are printed of a cluster's calls, and of a refused line.
+
 ghost use Rattle.std.specs.Prelude.{◌≡◌, ◌++◌, IfOk, IfSome, IsTrue, OnOk, string_bytes};
 ghost use Rattle.std.specs.Int.{w64, cast_unsigned};
 ghost use Rattle.placement.specs.Placement.{is_group_count};

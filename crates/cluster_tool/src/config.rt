@@ -1,3 +1,5 @@
+//! From a file's first line to the cluster that is made of it.
+
 ghost use Rattle.std.specs.Prelude.{◌≡◌};
 ghost use Rattle.cluster_tool.specs.Config.{config_of};
 

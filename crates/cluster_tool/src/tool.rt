@@ -1,3 +1,5 @@
+//! The command `cluster`, from a file's name to what is printed.
+
 ghost use Rattle.std.specs.Prelude.{◌≡◌, IfOk, IfErr, IfSome, OnErr, Ok, map, string_bytes};
 ghost use Rattle.cluster_file.specs.Plan.{plan_of};
 ghost use Rattle.cluster_file.specs.Text.{refused_line};

@@ -1,3 +1,5 @@
+//! What the words of a command line say.
+
 ghost use Rattle.std.specs.Prelude.{◌≡◌, IfOk, map, option_map};
 ghost use Rattle.command_line.specs.Parsed.{all_in, is_set_in, one_in, parsed_of};
 

@@ -1,3 +1,5 @@
+//! From words to what they say, by `clap`; or to usage or help.
+
 ghost use Rattle.std.specs.Prelude.{◌≡◌, Some, None, IfErr, IfNone, IfOk, IfSome, map};
 ghost use Rattle.clap.specs.Words.{app_of, subcommand_rows_of};
 ghost use Rattle.command_line.specs.CommandLine.{command_line};

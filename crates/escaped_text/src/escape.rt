@@ -1,3 +1,5 @@
+//! Any text in printable ASCII.
+
 ghost use Rattle.std.specs.Prelude.{◌≡◌, ◌++◌, ◌∷◌, [], ◌<◌, OnOk, string_bytes};
 ghost use Rattle.std.specs.Char.{digit_char};
 ghost use Rattle.escaped_text.specs.Escaped.{escape, escaped, escaped_byte, is_printable};

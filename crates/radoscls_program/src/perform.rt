@@ -1,3 +1,5 @@
+//! From words to what they ask for, done and printed, and the status that a run ends with.
+
 ghost use Rattle.std.specs.Prelude.{◌≡◌, ◌≢◌, ◌++◌, ℕ, List, [], true, false, map, string_bytes};
 ghost use Rattle.command_line.specs.Parsed.{IsMemory};
 ghost use Rattle.radoscls_program.specs.Clustered.{ClusterEnds};

@@ -1,3 +1,5 @@
+//! How a run of the program ends.
+
 ghost use Rattle.std.specs.Prelude.{◌≡◌};
 ghost use Rattle.radoscls_program.specs.Status.{code_of};
 

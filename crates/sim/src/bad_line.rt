@@ -1,3 +1,5 @@
+//! How a bad line of a file is reported.
+
 ghost use Rattle.std.specs.Prelude.{◌≡◌, IfOk, string_bytes};
 ghost use Rattle.sim.specs.Run.{bad_line};
 

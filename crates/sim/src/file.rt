@@ -1,3 +1,5 @@
+//! A run of a file's lines, each printed before the next is done.
+
 ghost use Rattle.std.specs.Prelude.{◌≡◌, IfOk, map, string_bytes};
 ghost use Rattle.sim_text.specs.Lines.{lines_of};
 ghost use Rattle.sim.specs.Run.{EndsBy, SaysOf, Takes};

@@ -1,3 +1,5 @@
+//! A law of the worlds that a file's lines lead to. The function does nothing.
+
 ghost use Rattle.sim.specs.Simulating.{AllWorldsKnown};
 
 use pg_log::replies_run;

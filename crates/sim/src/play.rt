@@ -1,3 +1,5 @@
+//! A run of a file's lines, printed or drawn.
+
 ghost use Rattle.std.specs.Prelude.{map};
 ghost use Rattle.sim.specs.Drawing.{course};
 ghost use Rattle.sim_text.specs.Lines.{lines_of};

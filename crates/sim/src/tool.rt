@@ -1,3 +1,5 @@
+//! The command `sim`, from a file's name to what is printed.
+
 ghost use Rattle.std.specs.Prelude.{◌≡◌, IfOk, IfErr, OnErr};
 ghost use Rattle.sim.specs.Simulating.{Simulates, SimulationFails};
 

@@ -1,3 +1,5 @@
+//! Items that a file counts from 1: maps and messages.
+
 ghost use Rattle.std.specs.Prelude.{◌≡◌, ◌≤◌, ◌-◌, option_copied};
 ghost use Rattle.sim_text.specs.Lines.{numbered};
 

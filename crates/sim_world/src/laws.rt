@@ -1,3 +1,5 @@
+//! A law of played worlds, for the proofs of the crate above. The function does nothing.
+
 ghost use Rattle.sim_world.specs.Agreed.{WorldsAgree};
 
 use group_world::{agreement, nothing_is_cut};
