@@ -1,3 +1,5 @@
+//! A call of a helper as a step of the flat machine.
+
 ghost use Rattle.std.specs.Prelude.{◌≡◌, ◌<◌, IfOk};
 ghost use Rattle.bpf_machine.specs.Flat.{help};
 ghost use Rattle.flat_machine.specs.inner.FlatState.{caps_in, layout_in, flat_state, with_answer, GivesState, Answers, may_call, helped};

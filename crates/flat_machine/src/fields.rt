@@ -1,3 +1,5 @@
+//! The fields of an instruction, out of the bytes of a method.
+
 ghost use Rattle.std.specs.Prelude.{◌≡◌, ◌≤◌, ◌<◌, ◌*◌, ◌+◌, length};
 ghost use Rattle.bpf_machine.specs.Flat.{signed16, signed32, width_of, signed_width_of, at_slot};
 

@@ -1,3 +1,5 @@
+//! Memory by plain addresses: each access looks for the region that has it.
+
 ghost use Rattle.std.specs.Prelude.{◌≡◌, ◌<◌, ◌≤◌, ◌+◌, ◌^◌, ◌-◌, ℕ, Some, None, if◌then◌else◌, length, IfSome};
 ghost use Rattle.bpf_machine.specs.State.{le_value, le_bytes, cells, written, put, size};
 ghost use Rattle.bpf_machine.specs.Helper.{write_room};

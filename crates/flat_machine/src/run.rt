@@ -1,3 +1,5 @@
+//! Runs of the flat machine, and how they end.
+
 ghost use Rattle.std.specs.Prelude.{◌≡◌, ◌<◌, ◌≤◌, ◌+◌, ◌-◌, ◌++◌, length, replicate, IfOk};
 ghost use Rattle.std.specs.Option.{option_copied};
 ghost use Rattle.bpf_machine.specs.State.{opening, outcome_of};

@@ -1,3 +1,5 @@
+//! What the flat machine has between two steps, and its registers.
+
 ghost use Rattle.std.specs.Prelude.{◌≡◌, ◌<◌};
 ghost use Rattle.bpf_machine.specs.State.{reg, set_reg};
 ghost use Rattle.bpf_machine.specs.Helper.{answered};

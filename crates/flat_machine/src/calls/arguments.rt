@@ -1,3 +1,5 @@
+//! The arguments of helpers, as the registers have them; none if one isn't right.
+
 ghost use Rattle.std.specs.Prelude.{◌≡◌, ◌+◌, ◌<◌, ◌≤◌, [], ◌∷◌, IfSome};
 ghost use Rattle.std.specs.Option.{option_map};
 ghost use Rattle.bpf_machine.specs.State.{size};

@@ -1,3 +1,5 @@
+//! The helpers that change the object, on plain addresses.
+
 ghost use Rattle.std.specs.Prelude.{◌≡◌, IfOk};
 ghost use Rattle.flat_machine.specs.inner.FlatState.{caps_in, layout_in, flat_state, Answers, helped};
 

@@ -1,3 +1,5 @@
+//! The helpers that leave the object as it is, on plain addresses.
+
 ghost use Rattle.std.specs.Prelude.{◌≡◌, ◌+◌, ◌≤◌, ◌<◌, length, IfOk};
 ghost use Rattle.helpers.specs.Table.{read_answer};
 ghost use Rattle.bpf_machine.specs.State.{written, put, size};
