@@ -13,6 +13,7 @@ use Rattle.bpf_machine.specs.Typed.{Cell, Byte, PartOf, as_cells, parts_of, plac
 abbrev pub slot_of : List Cell → Option Value
 slot_of cs = number_or (plain_bytes cs) (place_of cs)
 
+-- what slot j is
 abbrev pub slot_value : List Cell → ℕ → Option Value
 slot_value cs j = slot_of (take 8 (drop (8 * j) cs))
 
@@ -37,6 +38,7 @@ pub record Touches (at w j : ℕ) : Type 0 where
   pub below : 8 * j < at + w
   pub above : at < 8 * j + 8
 
+-- a slot that is a number, below 2 ^ 64
 abbrev pub IsNumber : Option Value → Type 0
 IsNumber None = ⊥
 IsNumber (Some (Num n)) = n < 2 ^ 64
@@ -75,6 +77,7 @@ pub record LeavesNumbers (count : ℕ) (cs : List Cell) (at : ℕ) (bytes : List
   pub numbers : (j : ℕ) → j < count → IsNumber (slot_value cs j) → IsNumber (slot_value ds j)
   pub whole : (j : ℕ) → at ≡ 8 * j → length bytes ≡ 8 → slot_value ds j ≡ Some (Num (le_value bytes))
 
+-- That is so of each write of bytes within the stack.
 abbrev pub BytesAreWritten : Type 0
 BytesAreWritten =
     (count : ℕ) (cs : List Cell) → IsStack count cs → (at : ℕ) (bytes : List ℕ) → at + length bytes ≤ 8 * count → AreBytes bytes →
@@ -85,6 +88,7 @@ pub record LeavesPlace (count : ℕ) (cs : List Cell) (j : ℕ) (v : Value) (ds 
   pub rest : Leaves count cs (8 * j) 8 ds
   pub whole : slot_value ds j ≡ Some v
 
+-- That is so of each slot of the stack and each place.
 abbrev pub PlacesAreWritten : Type 0
 PlacesAreWritten =
     (count : ℕ) (cs : List Cell) → IsStack count cs → (j : ℕ) → j < count → (r : Region) (at : ℕ) →
