@@ -7,6 +7,7 @@ use Rattle.helpers.specs.declared.errno.TheConstants.{ENOENT, ENOMEM, EEXIST, EI
 use Rattle.helpers.specs.Effect.{Answer, refuses, Effect, refused, changes}
 use Rattle.helpers.specs.Table.{copy_answer}
 
+-- the error number of each refusal
 abbrev pub errno_of : StoreError → ℕ
 errno_of Absent = ENOENT
 errno_of Exists = EEXIST

@@ -32,6 +32,7 @@ read object at n = if_there object (λ c. Ok (part c.bytes at n))
 abbrev pub value_in : Attributes → List ℕ → Result (List ℕ) StoreError
 value_in m name = ok_or (fin.get m name) NoAttr
 
+-- the value of an xattr, and of a key of the omap
 abbrev pub get_xattr : PlainObject → List ℕ → Result (List ℕ) StoreError
 get_xattr object name = if is_named name then if_there object (λ c. value_in c.xattrs name) else Err Range
 
@@ -42,6 +43,7 @@ get_key object key = if is_named key then if_there object (λ c. value_in c.omap
 abbrev pub next_in : (Content → Attributes) → PlainObject → List ℕ → Result (List ℕ) StoreError
 next_in names object name = if nat_lt NAME_LIMIT (length name) then Err Range else if_there object (λ c. ok_or (key_above (names c) name) NoAttr)
 
+-- the least xattr's name, and the least key of the omap, above some bytes
 abbrev pub next_xattr : PlainObject → List ℕ → Result (List ℕ) StoreError
 next_xattr object name = next_in (λ c. c.xattrs) object name
 
@@ -54,6 +56,7 @@ write object at text =
     if nat_lt DATA_LIMIT (at + length text) then Err TooBig else
     Ok (record (content_of object) { bytes = spliced (content_of object).bytes at text })
 
+-- with the data cut, or extended with zeros, to a length
 abbrev pub truncate : PlainObject → ℕ → Result Content StoreError
 truncate object len =
     if nat_lt DATA_LIMIT len then Err TooBig else if_there object (λ c. Ok (record c { bytes = resized c.bytes len }))
@@ -68,6 +71,7 @@ set_in most m name value =
 abbrev pub removed_in : Attributes → List ℕ → Result Attributes StoreError
 removed_in m name = if is_some (fin.get m name) then Ok (fin.remove m name) else Err NoAttr
 
+-- with other xattrs, or with another omap, if these weren't refused
 abbrev pub with_xattrs : Content → Result Attributes StoreError → Result Content StoreError
 with_xattrs c (Ok m) = Ok (record c { xattrs = m })
 with_xattrs c (Err e) = Err e
@@ -76,6 +80,7 @@ abbrev pub with_omap : Content → Result Attributes StoreError → Result Conte
 with_omap c (Ok m) = Ok (record c { omap = m })
 with_omap c (Err e) = Err e
 
+-- with a value for the name of an xattr, or for a key of the omap; an absent object is created
 abbrev pub set_xattr : PlainObject → List ℕ → List ℕ → Result Content StoreError
 set_xattr object name value =
     if is_named name then
@@ -90,6 +95,7 @@ set_key object key value =
     with_omap (content_of object) (set_in KEY_LIMIT (content_of object).omap key value)
     else Err Range
 
+-- without an xattr, or without a key of the omap, which has to be there
 abbrev pub remove_xattr : PlainObject → List ℕ → Result Content StoreError
 remove_xattr object name =
     if is_named name then if_there object (λ c. with_xattrs c (removed_in c.xattrs name)) else Err Range
@@ -112,6 +118,7 @@ abbrev pub count : Result (List ℕ) StoreError → Result ℕ StoreError
 count (Ok bytes) = Ok (length bytes)
 count (Err e) = Err e
 
+-- the buffer afterwards; a refusal leaves it as it is
 abbrev pub filled : Result (List ℕ) StoreError → List ℕ → List ℕ
 filled (Ok bytes) buffer = overlaid bytes buffer
 filled (Err e) buffer = buffer

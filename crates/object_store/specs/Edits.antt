@@ -17,6 +17,7 @@ written bytes at text =
 abbrev pub truncated : List ℕ → ℕ → Result (List ℕ) DataError
 truncated bytes len = if nat_lt DATA_LIMIT len then Err TooBig else Ok (resized bytes len)
 
+-- the data after one edit, or its refusal
 abbrev pub edited : List ℕ → Edit → Result (List ℕ) DataError
 edited bytes (Write at text) = written bytes at text.items
 edited bytes (Truncate len) = truncated bytes len

@@ -19,6 +19,7 @@ abbrev pub after : PlainObjects → List ℕ → Result Content StoreError → R
 after objects name (Ok c) = Ok (fin.insert objects name c)
 after objects name (Err e) = Err e
 
+-- the same of a removal
 abbrev pub after_removal : PlainObjects → List ℕ → Result (Unit {0}) StoreError → Result PlainObjects StoreError
 after_removal objects name (Ok _) = Ok (fin.remove objects name)
 after_removal objects name (Err e) = Err e

@@ -15,6 +15,7 @@ pub record Content : Type 0 where
   pub xattrs : Attributes
   pub omap : Attributes
 
+-- an object: none if it is absent
 abbrev pub PlainObject : Type 0
 PlainObject = Option Content
 
@@ -36,6 +37,7 @@ AreBytes (b ∷ bs) = (b < 256) × AreBytes bs
 abbrev pub IsName : List ℕ → Type 0
 IsName name = (1 ≤ length name) × (length name ≤ NAME_LIMIT) × AreBytes name
 
+-- a value of a name: bytes, at most VALUE_LIMIT
 abbrev pub IsValue : List ℕ → Type 0
 IsValue value = (length value ≤ VALUE_LIMIT) × AreBytes value
 
@@ -44,6 +46,7 @@ pub record AreWithin (most : ℕ) (m : Attributes) : Type 0 where
   pub number : fin.len m ≤ most
   pub each : (name value : List ℕ) → fin.get m name ≡ Some value → IsName name × IsValue value
 
+-- data and names within their limits
 pub record IsContent (c : Content) : Type 0 where
   pub length : length c.bytes ≤ DATA_LIMIT
   pub bytes : AreBytes c.bytes
@@ -73,6 +76,7 @@ resized bytes len = take len bytes ++ replicate (len - length bytes) 0
 abbrev pub attributes_code : Coded Attributes
 attributes_code = fin.code (coded_list coded_ℕ) (coded_list coded_ℕ)
 
+-- the data, the xattrs and the omap, each as lists of numbers
 abbrev pub content_code : Coded Content
 content_code =
     code_by (List ℕ × (Attributes × Attributes)) (coded× (coded_list coded_ℕ) (coded× attributes_code attributes_code))

@@ -6,6 +6,7 @@ use Rattle.object_store.specs.declared.store_error.StoreError.TheVariants as sto
 use Rattle.object_store.specs.declared.data_error.DataError.{DataError}
 use Rattle.object_store.specs.declared.data_error.DataError.TheVariants as of_data
 
+-- the numbers of the refusals
 abbrev pub store_error_number : StoreError → ℕ
 store_error_number store.Absent = 1
 store_error_number store.Exists = 2
@@ -15,6 +16,7 @@ store_error_number store.TooMany = 5
 store_error_number store.Range = 6
 store_error_number store.NoMemory = 7
 
+-- the names of the refusals
 abbrev pub store_error_name : StoreError → List ℕ
 store_error_name store.Absent = codes "Absent"
 store_error_name store.Exists = codes "Exists"
@@ -33,5 +35,6 @@ store_error_of of_data.NoMemory = store.NoMemory
 abbrev pub store_error_text : StoreError → List ℕ
 store_error_text e = decimal (store_error_number e) ++ codes " " ++ store_error_name e
 
+-- a refusal of data prints as the object's
 abbrev pub data_error_text : DataError → List ℕ
 data_error_text e = store_error_text (store_error_of e)

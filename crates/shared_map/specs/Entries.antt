@@ -14,6 +14,7 @@ ByteMap V = FinMap (slice_cmp nat_cmp) V
 abbrev pub Pair : Type 0 → Type 0
 Pair V = List ℕ × V
 
+-- keys with their values, in a list
 abbrev pub Entries : Type 0 → Type 0
 Entries V = List (Pair V)
 

@@ -9,6 +9,7 @@ use Rattle.shared_map.specs.declared.tree.Entry.{Entry}
 use Rattle.shared_map.specs.declared.tree.Link.{Link}
 use Rattle.shared_map.specs.declared.tree.Link.TheVariants.{Leaf, Fork}
 
+-- an entry of the code as a key's bytes with its value
 abbrev pub pair : {V : Type 0} → Entry V → Pair V
 pair e = (e.key.items, e.value)
 
@@ -22,6 +23,7 @@ abbrev pub tall : {V : Type 0} → Link V → ℕ
 tall Leaf = 0
 tall (Fork b) = max (arc_value b).left.height (arc_value b).right.height + 1
 
+-- what a tree is seen as: its entries in order, and its height
 abbrev pub shape : {V : Type 0} → Link V → Shape V
 shape n = record { entries = listed n; height = tall n }
 

@@ -4,10 +4,12 @@ use Rattle.std.specs.Coded.{Coded, code_by, coded×, coded_option}
 use Rattle.object_store.specs.Object.{Content, PlainObject, content_code}
 use Rattle.object_store.specs.declared.store_error.StoreError.{StoreError}
 
+-- an object before a call, and as it is now; none if absent
 pub record Versions : Type 0 where
   pub before : PlainObject
   pub after : PlainObject
 
+-- as these two
 abbrev pub versions_code : Coded Versions
 versions_code =
     code_by (PlainObject × PlainObject) (coded× (coded_option content_code) (coded_option content_code)) (λ v. (v.before, v.after)) (λ p. record { before = p.0; after = p.1 }) (λ _. refl)
