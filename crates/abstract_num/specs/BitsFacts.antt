@@ -4,9 +4,11 @@ use Rattle.abstract_num.specs.Masks.{clear}
 use Rattle.abstract_num.specs.declared.fact.Fact.{Fact}
 use Rattle.abstract_num.specs.declared.fact.Fact.TheVariants.{Same, Above, AtLeast, SignedAbove, SignedAtLeast, HalfAbove, HalfAtLeast, Meets, Not, NoneOf}
 
+-- value and unknown of the first, and of the second
 abbrev pub TwoMasks : Type 0
 TwoMasks = (ℕ × ℕ) × (ℕ × ℕ)
 
+-- what is left; a fact that says nothing of bits leaves both as they were
 abbrev pub bits_fact : Fact → ℕ → ℕ → ℕ → ℕ → TwoMasks
 bits_fact Same v1 m1 v2 m2 = ((bit_or v1 v2, bit_and m1 m2), (bit_or v1 v2, bit_and m1 m2))
 bits_fact (NoneOf k) v1 m1 v2 m2 = ((v1, clear m1 k), (v2, m2))

@@ -21,6 +21,7 @@ unknown = (0, 2 ^ 64 - 1)
 abbrev pub shifted : Row → ℕ → ℕ → ℕ × ℕ
 shifted r v m = (row_value r v 0, row_value r m 0)
 
+-- the table; of the other rows' numbers no bit is known
 abbrev pub bits_row : Row → ℕ → ℕ → ℕ → ℕ → ℕ × ℕ
 bits_row And v1 m1 v2 m2 = value_first (bit_and v1 v2) (bit_and (bit_or v1 m1) (bit_or v2 m2))
 bits_row Or v1 m1 v2 m2 = value_first (bit_or v1 v2) (bit_or m1 m2)

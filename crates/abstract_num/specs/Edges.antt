@@ -44,6 +44,7 @@ edge_of is.SignedLessEqual false = Ahead SignedAbove
 edge_of is.SharesBits true = Ahead Meets
 edge_of is.SharesBits false = Disjoint
 
+-- the first number and the second
 abbrev pub Pair : Type 0
 Pair = Plain × Plain
 
@@ -66,9 +67,11 @@ left_of f x y =
       record { low = u.1.0; high = u.1.1; least = s.1.0; greatest = s.1.1; value = b.1.0; unknown = b.1.1; half_least = h.1.0; half_greatest = h.1.1 },
     )
 
+-- what a fact leaves, none if nothing is left of a part
 abbrev pub by_fact : Fact → Plain → Plain → Option Pair
 by_fact f x y = (if leaves_nothing f x y then None else Some (left_of f x y))
 
+-- the two the other way round, and the first of them
 abbrev pub turned : Pair → Pair
 turned s = (s.1, s.0)
 
@@ -79,15 +82,18 @@ first_of s = s.0
 abbrev pub other_than : Plain → Plain → Option Plain
 other_than x y = (if is_constant y then option_map first_of (by_fact (Not y.low) x y) else Some x)
 
+-- both, if something is left of each
 abbrev pub both : Option Plain → Option Plain → Option Pair
 both a b = option_and_then (λ x. option_map (λ y. (x, y)) b) a
 
+-- what an edge leaves, none if nothing is left of a part
 abbrev pub by_edge : Edge → Plain → Plain → Option Pair
 by_edge (Ahead f) x y = by_fact f x y
 by_edge (Turned f) x y = option_map turned (by_fact f y x)
 by_edge Apart x y = both (other_than x y) (other_than y x)
 by_edge Disjoint x y = (if is_constant y then by_fact (NoneOf y.low) x y else Some (x, y))
 
+-- whether a comparison reads its numbers as signed
 abbrev pub is_signed : Comparison → Bool
 is_signed is.SignedGreater = true
 is_signed is.SignedGreaterEqual = true
@@ -104,6 +110,7 @@ abbrev pub tells : OpWidth → Comparison → Plain → Plain → Bool
 tells Bits64 comparison x y = true
 tells Bits32 comparison x y = nat_lt x.high (short_end comparison) && nat_lt y.high (short_end comparison)
 
+-- what a comparison leaves of whole numbers along an edge
 abbrev pub refined : OpWidth → Comparison → Bool → Plain → Plain → Option Pair
 refined bits comparison taken x y =
     (if tells bits comparison x y then by_edge (edge_of comparison taken) x y else Some (x, y))
@@ -118,6 +125,7 @@ half_fact_of SignedAbove = HalfAbove
 half_fact_of SignedAtLeast = HalfAtLeast
 half_fact_of f = f
 
+-- an edge whose fact is of the halves
 abbrev pub half_edge : Edge → Edge
 half_edge (Ahead f) = Ahead (half_fact_of f)
 half_edge (Turned f) = Turned (half_fact_of f)
@@ -136,6 +144,7 @@ put_back x c =
     (if nat_lt x.high (2 ^ 32) then Some c
     else tighten Halves (record x { half_least = c.half_least; half_greatest = c.half_greatest }))
 
+-- both, by what is left of their cuts
 abbrev pub put_both_back : Plain → Plain → Pair → Option Pair
 put_both_back x y s = both (put_back x s.0) (put_back y s.1)
 

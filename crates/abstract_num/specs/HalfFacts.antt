@@ -4,9 +4,11 @@ use Rattle.std.specs.Int.{int_min, int_max}
 use Rattle.abstract_num.specs.declared.fact.Fact.{Fact}
 use Rattle.abstract_num.specs.declared.fact.Fact.TheVariants.{Same, Above, AtLeast, SignedAbove, SignedAtLeast, HalfAbove, HalfAtLeast, Meets, Not, NoneOf}
 
+-- the ends of the first, and of the second
 abbrev pub TwoHalves : Type 0
 TwoHalves = (ℤ × ℤ) × (ℤ × ℤ)
 
+-- what is left; a fact that says nothing of halves leaves both as they were
 abbrev pub half_fact : Fact → ℤ → ℤ → ℤ → ℤ → TwoHalves
 half_fact Same h k i j = ((int_max h i, int_min k j), (int_max h i, int_min k j))
 half_fact HalfAbove h k i j = ((int_max h (i +ℤ pos 1), k), (i, int_min j (k -ℤ pos 1)))

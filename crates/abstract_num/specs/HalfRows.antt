@@ -3,6 +3,7 @@ use Rattle.std.specs.Prelude.{ℤ, pos, negsuc, ◌+ℤ◌, ◌-ℤ◌, int_le, 
 use Rattle.abstract_num.specs.declared.row.Row.{Row}
 use Rattle.abstract_num.specs.declared.row.Row.TheVariants.{Add, Sub, Cut}
 
+-- a half by its ends
 abbrev pub ends : ℤ → ℤ → ℤ × ℤ
 ends h k = (h, k)
 
@@ -14,6 +15,7 @@ all = ends (negsuc (2 ^ 31 - 1)) (pos (2 ^ 31 - 1))
 abbrev pub fits : ℤ → Bool
 fits z = int_le (negsuc (2 ^ 31 - 1)) z && int_le z (pos (2 ^ 31 - 1))
 
+-- the ends if both fit, else any half
 abbrev pub ends_that_fit : ℤ → ℤ → ℤ × ℤ
 ends_that_fit h k = (if fits h && fits k then ends h k else all)
 

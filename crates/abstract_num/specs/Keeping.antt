@@ -32,18 +32,22 @@ HeldIn o n = IsSomeAnd o (λ z. Holds z n)
 abbrev pub HeldInBoth : Option (Plain × Plain) → ℕ → ℕ → Type 0
 HeldInBoth o m n = IsSomeAnd o (λ s. Holds s.0 m × Holds s.1 n)
 
+-- Numbers of the code fit, and so does each constant:
 abbrev pub NumbersFit : Type 0
 NumbersFit = (x : Number) → Fits (view x)
 
 abbrev pub ConstantsFit : Type 0
 ConstantsFit = (n : ℕ) → n < 2 ^ 64 → Fits (constant n)
 
+-- The number that is any one holds each n below 2 ^ 64, and a constant holds itself:
 abbrev pub AnyHolds : Type 0
 AnyHolds = (n : ℕ) → n < 2 ^ 64 → Holds any n
 
 abbrev pub ConstantHolds : Type 0
 ConstantHolds = (n : ℕ) → n < 2 ^ 64 → Holds (constant n) n
 
+-- What arithmetic computes of two held numbers is held by what the table gives; so are a negative,
+-- a copy, a copy with sign extension and a change of byte order:
 abbrev pub ArithmeticKeeps : Type 0
 ArithmeticKeeps =
     (precision : Precision) (bits : OpWidth) (operation : Arithmetic) (x y : Plain) →
@@ -70,6 +74,8 @@ OrderKeeps =
     (precision : Precision) (order : ByteOrder) (width : EndWidth) (x : Plain) (n : ℕ) → Holds x n →
     HeldIn (ordered precision order width x) (end_value order width n)
 
+-- A range holds what lies in it, and what is known of a load holds what it may read, zero-extended
+-- and sign-extended:
 abbrev pub RangeKeeps : Type 0
 RangeKeeps =
     (precision : Precision) (low high n : ℕ) → n < 2 ^ 64 → low ≤ n → n ≤ high → HeldIn (tighten precision (ranged low high)) n
@@ -83,9 +89,11 @@ SignedLoadKeeps =
     (precision : Precision) (width : SignedWidth) (n : ℕ) → n < 256 ^ signed_byte_count width →
     HeldIn (tighten precision (signed_ranged (signed_low width) (signed_high width))) (signed_load_value width n)
 
+-- Tightening keeps each number that was held.
 abbrev pub TightenKeeps : Type 0
 TightenKeeps = (precision : Precision) (x : Plain) (n : ℕ) → Holds x n → HeldIn (tighten precision x) n
 
+-- Along each edge of a comparison two held numbers that take it are kept.
 abbrev pub EdgeKeeps : Type 0
 EdgeKeeps =
     (precision : Precision) (bits : OpWidth) (comparison : Comparison) (taken : Bool) (x y : Plain) (m n : ℕ) →
@@ -97,6 +105,7 @@ pub record IsUpper (x y : Plain) : Type 0 where
   pub left : (n : ℕ) → Holds x n → Holds (join x y) n
   pub right : (n : ℕ) → Holds y n → Holds (join x y) n
 
+-- Each join of two numbers is such an upper bound.
 abbrev pub JoinKeeps : Type 0
 JoinKeeps = (x y : Plain) → IsUpper x y
 

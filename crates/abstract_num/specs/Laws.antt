@@ -3,6 +3,7 @@ use Rattle.std.specs.Prelude.{◌≡◌, ℕ}
 use Rattle.abstract_num.specs.Parts.{joined_urange, joined_srange, joined_bits, joined_half}
 use Rattle.abstract_num.specs.Plain.{Number, Holds, Below, view}
 
+-- the join of two numbers of the code, part by part
 abbrev pub joined : Number → Number → Number
 joined x y =
     record {
@@ -16,6 +17,7 @@ joined x y =
       };
     }
 
+-- The join is commutative, associative and idempotent:
 abbrev pub JoinCommutes : Type 0
 JoinCommutes = (x y : Number) → joined x y ≡ joined y x
 
@@ -25,9 +27,11 @@ JoinAssociates = (x y z : Number) → joined (joined x y) z ≡ joined x (joined
 abbrev pub JoinOfSame : Type 0
 JoinOfSame = (x : Number) → joined x x ≡ x
 
+-- It is above the first and so, as it commutes, above both.
 abbrev pub JoinIsAbove : Type 0
 JoinIsAbove = (x y : Number) → Below (view x) (view (joined x y))
 
+-- The order is reflexive and transitive, and a greater number holds what a smaller one does:
 abbrev pub BelowIsReflexive : Type 0
 BelowIsReflexive = (x : Number) → Below (view x) (view x)
 

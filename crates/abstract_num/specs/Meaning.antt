@@ -11,6 +11,7 @@ use Rattle.abstract_num.specs.declared.row.Row.TheVariants.{Add, Sub, Mul, Div, 
 use Rattle.abstract_num.specs.declared.fact.Fact.{Fact}
 use Rattle.abstract_num.specs.declared.fact.Fact.TheVariants.{Same, Above, AtLeast, SignedAbove, SignedAtLeast, HalfAbove, HalfAtLeast, Meets, Not, NoneOf}
 
+-- what each row computes
 abbrev pub row_value : Row → ℕ → ℕ → ℕ
 row_value Add m n = computed op.Add w64 m n
 row_value Sub m n = computed op.Sub w64 m n
@@ -29,6 +30,7 @@ row_value (SignedLshBy k) m n = computed op.Lsh w64 m k
 row_value (SignedArshBy k) m n = computed op.Arsh w64 m k
 row_value Cut m n = mov_value Bits32 m
 
+-- what each fact says of the first number and the second
 abbrev pub IsFact : Fact → ℕ → ℕ → Type 0
 IsFact Same m n = m ≡ n
 IsFact Above m n = n < m

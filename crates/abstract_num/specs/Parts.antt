@@ -9,6 +9,7 @@ use Rattle.abstract_num.specs.declared.srange.SRange.{SRange}
 use Rattle.abstract_num.specs.declared.bits.Bits.{Bits}
 use Rattle.abstract_num.specs.declared.half.Half.{Half}
 
+-- n lies between the ends, as it is and as a signed number
 abbrev pub InURange : URange → ℕ → Type 0
 InURange x n = (x.low ≤ n) × (n ≤ x.high) × (n < 2 ^ 64)
 
@@ -45,6 +46,7 @@ joined_bits x y =
 abbrev pub joined_half : Half → Half → Half
 joined_half x y = record { low = int_min x.low y.low; high = int_max x.high y.high; ordered = half_hull_ordered x y }
 
+-- a range, or a half, whose ends are inside the other's
 abbrev pub BelowURange : URange → URange → Type 0
 BelowURange x y = (y.low ≤ x.low) × (x.high ≤ y.high)
 

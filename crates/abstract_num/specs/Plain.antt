@@ -11,6 +11,8 @@ use Rattle.abstract_num.specs.declared.bits.Bits.{Bits}
 use Rattle.abstract_num.specs.declared.half.Half.{Half}
 use Rattle.abstract_num.specs.declared.product.Product.{Product}
 
+-- an abstract number: the ends of its ranges and of its half, the value of its known bits, and a
+-- mask of the unknown ones
 pub record Plain : Type 0 where
   pub low : ℕ
   pub high : ℕ
@@ -47,6 +49,7 @@ any =
       half_greatest = pos (2 ^ 31 - 1);
     }
 
+-- n alone
 abbrev pub constant : ℕ → Plain
 constant n =
     record {
@@ -90,6 +93,7 @@ pub record Below (x y : Plain) : Type 0 where
 abbrev pub Number : Type 0
 Number = Product URange (Product SRange (Product Bits Half))
 
+-- how contracts see a number of the code
 abbrev pub view : Number → Plain
 view x =
     record {
@@ -107,6 +111,7 @@ view x =
 abbrev pub Gives : Option Plain → Option Number → Type 0
 Gives table r = MatchOption r (table ≡ None) (λ z. table ≡ Some (view z))
 
+-- the same of two numbers
 abbrev pub GivesBoth : Option (Plain × Plain) → Option (Number × Number) → Type 0
 GivesBoth table r = MatchOption r (table ≡ None) (λ s. table ≡ Some (view s.0, view s.1))
 

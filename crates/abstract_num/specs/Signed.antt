@@ -2,6 +2,7 @@
 use Rattle.std.specs.Prelude.{ℕ, ℤ, ◌%◌, ◌^◌}
 use Rattle.std.specs.Int.{w32, w64, cast_signed}
 
+-- the number of 64 bits with a sign
 abbrev pub signed : ℕ → ℤ
 signed n = cast_signed w64 n
 

@@ -5,6 +5,7 @@ use Rattle.abstract_num.specs.Signed.{signed}
 use Rattle.abstract_num.specs.declared.fact.Fact.{Fact}
 use Rattle.abstract_num.specs.declared.fact.Fact.TheVariants.{Same, Above, AtLeast, SignedAbove, SignedAtLeast, HalfAbove, HalfAtLeast, Meets, Not, NoneOf}
 
+-- the ends of the first, and of the second
 abbrev pub TwoSigned : Type 0
 TwoSigned = (ℤ × ℤ) × (ℤ × ℤ)
 
@@ -12,6 +13,7 @@ TwoSigned = (ℤ × ℤ) × (ℤ × ℤ)
 abbrev pub if_at : ℤ → ℤ → ℤ
 if_at end c = (if int_le end c && int_le c end then pos 1 else pos 0)
 
+-- what is left; a fact that says nothing of signed numbers leaves both as they were
 abbrev pub signed_fact : Fact → ℤ → ℤ → ℤ → ℤ → TwoSigned
 signed_fact Same p q r s = ((int_max p r, int_min q s), (int_max p r, int_min q s))
 signed_fact SignedAbove p q r s = ((int_max p (r +ℤ pos 1), q), (r, int_min s (q -ℤ pos 1)))

@@ -5,6 +5,7 @@ use Rattle.abstract_num.specs.UnsignedRows.{power}
 use Rattle.abstract_num.specs.declared.row.Row.{Row}
 use Rattle.abstract_num.specs.declared.row.Row.TheVariants.{Add, Sub, SignedLshBy, SignedArshBy}
 
+-- a signed range by its ends
 abbrev pub ends : ℤ → ℤ → ℤ × ℤ
 ends p q = (p, q)
 
@@ -16,6 +17,7 @@ all = ends (negsuc (2 ^ 63 - 1)) (pos (2 ^ 63 - 1))
 abbrev pub fits : ℤ → Bool
 fits z = int_le (negsuc (2 ^ 63 - 1)) z && int_le z (pos (2 ^ 63 - 1))
 
+-- the ends if both fit, else every number
 abbrev pub ends_that_fit : ℤ → ℤ → ℤ × ℤ
 ends_that_fit p q = (if fits p && fits q then ends p q else all)
 

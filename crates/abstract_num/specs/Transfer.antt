@@ -47,6 +47,7 @@ row_of op.Xor s = By row.Xor
 row_of op.Arsh (Some s) = By (row.ArshBy s)
 row_of op.Arsh None = By row.Arsh
 
+-- whether the unsigned range is one number
 abbrev pub is_constant : Plain → Bool
 is_constant x = x.low == x.high
 
@@ -70,6 +71,7 @@ row_in Halves op.Lsh (Some s) x = lsh_answer s x
 row_in Halves op.Arsh (Some s) x = By (row.SignedArshBy s)
 row_in Halves operation s x = row_of operation s
 
+-- the answer of 64 bits, exact for two constants
 abbrev pub answer64 : Precision → Arithmetic → Plain → Plain → RowAnswer
 answer64 precision operation x y =
     (if is_constant x && is_constant y then Exact (alu_value Bits64 operation x.low y.low)
@@ -112,6 +114,7 @@ raised x =
       greatest = x.half_greatest *ℤ pos (2 ^ 32);
     }
 
+-- the number that an answer gives, not tightened
 abbrev pub answered : RowAnswer → Plain → Plain → Plain
 answered (Exact v) x y = constant v
 answered (By r) x y = moved r x y
@@ -127,6 +130,7 @@ known Halves v = constant v
 abbrev pub cut : Precision → Plain → Option Plain
 cut precision x = tighten precision (moved row.Cut x x)
 
+-- the number that an answer of 64 bits gives
 abbrev pub finished64 : Precision → RowAnswer → Plain → Plain → Option Plain
 finished64 precision answer x y = tighten precision (answered answer x y)
 
@@ -172,6 +176,7 @@ extended_to precision extension x =
     (if is_constant x then Some (known precision (signed_move_value extension x.low))
     else extended_from precision extension x)
 
+-- sign extension to 64 bits, and to 32 bits, which cuts first
 abbrev pub extended_of : Precision → SignedMove → OpWidth → Plain → Option Plain
 extended_of precision extension Bits64 x = extended_to precision extension x
 extended_of precision extension Bits32 x =
@@ -180,9 +185,11 @@ extended_of precision extension Bits32 x =
     else option_and_then (cut precision) (extended_from precision extension a)))
     (cut precision x)
 
+-- a copy with sign extension
 abbrev pub sign_extended : Precision → SignedMove → Plain → Option Plain
 sign_extended precision extension x = extended_of precision extension (signed_move_bits extension) x
 
+-- a change of byte order: exact of a constant, else any number
 abbrev pub ordered : Precision → ByteOrder → EndWidth → Plain → Option Plain
 ordered precision order width x =
     (if is_constant x then Some (known precision (end_value order width x.low)) else tighten precision any)
@@ -191,6 +198,7 @@ ordered precision order width x =
 abbrev pub ranged : ℕ → ℕ → Plain
 ranged low high = record any { low = low; high = high }
 
+-- the same of signed numbers
 abbrev pub signed_ranged : ℤ → ℤ → Plain
 signed_ranged low high = record any { least = low; greatest = high }
 

@@ -3,6 +3,7 @@ use Rattle.std.specs.Prelude.{ℕ, ◌+◌, ◌-◌, ◌==◌, ◌||◌, min, ma
 use Rattle.abstract_num.specs.declared.fact.Fact.{Fact}
 use Rattle.abstract_num.specs.declared.fact.Fact.TheVariants.{Same, Above, AtLeast, SignedAbove, SignedAtLeast, HalfAbove, HalfAtLeast, Meets, Not, NoneOf}
 
+-- the ends of the first, and of the second
 abbrev pub TwoRanges : Type 0
 TwoRanges = (ℕ × ℕ) × (ℕ × ℕ)
 
@@ -10,6 +11,7 @@ TwoRanges = (ℕ × ℕ) × (ℕ × ℕ)
 abbrev pub if_at : ℕ → ℕ → ℕ
 if_at end c = (if end == c then 1 else 0)
 
+-- what is left; a fact that says nothing of unsigned numbers leaves both as they were
 abbrev pub unsigned_fact : Fact → ℕ → ℕ → ℕ → ℕ → TwoRanges
 unsigned_fact Same a b c d = ((max a c, min b d), (max a c, min b d))
 unsigned_fact Above a b c d = ((max a (c + 1), b), (c, min d (b - 1)))

@@ -4,9 +4,11 @@ use Rattle.std.specs.Int.Count.{count_leading_zeros}
 use Rattle.abstract_num.specs.declared.row.Row.{Row}
 use Rattle.abstract_num.specs.declared.row.Row.TheVariants.{Add, Sub, Mul, Div, Mod, And, Or, Xor, LshBy, RshBy, Rsh, ArshBy, Arsh, SignedLshBy, SignedArshBy, Cut}
 
+-- a range by its ends
 abbrev pub ends : ℕ → ℕ → ℕ × ℕ
 ends a b = (a, b)
 
+-- every number
 abbrev pub all : ℕ × ℕ
 all = ends 0 (2 ^ 64 - 1)
 
@@ -18,6 +20,7 @@ digits n = 64 - count_leading_zeros 64 n
 abbrev pub power : ℕ → ℕ
 power s = 2 ^ (s % 64)
 
+-- the table
 abbrev pub unsigned_row : Row → ℕ → ℕ → ℕ → ℕ → ℕ × ℕ
 unsigned_row Add a b c d = (if nat_lt (b + d) (2 ^ 64) then ends (a + c) (b + d) else all)
 unsigned_row Sub a b c d = (if nat_le d a then ends (a - d) (b - c) else all)

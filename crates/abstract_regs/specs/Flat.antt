@@ -31,6 +31,7 @@ HoldsFlat base (Num k) (Some n) = Holds k n
 HoldsFlat base (Ptr r k) None = ⊥
 HoldsFlat base (Ptr r k) (Some n) = (at : ℕ) × Holds k at × (n ≡ (base r + at) % 2 ^ 64)
 
+-- the same of each register, in their order
 abbrev pub HoldsFlatEach : Bases → List PlainKind → List (Option ℕ) → Type 0
 HoldsFlatEach base [] cs = Unit {0}
 HoldsFlatEach base (x ∷ xs) [] = ⊥

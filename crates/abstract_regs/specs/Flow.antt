@@ -31,10 +31,13 @@ edge_to q (Some f) = (q, f) ∷ []
 abbrev pub computed : ℕ → PlainFrame → ℕ → Option PlainKind → List (ℕ × PlainFrame)
 computed q f dst x = edge_to q (option_map (with_kind f dst) x)
 
+-- whether the operand is that register
 abbrev pub same_register : ℕ → Operand → Bool
 same_register dst (Immediate imm) = false
 same_register dst (Register r) = dst == r
 
+-- the frame with another kind of an operand, if that is a register, and with others of both
+-- operands of a comparison:
 abbrev pub with_operand : PlainFrame → Operand → PlainKind → PlainFrame
 with_operand f (Immediate imm) y = f
 with_operand f (Register r) y = with_kind f r y

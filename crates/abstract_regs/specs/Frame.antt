@@ -23,16 +23,19 @@ pub record PlainFrame : Type 0 where
   pub slots : List PlainKind
   pub links : List Link
 
+-- a kind that isn't given is unset
 abbrev pub or_unset : Option PlainKind → PlainKind
 or_unset None = Unset
 or_unset (Some x) = x
 
+-- the kind of a register, and the frame with another one there
 abbrev pub kind_at : PlainFrame → ℕ → PlainKind
 kind_at f r = or_unset (slice_get f.registers r)
 
 abbrev pub with_kind : PlainFrame → ℕ → PlainKind → PlainFrame
 with_kind f r x = record { registers = slice_set f.registers r x; slots = f.slots; links = f.links }
 
+-- the joins of two lists, place by place
 abbrev pub join_each : List PlainKind → List PlainKind → List PlainKind
 join_each [] ys = []
 join_each (x ∷ xs) [] = []
@@ -42,6 +45,7 @@ join_each (x ∷ xs) (y ∷ ys) = join_kind x y ∷ join_each xs ys
 abbrev pub join : PlainFrame → PlainFrame → PlainFrame
 join f g = record { registers = join_each f.registers g.registers; slots = join_each f.slots g.slots; links = join_links f.links g.links }
 
+-- a number that isn't given is unset
 abbrev pub number_kind : Option Plain → PlainKind
 number_kind None = Unset
 number_kind (Some n) = Num n

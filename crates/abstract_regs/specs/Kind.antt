@@ -21,6 +21,7 @@ use Rattle.abstract_num.specs.Tighten.{tighten}
 use Rattle.abstract_num.specs.Transfer.{transferred, copied, sign_extended, ordered}
 use Rattle.abstract_num.specs.Edges.{along}
 
+-- what is known of a register or a slot
 pub data PlainKind : Type 0 where
   Unset : PlainKind
   Num : (n : Plain) → PlainKind
@@ -37,6 +38,7 @@ HoldsKind (Ptr r k) None = ⊥
 HoldsKind (Ptr r k) (Some (values.Num n)) = ⊥
 HoldsKind (Ptr r k) (Some (values.Ptr q at)) = (r ≡ q) × Holds k at
 
+-- which of the three a kind is:
 abbrev pub is_unset : PlainKind → Bool
 is_unset Unset = true
 is_unset (Num k) = false
@@ -52,6 +54,7 @@ is_ptr Unset = false
 is_ptr (Num k) = false
 is_ptr (Ptr r k) = true
 
+-- whether two regions are the same
 abbrev pub same_region : Region → Region → Bool
 same_region Input Input = true
 same_region Input Output = false
@@ -91,12 +94,14 @@ neg_kind precision bits Unset = Some Unset
 neg_kind precision bits (Num k) = option_map Num (transferred precision bits Sub (constant 0) k)
 neg_kind precision bits (Ptr r k) = Some Unset
 
+-- a copy; of a pointer only one of 64 bits is a pointer
 abbrev pub mov_kind : Precision → OpWidth → PlainKind → Option PlainKind
 mov_kind precision bits Unset = Some Unset
 mov_kind precision bits (Num k) = option_map Num (copied precision bits k)
 mov_kind precision Bits64 (Ptr r k) = Some (Ptr r k)
 mov_kind precision Bits32 (Ptr r k) = Some Unset
 
+-- a copy with sign extension, and a change of byte order, both of numbers alone
 abbrev pub signed_move_kind : Precision → SignedMove → PlainKind → Option PlainKind
 signed_move_kind precision extension Unset = Some Unset
 signed_move_kind precision extension (Num k) = option_map Num (sign_extended precision extension k)
@@ -115,6 +120,7 @@ both_nums s = (Num s.0, Num s.1)
 abbrev pub same_num : Plain → PlainKind × PlainKind
 same_num n = (Num n, Num n)
 
+-- what is left of both; what isn't a number stays as it is
 abbrev pub along_kinds : Precision → OpWidth → Comparison → Bool → Bool → PlainKind → PlainKind → Option (PlainKind × PlainKind)
 along_kinds precision bits comparison taken true (Num k) (Num l) = option_map same_num (tighten precision k)
 along_kinds precision bits comparison taken false (Num k) (Num l) = option_map both_nums (along precision bits comparison taken k l)
@@ -133,6 +139,7 @@ abbrev pub places_fit : Option Plain → ℕ → ℕ → Bool
 places_fit None w size = true
 places_fit (Some place) w size = nat_le (place.high + w) size
 
+-- such an access is among the first `size`
 abbrev pub access_fits : Plain → ℕ → ℕ → ℕ → Bool
 access_fits k distance w size = places_fit (last_place k distance) w size
 

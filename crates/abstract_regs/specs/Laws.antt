@@ -80,6 +80,7 @@ pub record JoinHolds (f g : PlainFrame) : Type 0 where
   pub links_left : (cs vs : List (Option Value)) → HoldsLinks f cs vs → HoldsLinks (join f g) cs vs
   pub links_right : (cs vs : List (Option Value)) → HoldsLinks g cs vs → HoldsLinks (join f g) cs vs
 
+-- That is so of every two frames.
 abbrev pub JoinsHold : Type 0
 JoinsHold = (f g : PlainFrame) → JoinHolds f g
 
@@ -92,6 +93,7 @@ pub record EntryIsHeld (precision : Precision) (in_cap stack count places n : �
   pub links : (cs vs : List (Option Value)) → HoldsLinks (entry_frame precision in_cap stack count places) cs vs
   pub names : (p : ℕ) → NamesBelow p (entry_frame precision in_cap stack count places)
 
+-- That is so of each length of the input up to in_cap.
 abbrev pub EntryHolds : Type 0
 EntryHolds = (precision : Precision) (in_cap stack count places n : ℕ) → in_cap < 2 ^ 64 → stack < 2 ^ 64 → n ≤ in_cap → EntryIsHeld precision in_cap stack count places n
 

@@ -10,9 +10,11 @@ use Rattle.abstract_regs.specs.declared.link.Form.TheVariants.{Unlinked, Whole, 
 
 -- ---- links
 
+-- a place that isn't linked
 abbrev pub no_link : Link
 no_link = record { distance = 0; name = 0; form = Unlinked }
 
+-- a form that is a link at all, and one of the whole number:
 abbrev pub is_linked : Form → Bool
 is_linked Unlinked = false
 is_linked Whole = true
@@ -108,6 +110,7 @@ form_number Low = 2
 form_number Up = 3
 form_number Sign = 4
 
+-- whether two links are the same
 abbrev pub same_link : Link → Link → Bool
 same_link l m = (l.distance == m.distance) && ((l.name == m.name) && (form_number l.form == form_number m.form))
 
@@ -115,6 +118,7 @@ same_link l m = (l.distance == m.distance) && ((l.name == m.name) && (form_numbe
 abbrev pub join_link : Link → Link → Link
 join_link l m = if same_link l m then l else no_link
 
+-- the joins of two lists, place by place
 abbrev pub join_links : List Link → List Link → List Link
 join_links [] ms = []
 join_links (l ∷ ls) [] = []

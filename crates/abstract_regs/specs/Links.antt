@@ -49,9 +49,11 @@ abbrev pub known_slot : List PlainKind → Option ℕ → Option ℕ
 known_slot slots None = None
 known_slot slots (Some j) = if nat_lt j (length slots) then Some j else None
 
+-- the known slot that an access of w bytes through a kind is
 abbrev pub accessed_slot : PlainFrame → PlainKind → ℕ → ℕ → Option ℕ
 accessed_slot f x distance w = known_slot f.slots (whole_slot (stack_place x distance) w)
 
+-- the kind of a slot
 abbrev pub slot_at : PlainFrame → ℕ → PlainKind
 slot_at f j = or_unset (slice_get f.slots j)
 
@@ -82,11 +84,13 @@ halved_link p links source x target =
     let l = taken p x (link_in links source) in
     if is_short x then slice_set (slice_set links source l) target (shaped l (low_form l.form)) else slice_set links target no_link
 
+-- after a copy: of an immediate there is no link
 abbrev pub moved_links : OpWidth → Operand → ℕ → PlainFrame → ℕ → List Link
 moved_links bits (Immediate imm) p f dst = slice_set f.links dst no_link
 moved_links Bits64 (Register src) p f dst = copied_link p f.links src (kind_at f src) dst
 moved_links Bits32 (Register src) p f dst = halved_link p f.links src (kind_at f src) dst
 
+-- after a copy with sign extension: one of 32 bits to 64 keeps the low half
 abbrev pub extended_links : SignedMove → ℕ → ℕ → PlainFrame → ℕ → List Link
 extended_links Word64 src p f dst = halved_link p f.links src (kind_at f src) dst
 extended_links Byte64 src p f dst = slice_set f.links dst no_link
@@ -132,6 +136,7 @@ alu_link Bits64 Arsh k c l = shifted_link c (shaped l (down_form l.form))
 alu_link bits And k c l = masked_link k c l
 alu_link bits operation k c l = no_link
 
+-- the same, if the second is a constant, else none
 abbrev pub constant_link : OpWidth → Arithmetic → Plain → Option ℕ → Link → Link
 constant_link bits operation k None l = no_link
 constant_link bits operation k (Some c) l = alu_link bits operation k c l
@@ -144,6 +149,7 @@ computed_link bits operation (Ptr r k) y l = no_link
 
 -- ---- the links after each instruction, at slot p
 
+-- the links that an instruction leaves at slot p
 abbrev pub links_after : Option ℕ → Insn → ℕ → PlainFrame → List Link
 links_after room (Alu bits operation dst source) p f =
     slice_set f.links dst (computed_link bits operation (kind_at f dst) (operand_kind f source) (link_in f.links dst))
@@ -186,6 +192,7 @@ met_number precision t z = option_map first_of (along precision Bits64 Equal tru
 abbrev pub is_bounded : Plain → Bool
 is_bounded z = nat_lt z.high (2 ^ 64) && nat_lt z.unknown (2 ^ 64)
 
+-- what is left of t, which is at distance d from z
 abbrev pub tell_whole : Precision → Plain → ℕ → Plain → Option Plain
 tell_whole precision z d t = if is_bounded z then option_and_then (met_number precision t) (at_distance precision z d) else Some t
 
@@ -220,6 +227,7 @@ told_number precision z l m t =
     (if is_whole l.form && is_whole m.form then tell_whole precision z d t
     else (if (d == 0) && has_low m.form then tell_half precision l.form z t else Some t))
 
+-- the same of a place's kind: a number alone is told
 abbrev pub told_kind : Precision → Plain → Link → Link → PlainKind → Option PlainKind
 told_kind precision z l m Unset = Some Unset
 told_kind precision z l m (Num t) = option_map Num (told_number precision z l m t)
@@ -248,6 +256,7 @@ tell_kind precision Unset r f = Some f
 tell_kind precision (Num z) r f = if is_linked (link_in f.links r).form then tell_all precision z (link_in f.links r) r f else Some f
 tell_kind precision (Ptr q k) r f = Some f
 
+-- what register r tells the others
 unfoldable pub tell : Precision → ℕ → PlainFrame → Option PlainFrame
 tell precision r f = tell_kind precision (kind_at f r) r f
 

@@ -26,6 +26,7 @@ use Rattle.abstract_regs.specs.declared.link.Link.{Link}
 use Rattle.abstract_regs.specs.Link.{link_in, HoldsLink, NameBelow}
 use Rattle.abstract_regs.specs.Links.{slot_place}
 
+-- two ways of being unset are one
 abbrev pub flat_option : Option (Option Value) → Option Value
 flat_option None = None
 flat_option (Some c) = c
@@ -34,10 +35,12 @@ flat_option (Some c) = c
 abbrev pub value_at : List (Option Value) → ℕ → Option Value
 value_at cs r = flat_option (slice_get cs r)
 
+-- an operand's value, if it is set
 abbrev pub operand_in : List (Option Value) → Operand → Option Value
 operand_in cs (Immediate imm) = Some (Num (extended imm))
 operand_in cs (Register r) = value_at cs r
 
+-- the registers with a value in one of them
 abbrev pub with_value : List (Option Value) → ℕ → Value → List (Option Value)
 with_value cs r v = slice_set cs r (Some v)
 
@@ -65,10 +68,12 @@ pub record Touched (at w j : ℕ) : Type 0 where
   pub below : 8 * j < at + w
   pub above : at < 8 * j + 8
 
+-- and that place is in the stack
 pub record Reached (r : Region) (at w j : ℕ) : Type 0 where
   pub region : r ≡ Stack
   pub touched : Touched at w j
 
+-- a slot that is a number, below 2 ^ 64
 abbrev pub IsNumber : Option Value → Type 0
 IsNumber None = ⊥
 IsNumber (Some (Num n)) = n < 2 ^ 64
@@ -154,6 +159,7 @@ KindFits Unset = Unit {0}
 KindFits (kind.Num k) = numbers.Fits k
 KindFits (kind.Ptr r k) = numbers.Fits k
 
+-- the same of each kind of a list
 abbrev pub EachFits : List PlainKind → Type 0
 EachFits [] = Unit {0}
 EachFits (x ∷ xs) = KindFits x × EachFits xs
@@ -165,10 +171,12 @@ abbrev pub AllowsLoad : PlainFrame → PlainKind → ℕ → ℕ → Type 0
 AllowsLoad f x distance w =
     (is_ptr x ≡ true) × (meets Nothing (access_span (stack_place x distance) w) 0 f.slots ≡ false) × (kept_kind f x distance w ≡ None → meets Pointer (access_span (stack_place x distance) w) 0 f.slots ≡ false)
 
+-- a helper's range is given by a pointer and a length
 abbrev pub AllowsRoom : Option ℕ → PlainFrame → Type 0
 AllowsRoom None f = Unit {0}
 AllowsRoom (Some k) f = (is_ptr (kind_at f k) ≡ true) × (is_num (kind_at f (k + 1)) ≡ true)
 
+-- so of each instruction
 abbrev pub Allows : Option ℕ → Insn → PlainFrame → Type 0
 Allows room (Load width dst base offset) f = AllowsLoad f (kind_at f base) (extended offset) (byte_count width)
 Allows room (LoadSigned width dst base offset) f =

@@ -6,6 +6,7 @@ use Rattle.abstract_regs.specs.declared.kind.Kinds.{Kinds}
 use Rattle.abstract_regs.specs.declared.kind.Kind.TheVariants as code
 use Rattle.abstract_regs.specs.Kind.{PlainKind, Unset, Num, Ptr}
 
+-- a kind of the code, two of them, a list of them, and two numbers:
 abbrev pub seen : Kind → PlainKind
 seen code.Unset = Unset
 seen (code.Num n) = Num (view n)

@@ -79,6 +79,7 @@ stored slots None span x = spoiled span 0 slots
 
 -- ---- what slots have
 
+-- a kind with that content
 abbrev pub has : Content → PlainKind → Bool
 has contents.Nothing x = is_unset x
 has contents.Pointer x = is_ptr x

@@ -6,6 +6,7 @@ use Rattle.interp.specs.declared.calls.CallError.TheVariants as calls
 use Rattle.interp.specs.declared.class_table.TableError.{TableError}
 use Rattle.interp.specs.declared.class_table.TableError.TheVariants as table
 
+-- the numbers of the refusals of calls, and their names
 abbrev pub call_error_number : CallError → ℕ
 call_error_number calls.NoMethod = 1
 call_error_number calls.InputTooLong = 2
@@ -16,6 +17,7 @@ call_error_name calls.NoMethod = codes "NoMethod"
 call_error_name calls.InputTooLong = codes "InputTooLong"
 call_error_name calls.NoMemory = codes "NoMemory"
 
+-- the numbers of the refusals of a table of classes, and their names
 abbrev pub table_error_number : TableError → ℕ
 table_error_number table.TooMany = 1
 table_error_number table.NoMemory = 2
@@ -28,5 +30,6 @@ table_error_name table.NoMemory = codes "NoMemory"
 abbrev pub call_error_text : CallError → List ℕ
 call_error_text e = decimal (call_error_number e) ++ codes " " ++ call_error_name e
 
+-- of a table of classes alike
 abbrev pub table_error_text : TableError → List ℕ
 table_error_text e = decimal (table_error_number e) ++ codes " " ++ table_error_name e

@@ -69,6 +69,7 @@ helper_answer One f helper = any
 helper_answer Two f helper = any
 helper_answer Three f helper = ranged_answer (precision_of Three) f (signature_of helper) (answer_range_of helper)
 
+-- the same by the function that is called: no call and a local one say nothing
 abbrev pub callee_answer : RuleSet → PlainFrame → Callee → Plain
 callee_answer rules f callee.Nothing = any
 callee_answer rules f (callee.Helper helper) = helper_answer rules f helper

@@ -50,6 +50,7 @@ range_leaves caps (Ptr r k) (Ptr q l) = false
 range_leaves caps (Num k) y = false
 range_leaves caps Unset y = false
 
+-- a range in a region that may not be written
 abbrev pub range_is_read_only : PlainKind → PlainKind → Bool
 range_is_read_only (Ptr r k) (Num l) = not (may_store r)
 range_is_read_only (Ptr r k) Unset = false

@@ -5,6 +5,7 @@ use Rattle.verifier.specs.declared.refusal.Refusal.{Refusal}
 use Rattle.verifier.specs.declared.rule.Rule.{Rule}
 use Rattle.verifier.specs.declared.rule.Rule.TheVariants.{Backward, Target, FallsOff, LocalCall, UnsetRead, WritesR10, PointerArithmetic, PointerCompare, PointerStored, Bounds, ReadOnlyRegion, UnknownHelper, HelperArgument, WriteHelperInReader, ReturnsPointer, NoMemory, PointerBytes}
 
+-- the numbers of the rules
 abbrev pub rule_number : Rule → ℕ
 rule_number Backward = 1
 rule_number Target = 2
@@ -24,6 +25,7 @@ rule_number ReturnsPointer = 15
 rule_number NoMemory = 16
 rule_number PointerBytes = 17
 
+-- the names of the rules
 abbrev pub rule_name : Rule → List ℕ
 rule_name Backward = codes "Backward"
 rule_name Target = codes "Target"

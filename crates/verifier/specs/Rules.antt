@@ -42,6 +42,7 @@ use Rattle.abstract_regs.specs.Flow.{target}
 abbrev pub load_meets : Content → Caps → PlainFrame → PlainKind → ℕ → ℕ → Bool
 load_meets content caps f x distance w = meets content (access_span (stack_place x distance) w) 0 f.slots && stays caps x distance w
 
+-- the same of a helper's range
 abbrev pub range_meets : Content → Caps → PlainFrame → PlainKind → PlainKind → Bool
 range_meets content caps f x y = meets content (stack_range x y) 0 f.slots && not (range_leaves caps x y)
 
@@ -63,11 +64,13 @@ falls (goes.To distance) = false
 falls (goes.Either distance) = true
 falls goes.Out = false
 
+-- a function of the program itself is called
 abbrev pub is_local : Callee → Bool
 is_local callee.Nothing = false
 is_local (callee.Helper helper) = false
 is_local callee.Local = true
 
+-- it jumps to itself or to an instruction before it
 abbrev pub is_backward : Insn → Bool
 is_backward i = jumps is_negative (goes_of i)
 
@@ -79,6 +82,7 @@ misses code p i = jumps (λ distance. not (begins_at code (target p distance))) 
 abbrev pub falls_off : List (Option Insn) → ℕ → Insn → Bool
 falls_off code p i = falls (goes_of i) && not (begins_at code (p + slot_count i))
 
+-- it calls a function of the program itself
 abbrev pub is_local_call : Insn → Bool
 is_local_call i = is_local (callee_of i)
 
@@ -122,10 +126,12 @@ register_count OutputLength = 1
 register_count Readable = 2
 register_count Writable = 2
 
+-- one of the arguments from register k on has the fault
 abbrev pub some_fault : Caps → PlainFrame → Fault → List Argument → ℕ → Bool
 some_fault caps f fault [] k = false
 some_fault caps f fault (a ∷ more) k = has_fault caps f fault a k || some_fault caps f fault more (k + register_count a)
 
+-- the same of what a helper takes
 abbrev pub taken_fault : Caps → PlainFrame → Fault → Option Takes → Bool
 taken_fault caps f fault None = false
 taken_fault caps f fault (Some takes) = some_fault caps f fault takes.arguments 1
@@ -142,6 +148,7 @@ room_in (OutputLength ∷ more) k = room_in more (k + 1)
 room_in (Readable ∷ more) k = room_in more (k + 2)
 room_in (Writable ∷ more) k = Some k
 
+-- the same by what a helper takes, by what is called, and by the instruction:
 abbrev pub room_of_takes : Option Takes → Option ℕ
 room_of_takes None = None
 room_of_takes (Some takes) = room_in takes.arguments 1
@@ -160,11 +167,13 @@ asks rules caps f fault callee.Nothing = false
 asks rules caps f fault (callee.Helper helper) = call_fault rules caps f fault helper
 asks rules caps f fault callee.Local = false
 
+-- the helper that is called has an id that is none of the rule set's,
 abbrev pub is_unknown : RuleSet → Callee → Bool
 is_unknown rules callee.Nothing = false
 is_unknown rules (callee.Helper helper) = not (is_some (takes_of rules helper))
 is_unknown rules callee.Local = false
 
+-- what a helper takes says that it may change the object
 abbrev pub writes_object : Option Takes → Bool
 writes_object None = false
 writes_object (Some takes) = takes.writes
@@ -175,6 +184,7 @@ may_write rules callee.Nothing = false
 may_write rules (callee.Helper helper) = writes_object (takes_of rules helper)
 may_write rules callee.Local = false
 
+-- an operand is an unset register
 abbrev pub operand_is_unset : PlainFrame → Operand → Bool
 operand_is_unset f (Immediate imm) = false
 operand_is_unset f (Register r) = is_unset (kind_at f r)
@@ -186,6 +196,7 @@ unset_among f (reads.One x) = operand_is_unset f x
 unset_among f (reads.Two x y) = operand_is_unset f x || operand_is_unset f y
 unset_among f reads.Answer = is_unset (kind_at f 0)
 
+-- register 10 is written,
 abbrev pub is_r10 : Option ℕ → Bool
 is_r10 None = false
 is_r10 (Some r) = r == 10
@@ -200,6 +211,7 @@ computed_pointer f (uses.Copies bits x) = mov_refused bits (operand_kind f x)
 computed_pointer f (uses.Compares dst x) = false
 computed_pointer f uses.Answers = false
 
+-- a comparison has a pointer on one side,
 abbrev pub compared_pointer : PlainFrame → Uses → Bool
 compared_pointer f uses.Nothing = false
 compared_pointer f (uses.Computes bits operation dst x) = false
@@ -208,6 +220,7 @@ compared_pointer f (uses.Copies bits x) = false
 compared_pointer f (uses.Compares dst x) = is_ptr (kind_at f dst) || is_ptr (operand_kind f x)
 compared_pointer f uses.Answers = false
 
+-- the method ends with a pointer in register 0,
 abbrev pub answered_pointer : PlainFrame → Uses → Bool
 answered_pointer f uses.Nothing = false
 answered_pointer f (uses.Computes bits operation dst x) = false
@@ -220,11 +233,13 @@ answered_pointer f uses.Answers = is_ptr (kind_at f 0)
 abbrev pub access_leaves : Caps → PlainFrame → Access → Bool
 access_leaves caps f a = not (stays caps (kind_at f a.base) (extended a.offset) a.bytes)
 
+-- a load or a store does so,
 abbrev pub leaves : Caps → PlainFrame → Touches → Bool
 leaves caps f touches.Nothing = false
 leaves caps f (touches.Loads a) = access_leaves caps f a
 leaves caps f (touches.Stores a x) = access_leaves caps f a
 
+-- a store is into a region that is read only,
 abbrev pub stores_read_only : PlainFrame → Touches → Bool
 stores_read_only f touches.Nothing = false
 stores_read_only f (touches.Loads a) = false
@@ -247,6 +262,7 @@ loads_unset caps f touches.Nothing = false
 loads_unset caps f (touches.Loads a) = load_meets Nothing caps f (kind_at f a.base) (extended a.offset) a.bytes
 loads_unset caps f (touches.Stores a x) = false
 
+-- the second of these alone
 abbrev pub loads_pointer : Caps → PlainFrame → Touches → Bool
 loads_pointer caps f touches.Nothing = false
 loads_pointer caps f (touches.Loads a) = not (is_slot f a) && load_meets Pointer caps f (kind_at f a.base) (extended a.offset) a.bytes
@@ -256,15 +272,19 @@ loads_pointer caps f (touches.Stores a x) = false
 abbrev pub reads_unset : RuleSet → Caps → PlainFrame → Insn → Bool
 reads_unset rules caps f i = unset_among f (reads_of i) || (loads_unset caps f (touches_of i) || asks rules caps f NotSet (callee_of i))
 
+-- register 10 as the destination
 abbrev pub writes_r10 : Insn → Bool
 writes_r10 i = is_r10 (writes_of i)
 
+-- arithmetic with a pointer, but for the few operations that keep it one
 abbrev pub computes_with_pointer : PlainFrame → Insn → Bool
 computes_with_pointer f i = computed_pointer f (uses_of i)
 
+-- a comparison of a pointer
 abbrev pub compares_pointer : PlainFrame → Insn → Bool
 compares_pointer f i = compared_pointer f (uses_of i)
 
+-- a store of a pointer, other than whole in a known slot of the stack
 abbrev pub stores_pointer : PlainFrame → Insn → Bool
 stores_pointer f i = stored_pointer f (touches_of i)
 
@@ -272,12 +292,15 @@ stores_pointer f i = stored_pointer f (touches_of i)
 abbrev pub leaves_region : RuleSet → Caps → PlainFrame → Insn → Bool
 leaves_region rules caps f i = leaves caps f (touches_of i) || asks rules caps f OutOfRegion (callee_of i)
 
+-- a store, or a helper's range that it writes, in a region that is read only
 abbrev pub writes_read_only : RuleSet → Caps → PlainFrame → Insn → Bool
 writes_read_only rules caps f i = stores_read_only f (touches_of i) || asks rules caps f ReadOnly (callee_of i)
 
+-- a call of an id that is no helper's in the rule set
 abbrev pub calls_unknown : RuleSet → Insn → Bool
 calls_unknown rules i = is_unknown rules (callee_of i)
 
+-- a call of a helper with an argument of the wrong kind
 abbrev pub passes_wrong_kind : RuleSet → Caps → PlainFrame → Insn → Bool
 passes_wrong_kind rules caps f i = asks rules caps f WrongKind (callee_of i)
 
@@ -285,6 +308,7 @@ passes_wrong_kind rules caps f i = asks rules caps f WrongKind (callee_of i)
 abbrev pub writes_in_reader : RuleSet → Caps → Insn → Bool
 writes_in_reader rules caps i = may_write rules (callee_of i) && not caps.writes
 
+-- an exit with a pointer in register 0
 abbrev pub returns_pointer : PlainFrame → Insn → Bool
 returns_pointer f i = answered_pointer f (uses_of i)
 
@@ -327,6 +351,7 @@ abbrev pub breaks : RuleSet → Caps → List (Option Insn) → ℕ → Insn →
 breaks rules caps code p i None rule = breaks_shape code p i rule
 breaks rules caps code p i (Some f) rule = breaks_shape code p i rule || breaks_frame rules caps f i rule
 
+-- the rules in the order of their numbers
 abbrev pub shape_rules : List Rule
 shape_rules = Backward ∷ Target ∷ FallsOff ∷ LocalCall ∷ []
 
@@ -334,6 +359,7 @@ abbrev pub frame_rules : List Rule
 frame_rules =
     UnsetRead ∷ WritesR10 ∷ PointerArithmetic ∷ PointerCompare ∷ PointerStored ∷ Bounds ∷ ReadOnlyRegion ∷ UnknownHelper ∷ HelperArgument ∷ WriteHelperInReader ∷ ReturnsPointer ∷ PointerBytes ∷ []
 
+-- the first rule of a list that a test finds broken
 abbrev pub first_broken : (Rule → Bool) → List Rule → Option Rule
 first_broken test [] = None
 first_broken test (rule ∷ rules) = if test rule then Some rule else first_broken test rules
@@ -346,6 +372,7 @@ shape_rule code p i = first_broken (breaks_shape code p i) shape_rules
 abbrev pub frame_rule : RuleSet → Caps → PlainFrame → Insn → Option Rule
 frame_rule rules caps f i = first_broken (breaks_frame rules caps f i) frame_rules
 
+-- a rule that is found already, or else the one that is found under the frame, if there is one
 abbrev pub else_under : Option Rule → Option PlainFrame → (PlainFrame → Option Rule) → Option Rule
 else_under (Some rule) frame rule_of = Some rule
 else_under None None rule_of = None

@@ -23,6 +23,7 @@ use Rattle.verifier.specs.Answers.{answer_of}
 abbrev pub Table : Type 0
 Table = List (Option PlainFrame)
 
+-- the frame of a slot, if a flow comes there
 abbrev pub frame_at : Table → ℕ → Option PlainFrame
 frame_at table p = slice_get table p >>= λ f. f
 
@@ -68,6 +69,7 @@ abbrev pub frames : RuleSet → Caps → List (Option Insn) → ℕ → Table
 frames rules caps code zero = []
 frames rules caps code (suc q) = frames rules caps code q ++ (incoming rules caps code (frames rules caps code q) q q ∷ [])
 
+-- the frames of all slots
 abbrev pub whole_table : RuleSet → Caps → List (Option Insn) → Table
 whole_table rules caps code = frames rules caps code (length code)
 
@@ -83,6 +85,7 @@ TableIsOne =
     (rules : RuleSet) (caps : Caps) (code : List (Option Insn)) →
     IsTable rules caps code (whole_table rules caps code) × ((table : Table) → IsTable rules caps code table → (q : ℕ) → q < length code → frame_at table q ≡ frame_at (whole_table rules caps code) q)
 
+-- the rule that refuses slot p, or else what is refused later
 abbrev pub or_else : ℕ → Option Rule → Option (ℕ × Rule) → Option (ℕ × Rule)
 or_else p None later = later
 or_else p (Some rule) later = Some (p, rule)
@@ -94,6 +97,7 @@ first_refused rules caps code table p (None ∷ rest) = first_refused rules caps
 first_refused rules caps code table p (Some i ∷ rest) =
     or_else p (rule_at rules caps code p i (frame_at table p)) (first_refused rules caps code table (p + 1) rest)
 
+-- the first refused slot of a method's code, and the lowest rule there
 abbrev pub code_verdict : RuleSet → Caps → List (Option Insn) → Option (ℕ × Rule)
 code_verdict rules caps code = first_refused rules caps code (whole_table rules caps code) 0 code
 
@@ -104,13 +108,16 @@ pub record IsFirstRefused (rules : RuleSet) (caps : Caps) (code : List (Option I
   pub insn : fetch code r.slot ≡ Some r.insn
   pub known : r.known ≡ frame_at (whole_table rules caps code) r.slot
 
+-- the same of a method of a class
 abbrev pub method_verdict : RuleSet → ClassMethod → Option (ℕ × Rule)
 method_verdict rules m = code_verdict rules (caps_of m) (slots m.instructions)
 
+-- the refusal of method k, or else a later method's
 abbrev pub or_later : ℕ → Option (ℕ × Rule) → Option Refusal → Option Refusal
 or_later k None later = later
 or_later k (Some at) later = Some (record { method = k; slot = at.0; rule = at.1 })
 
+-- the first refusal among methods, the first of which is method k
 abbrev pub verdict_from : RuleSet → ℕ → List ClassMethod → Option Refusal
 verdict_from rules k [] = None
 verdict_from rules k (m ∷ ms) = or_later k (method_verdict rules m) (verdict_from rules (k + 1) ms)
@@ -123,6 +130,7 @@ IsFirst rules number m r = (r.method ≡ number) × (method_verdict rules m ≡ 
 abbrev pub class_verdict : Class → Option Refusal
 class_verdict c = verdict_from c.rules 0 c.methods
 
+-- the refusal that says nothing of the class: memory was refused
 abbrev pub out_of_memory : Refusal
 out_of_memory = record { method = 0; slot = 0; rule = NoMemory }
 
