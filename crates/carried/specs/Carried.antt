@@ -29,6 +29,7 @@ kind_as committed reported (sent.Rep interval place request) = Rep interval plac
 kind_as committed reported (sent.Ack interval count) = Ack interval count
 kind_as committed reported (sent.Reply client number place answer) = Reply client number place answer
 
+-- the same of a message
 abbrev pub carried_as : ℕ → ℕ → Message → CarriedMessage
 carried_as committed reported m = record { sender = m.sender; kind = kind_as committed reported m.kind }
 
@@ -48,6 +49,7 @@ reported_by (Rep interval place request) = 0
 reported_by (Ack interval count) = 0
 reported_by (Reply client number place answer) = 0
 
+-- of an operation: none but such a question reports anything
 abbrev pub reported_of : Carried → ℕ
 reported_of (carried.Request request) = 0
 reported_of (carried.Map map) = 0
@@ -70,6 +72,7 @@ kind_of local (Rep interval place request) = Some (sent.Rep interval place reque
 kind_of local (Ack interval count) = Some (sent.Ack interval count)
 kind_of local (Reply client number place answer) = Some (sent.Reply client number place answer)
 
+-- the message that comes to a node with that log; none if its list is lost
 abbrev pub message_of : List ClientRequest → CarriedMessage → Option Message
 message_of local m = option_map (λ kind. record { sender = m.sender; kind = kind }) (kind_of local m.kind)
 

@@ -2,6 +2,7 @@
 use Rattle.std.specs.Prelude.{ℕ, List, [], ◌∷◌, Bool, true, false, ◌==◌, ◌&&◌}
 use Rattle.placement.specs.Placement.{has}
 
+-- a map of a group: who acts in an interval, and who acted in the one that was activated last
 pub record GroupMap : Type 0 where
   pub epoch : ℕ
   -- the first epoch of the run of maps with this acting list
@@ -24,6 +25,7 @@ pub record ActingInterval : Type 0 where
 abbrev pub no_interval : ActingInterval
 no_interval = record { interval = 0; acting = [] }
 
+-- the interval that a map is of
 abbrev pub interval_of : GroupMap → ActingInterval
 interval_of m = record { interval = m.interval; acting = m.acting }
 
@@ -32,6 +34,7 @@ abbrev pub is_first : ℕ → List ℕ → Bool
 is_first n [] = false
 is_first n (m ∷ ms) = n == m
 
+-- by the map
 abbrev pub is_primary : ℕ → GroupMap → Bool
 is_primary n m = is_first n m.acting
 

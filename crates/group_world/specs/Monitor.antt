@@ -5,6 +5,7 @@ use Rattle.group_world.specs.Maps.{GroupMap, ActingInterval, no_map, no_interval
 use Rattle.group_world.specs.declared.monitor_error.MonitorError.{MonitorError}
 use Rattle.group_world.specs.declared.monitor_error.MonitorError.TheVariants.{BadActing, NotNewest, EpochsUsedUp}
 
+-- what a monitor remembers
 pub record MonitorState : Type 0 where
   -- the newest map; its epoch is the number of maps made
   pub newest : GroupMap
@@ -36,6 +37,7 @@ with_map m acting = record { newest = next_map m acting; activated = m.activated
 abbrev pub is_newest : MonitorState → ℕ → Bool
 is_newest m interval = nat_lt 0 interval && interval == m.newest.interval
 
+-- why the monitor refuses to activate an interval, if it does
 abbrev pub activation_refusal : MonitorState → ℕ → Option MonitorError
 activation_refusal m interval = if is_newest m interval then None else Some NotNewest
 

@@ -10,6 +10,7 @@ use Rattle.group_world.specs.declared.message.MessageKind.{MessageKind}
 use Rattle.group_world.specs.declared.message.Packet.{Packet}
 use Rattle.group_world.specs.declared.handle_error.HandleError.{HandleError}
 
+-- what a node of a group remembers
 pub record NodeState : Type 0 where
   -- the interval that it is in, 0 before the first
   pub interval : ℕ
@@ -43,6 +44,7 @@ pub record Outcome : Type 0 where
 abbrev pub nothing : NodeState → Outcome
 nothing s = record { node = s; sent = []; refusal = None }
 
+-- the node is as before, and refuses
 abbrev pub refused : NodeState → HandleError → Outcome
 refused s why = record { node = s; sent = []; refusal = Some why }
 
@@ -64,6 +66,7 @@ abbrev pub to_others : ℕ → List ℕ → MessageKind → List Packet
 to_others n [] kind = []
 to_others n (m ∷ ms) kind = if m == n then to_others n ms kind else packet n (ANode m) kind ∷ to_others n ms kind
 
+-- whether a status is that one:
 abbrev pub is_waiting : Status → Bool
 is_waiting Waiting = true
 is_waiting _ = false

@@ -41,6 +41,7 @@ is_usable classes s list = is_none (first_refusal classes list) && begins (commi
 abbrev pub ask_if : ℕ → NodeState → Bool → List Packet
 ask_if n s all = if all then packet n TheMonitor (AskActivate s.interval) ∷ [] else []
 
+-- the node adopts a list, which becomes its log
 abbrev pub adopt : ℕ → NodeState → List ClientRequest → Outcome
 adopt n s list = record {
   node = record s { status = Installing; log = list; joined = n ∷ []; acked = [] };
@@ -55,20 +56,26 @@ adopt n s list = record {
 abbrev pub at_map : NodeState → GroupMap → Status → NodeState
 at_map s m status = record { interval = m.interval; members = m; status = status; log = s.log; committed = s.committed; joined = []; acked = [] }
 
+-- the primary at a new map: it adopts the empty list if no interval was activated before, else it
+-- asks
 abbrev pub lead : ℕ → NodeState → GroupMap → Outcome
 lead n s m = if m.prev == 0 then adopt n (at_map s m Asking) []
     else record { node = at_map s m Asking; sent = to_all n m.prev_acting (Query m); refusal = None }
 
+-- the node moves to a map: as primary, as another acting node, or as one that is out
 abbrev pub move_to : ℕ → NodeState → GroupMap → Outcome
 move_to n s m = if is_primary n m then lead n s m else
     if has n m.acting then nothing (at_map s m Waiting) else nothing (at_map s m Out)
 
+-- the node moves to a map only if its interval is higher
 abbrev pub arrive : ℕ → NodeState → GroupMap → Outcome
 arrive n s m = if nat_lt s.interval m.interval then move_to n s m else nothing s
 
+-- a map by which the primary would adopt the empty list, though it has committed requests
 abbrev pub would_forget : ℕ → NodeState → GroupMap → Bool
 would_forget n s m = nat_lt s.interval m.interval && (is_primary n m && ((m.prev == 0) && nat_lt 0 s.committed))
 
+-- such a map is ignored
 abbrev pub learn_map : ℕ → NodeState → GroupMap → Outcome
 learn_map n s m = if would_forget n s m then nothing s else arrive n s m
 
@@ -99,6 +106,7 @@ install_after n sender list o =
     then and_sends (record { node = record (o.node) { status = Installed; log = list }; sent = o.sent; refusal = None }) (says_installed n sender o.node)
     else if is_installed o.node.status then and_sends o (says_installed n sender o.node) else o
 
+-- the node takes a list that it is to install
 abbrev pub install : Classes → ℕ → NodeState → Party → GroupMap → List ClientRequest → Outcome
 install classes n s sender m list = if ignores n s m then nothing s else
     if is_usable classes s list then install_after n sender list (arrive n s m) else nothing s
@@ -118,6 +126,7 @@ abbrev pub each_at : List ℕ → ℕ → List ℕ
 each_at [] k = []
 each_at (n ∷ ns) k = k ∷ each_at ns k
 
+-- the node takes the activation of an interval
 abbrev pub activate : NodeState → ℕ → Outcome
 activate s interval = if (interval == s.interval) && is_installing s.status
     then nothing (record s { status = Active; committed = length s.log; acked = each_at s.members.acting (length s.log) })
@@ -134,6 +143,7 @@ abbrev pub or_empty : Option Reply → Reply
 or_empty None = record { code = 0; output = [] }
 or_empty (Some reply) = reply
 
+-- the reply of the request at a place of the log, to its client
 abbrev pub reply_packet : Classes → ℕ → List ClientRequest → ℕ → ClientRequest → Packet
 reply_packet classes n log place r = packet n (AClient r.client) (ReplyTo r.client r.number place (or_empty (reply_at classes log place)))
 
@@ -142,6 +152,7 @@ abbrev pub replies_from : Classes → ℕ → List ClientRequest → ℕ → Lis
 replies_from classes n log place [] = []
 replies_from classes n log place (r ∷ rs) = reply_packet classes n log place r ∷ replies_from classes n log (suc place) rs
 
+-- the commit point rises, and newly committed requests are answered
 abbrev pub commit : Classes → ℕ → NodeState → Outcome
 commit classes n s = let point = max s.committed (least_of (length s.log) s.acked) in record {
   node = record s { committed = point };
@@ -163,6 +174,7 @@ append_new classes n s r =
     let o = commit classes n (record s { log = s.log ++ r ∷ []; acked = raised n (length (s.log ++ r ∷ [])) s.members.acting s.acked }) in
     record { node = o.node; sent = to_others n s.members.acting (Rep s.interval (length s.log) r) ++ o.sent; refusal = None }
 
+-- a new request is appended, or refused for the log's reason
 abbrev pub append_unless : Classes → ℕ → NodeState → ClientRequest → Option LogError → Outcome
 append_unless classes n s r None = append_new classes n s r
 append_unless classes n s r (Some why) = refused s (of_log why)
@@ -173,6 +185,7 @@ request_at classes n s r (Some place) =
     if nat_lt place s.committed then and_sends (nothing s) (reply_packet classes n s.log place r) else nothing s
 request_at classes n s r None = append_unless classes n s r (refusal classes s.log r)
 
+-- the node takes a request
 abbrev pub request : Classes → ℕ → NodeState → ClientRequest → Outcome
 request classes n s r = if is_active s.status then request_at classes n s r (place_of r.client r.number s.log) else
     if is_asking s.status || is_installing s.status then refused s Peering else refused s NotPrimary
@@ -182,9 +195,11 @@ request classes n s r = if is_active s.status then request_at classes n s r (pla
 abbrev pub says_ack : ℕ → Party → NodeState → Packet
 says_ack n receiver s = packet n receiver (Ack s.interval (length s.log))
 
+-- the node as it is, with an acknowledgement of its length
 abbrev pub and_acks : ℕ → Party → NodeState → Outcome
 and_acks n receiver s = and_sends (nothing s) (says_ack n receiver s)
 
+-- a member takes the request of a place
 abbrev pub replicate : Classes → ℕ → NodeState → Party → ℕ → ℕ → ClientRequest → Outcome
 replicate classes n s sender interval place r =
     if (interval == s.interval) && is_installed s.status then

@@ -20,6 +20,7 @@ use Rattle.group_world.specs.declared.message.Packet.{Packet}
 abbrev pub Line : Type 0
 Line = Party × Party × List ℕ × ℕ × ℕ
 
+-- a message's kind as its word, its interval or number, and its other number
 abbrev pub in_short : MessageKind → List ℕ × ℕ × ℕ
 in_short (Query m) = (codes "Query", m.interval, 0)
 in_short (LogOf interval list) = (codes "Log", interval, length list)
@@ -31,12 +32,15 @@ in_short (Rep interval place r) = (codes "Rep", interval, place)
 in_short (Ack interval k) = (codes "Ack", interval, k)
 in_short (ReplyTo client number place answer) = (codes "Reply", number, place)
 
+-- a message in short
 abbrev pub line : Packet → Line
 line p = let said = in_short p.message.kind in (p.message.sender, p.receiver, said.0, said.1, said.2)
 
+-- a method of that name, which no run of the rules calls
 abbrev pub method : List ℕ → ClassMethod
 method name = record { name = name; flags = 3; in_cap = 0; out_cap = 0; instructions = [] }
 
+-- the class
 abbrev pub locks : Classes
 locks = (method (codes "lock") ∷ method (codes "unlock") ∷ []) ∷ []
 
@@ -56,6 +60,7 @@ lines events = map line (after events).sent
 abbrev pub Standing : Type 0
 Standing = ℕ × Status × ℕ × ℕ
 
+-- of node n after these events
 abbrev pub standing : List WorldEvent → ℕ → Standing
 standing events n = let s = (after events).nodes n in (s.interval, s.status, length s.log, s.committed)
 
@@ -63,9 +68,11 @@ standing events n = let s = (after events).nodes n in (s.interval, s.status, len
 abbrev pub sees : ℕ → ℕ → WorldEvent
 sees n epoch = MapSeen n (epoch - 1)
 
+-- message m is delivered
 abbrev pub delivers : ℕ → WorldEvent
 delivers m = Delivered (m - 1)
 
+-- a line from node n to node m, to and from the monitor, and a reply to a client:
 abbrev pub from_to : ℕ → ℕ → List ℕ → ℕ → ℕ → Line
 from_to n m word first second = (ANode n, ANode m, word, first, second)
 
@@ -83,6 +90,7 @@ abbrev pub one_node : List WorldEvent
 one_node = MapMade (1 ∷ []) ∷ sees 1 1 ∷ delivers 1 ∷ delivers 2
     ∷ RequestAt 1 (call 1 1 (codes "lock")) ∷ RequestAt 1 (call 2 1 (codes "lock")) ∷ RequestAt 1 (call 1 2 (codes "unlock")) ∷ RequestAt 1 (call 2 2 (codes "lock")) ∷ []
 
+-- each event's messages, in order
 abbrev pub OneNode : Type 0
 OneNode = lines one_node ≡ to_monitor 1 1 ∷ from_monitor 1 1 ∷ reply 1 1 1 0 ∷ reply 1 2 1 1 ∷ reply 1 1 2 2 ∷ reply 1 2 2 3 ∷ []
 
@@ -90,6 +98,7 @@ OneNode = lines one_node ≡ to_monitor 1 1 ∷ from_monitor 1 1 ∷ reply 1 1 1
 abbrev pub three_nodes : List WorldEvent
 three_nodes = MapMade (1 ∷ 2 ∷ 3 ∷ []) ∷ sees 1 1 ∷ delivers 1 ∷ delivers 2 ∷ delivers 3 ∷ delivers 4 ∷ delivers 5 ∷ delivers 6 ∷ []
 
+-- the messages of that, in order
 abbrev pub three_lines : List Line
 three_lines = from_to 1 2 (codes "Install") 1 0 ∷ from_to 1 3 (codes "Install") 1 0 ∷ from_to 2 1 (codes "Installed") 1 0
     ∷ from_to 3 1 (codes "Installed") 1 0 ∷ to_monitor 1 1 ∷ from_monitor 1 1 ∷ []
@@ -98,6 +107,7 @@ three_lines = from_to 1 2 (codes "Install") 1 0 ∷ from_to 1 3 (codes "Install"
 abbrev pub both_have : List WorldEvent
 both_have = three_nodes ++ RequestAt 1 (call 1 7 (codes "lock")) ∷ delivers 7 ∷ delivers 8 ∷ []
 
+-- the messages of that, in order
 abbrev pub both_lines : List Line
 both_lines = three_lines ++ from_to 1 2 (codes "Rep") 1 0 ∷ from_to 1 3 (codes "Rep") 1 0 ∷ from_to 2 1 (codes "Ack") 1 1 ∷ from_to 3 1 (codes "Ack") 1 1 ∷ []
 
@@ -105,6 +115,7 @@ both_lines = three_lines ++ from_to 1 2 (codes "Rep") 1 0 ∷ from_to 1 3 (codes
 abbrev pub request_repeated : List WorldEvent
 request_repeated = both_have ++ delivers 9 ∷ delivers 10 ∷ RequestAt 1 (call 1 7 (codes "lock")) ∷ []
 
+-- the second reply is the first one again, and the log has one request
 abbrev pub RepeatedRequest : Type 0
 RepeatedRequest = (lines request_repeated ≡ both_lines ++ reply 1 1 7 0 ∷ reply 1 1 7 0 ∷ []) × (standing request_repeated 1 ≡ (1, Active, 1, 1))
 
@@ -114,6 +125,7 @@ abbrev pub lost_acknowledgements : List WorldEvent
 lost_acknowledgements = both_have ++ MapMade (2 ∷ 3 ∷ []) ∷ sees 2 2 ∷ delivers 13 ∷ delivers 14 ∷ delivers 15 ∷ delivers 16 ∷ delivers 17 ∷ delivers 18
     ∷ RequestAt 2 (call 1 7 (codes "lock")) ∷ delivers 9 ∷ delivers 10 ∷ []
 
+-- both primaries reply with the same place
 abbrev pub LostAcknowledgements : Type 0
 LostAcknowledgements = lines lost_acknowledgements ≡ both_lines ++ from_to 2 1 (codes "Query") 2 0 ∷ from_to 2 2 (codes "Query") 2 0 ∷ from_to 2 3 (codes "Query") 2 0
     ∷ from_to 3 2 (codes "Log") 2 1 ∷ from_to 2 3 (codes "Install") 2 1 ∷ from_to 3 2 (codes "Installed") 2 0 ∷ to_monitor 2 2 ∷ from_monitor 2 2
@@ -123,6 +135,7 @@ LostAcknowledgements = lines lost_acknowledgements ≡ both_lines ++ from_to 2 1
 abbrev pub repeated_install : List WorldEvent
 repeated_install = three_nodes ++ RequestAt 1 (call 1 1 (codes "lock")) ∷ RequestAt 1 (call 1 2 (codes "unlock")) ∷ delivers 9 ∷ delivers 7 ∷ delivers 1 ∷ []
 
+-- place 1 is taken after place 0, and after the second Install the log is as it was
 abbrev pub RepeatedInstall : Type 0
 RepeatedInstall = (lines (repeated_install ++ delivers 9 ∷ []) ≡ three_lines ++ from_to 1 2 (codes "Rep") 1 0 ∷ from_to 1 3 (codes "Rep") 1 0 ∷ from_to 1 2 (codes "Rep") 1 1
     ∷ from_to 1 3 (codes "Rep") 1 1 ∷ from_to 2 1 (codes "Ack") 1 1 ∷ from_to 2 1 (codes "Installed") 1 0 ∷ from_to 2 1 (codes "Ack") 1 2 ∷ [])
@@ -132,6 +145,7 @@ RepeatedInstall = (lines (repeated_install ++ delivers 9 ∷ []) ≡ three_lines
 abbrev pub all_stopped : List WorldEvent
 all_stopped = three_nodes ++ MapMade (4 ∷ 5 ∷ []) ∷ sees 4 2 ∷ RequestAt 4 (call 1 8 (codes "lock")) ∷ RequestAt 5 (call 1 8 (codes "lock")) ∷ []
 
+-- three questions, and nothing after them
 abbrev pub AllStopped : Type 0
 AllStopped = (lines all_stopped ≡ three_lines ++ from_to 4 1 (codes "Query") 2 0 ∷ from_to 4 2 (codes "Query") 2 0 ∷ from_to 4 3 (codes "Query") 2 0 ∷ [])
     × (standing all_stopped 4 ≡ (2, Asking, 0, 0))
@@ -142,9 +156,11 @@ abbrev pub divergent_end : List WorldEvent
 divergent_end = both_have ++ delivers 9 ∷ delivers 10 ∷ RequestAt 1 (call 1 8 (codes "unlock")) ∷ MapMade (2 ∷ 3 ∷ []) ∷ sees 2 2 ∷ delivers 16 ∷ delivers 17 ∷ delivers 18 ∷ delivers 19
     ∷ delivers 20 ∷ delivers 21 ∷ RequestAt 2 (call 2 1 (codes "lock")) ∷ delivers 22 ∷ delivers 23 ∷ MapMade (1 ∷ 2 ∷ []) ∷ sees 1 3 ∷ delivers 26 ∷ delivers 27 ∷ []
 
+-- that list is installed and activated, and the dropped request comes again
 abbrev pub divergent_rest : List WorldEvent
 divergent_rest = delivers 28 ∷ delivers 29 ∷ delivers 30 ∷ delivers 31 ∷ delivers 13 ∷ RequestAt 1 (call 1 8 (codes "unlock")) ∷ delivers 32 ∷ delivers 33 ∷ []
 
+-- it leads by that list, and the dropped request gets a new place
 abbrev pub DivergentEnd : Type 0
 DivergentEnd = (standing divergent_end 1 ≡ (3, Installing, 2, 1))
     × (lines (divergent_end ++ divergent_rest) ≡ both_lines ++ reply 1 1 7 0 ∷ from_to 1 2 (codes "Rep") 1 1 ∷ from_to 1 3 (codes "Rep") 1 1
@@ -158,6 +174,7 @@ DivergentEnd = (standing divergent_end 1 ≡ (3, Installing, 2, 1))
 abbrev pub one_silent : List WorldEvent
 one_silent = three_nodes ++ RequestAt 1 (call 1 7 (codes "lock")) ∷ []
 
+-- to nodes 2 and 3, then to node 3
 abbrev pub OneSilent : Type 0
 OneSilent = (map line (unanswered 1 ((after one_silent).nodes 1)) ≡ from_to 1 2 (codes "Rep") 1 0 ∷ from_to 1 3 (codes "Rep") 1 0 ∷ [])
     × (map line (unanswered 1 ((after (one_silent ++ delivers 7 ∷ delivers 9 ∷ [])).nodes 1)) ≡ from_to 1 3 (codes "Rep") 1 0 ∷ [])
@@ -172,6 +189,7 @@ kept_interval = three_nodes ++ MapMade (1 ∷ 2 ∷ 3 ∷ []) ∷ sees 2 2 ∷ R
 abbrev pub intervals : GroupMap → ℕ × ℕ × ℕ
 intervals m = (m.epoch, m.interval, m.prev)
 
+-- the second map keeps the first's interval; the fourth begins one, though it has the first's list
 abbrev pub KeptInterval : Type 0
 KeptInterval = (lines kept_interval ≡ both_lines ++ reply 1 1 1 0 ∷ from_to 1 1 (codes "Query") 4 0 ∷ from_to 1 2 (codes "Query") 4 0 ∷ from_to 1 3 (codes "Query") 4 0 ∷ [])
     × (map intervals (after kept_interval).maps ≡ (1, 1, 0) ∷ (2, 1, 0) ∷ (3, 3, 1) ∷ (4, 4, 1) ∷ [])

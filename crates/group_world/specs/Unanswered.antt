@@ -29,6 +29,7 @@ reps_unacked n s (m ∷ ms) [] = []
 reps_unacked n s (m ∷ ms) (a ∷ acked) = if m == n then reps_unacked n s ms acked else
     reps_from n m s.interval a (drop a s.log) ++ reps_unacked n s ms acked
 
+-- by the node's status
 abbrev pub unanswered_in : ℕ → NodeState → Status → List Packet
 unanswered_in n s Out = []
 unanswered_in n s Waiting = []

@@ -65,6 +65,7 @@ make_map w acting = if is_none (map_refusal w.monitor acting)
 abbrev pub activated_for : Party → ℕ → Packet
 activated_for asker interval = record { receiver = asker; message = record { sender = TheMonitor; kind = Activated interval } }
 
+-- the monitor activates an interval for a node that asks, unless it refuses
 abbrev pub activate_for : World → Party → ℕ → World
 activate_for w asker interval = if is_none (activation_refusal w.monitor interval)
     then record { classes = w.classes; maps = w.maps; monitor = with_activated w.monitor; nodes = w.nodes; sent = w.sent ++ activated_for asker interval ∷ [] }
@@ -81,10 +82,12 @@ deliver_to w (ANode n) m = at_node w n (AMessage m)
 deliver_to w TheMonitor m = at_monitor w m.sender m.kind
 deliver_to w (AClient client) m = w
 
+-- a message arrives, if there is one of that place
 abbrev pub deliver : World → Option Packet → World
 deliver w None = w
 deliver w (Some p) = deliver_to w p.receiver p.message
 
+-- a node sees a map, if there is one of that place
 abbrev pub show_map : World → ℕ → Option GroupMap → World
 show_map w n None = w
 show_map w n (Some m) = at_node w n (AMap m)
@@ -107,6 +110,7 @@ abbrev pub brought_by : WorldEvent → List ClientRequest
 brought_by (RequestAt n r) = r ∷ []
 brought_by _ = []
 
+-- those of a list of events, in order
 abbrev pub brought : List WorldEvent → List ClientRequest
 brought [] = []
 brought (event ∷ events) = brought_by event ++ brought events

@@ -5,6 +5,7 @@ use Rattle.group_world.specs.declared.message.Packet.{Packet}
 use Rattle.group_world.specs.declared.handle_error.HandleError.{HandleError}
 use Rattle.group_world.specs.declared.handle_error.HandleError.TheVariants.{NoMemory}
 
+-- how contracts see a node
 pub record NumberedNode : Type 0 where
   pub number : ℕ
   pub state : NodeState

@@ -15,6 +15,7 @@ use Rattle.group_world.specs.declared.message.Packet.{Packet}
 abbrev pub asked_if : ℕ → ℕ → Bool → List Packet
 asked_if n interval all = if all then packet n TheMonitor (AskActivate interval) ∷ [] else []
 
+-- what a primary sends when it adopts a list
 abbrev pub adopted_sent : ℕ → ℕ → GroupMap → List ClientRequest → List Packet
 adopted_sent n interval m list = to_others n m.acting (Install m list) ++ asked_if n interval (all_among m.acting (n ∷ []))
 

@@ -37,6 +37,7 @@ AreEntries classes objects [] = Unit {0}
 AreEntries classes objects (e ∷ es) =
     IsOutcomeOn classes objects e.request e.code e.output.items e.change × AreEntries classes (after classes objects e.request) es
 
+-- the log's requests
 abbrev pub requests_of : List Entry → List ClientRequest
 requests_of es = map (λ e. e.request) es
 

@@ -13,6 +13,7 @@ use Rattle.pg_log.specs.Adopting.{IsCommonBeginning, rest_refusal}
 abbrev pub BeginningsAreLegal : Type 0
 BeginningsAreLegal = (classes : Classes) (xs ys : List ClientRequest) → Legal classes (xs ++ ys) → Legal classes xs
 
+-- so is the empty list
 abbrev pub EmptyIsLegal : Type 0
 EmptyIsLegal = (classes : Classes) → Legal classes []
 
@@ -80,6 +81,7 @@ pub record SameWithMore (classes more : Classes) (xs : List ClientRequest) : Typ
   pub same_objects : fold (classes ++ more) xs ≡ fold classes xs
   pub same_replies : (k : ℕ) → reply_at (classes ++ more) xs k ≡ reply_at classes xs k
 
+-- that is so of every legal list
 abbrev pub ClassesAdded : Type 0
 ClassesAdded = (classes more : Classes) (xs : List ClientRequest) → Legal classes xs → SameWithMore classes more xs
 
@@ -97,6 +99,7 @@ pub record IsAsReplayed (classes : Classes) (list : List ClientRequest) (k : ℕ
   pub same : rest_refusal classes list k ≡ first_refusal classes list
   pub some : 0 < k → SomeCanRun classes list
 
+-- that is so of every legal log and every list
 abbrev pub AdoptingIsReplaying : Type 0
 AdoptingIsReplaying =
     (classes : Classes) (own list : List ClientRequest) (k : ℕ) → Legal classes own → IsCommonBeginning own list k → IsAsReplayed classes list k

@@ -45,6 +45,7 @@ abbrev pub method_in : Option (List ClassMethod) → List ℕ → Option ClassMe
 method_in None name = None
 method_in (Some class) name = method_named class name
 
+-- by the loaded classes
 abbrev pub method_of : Classes → ClientRequest → Option ClassMethod
 method_of classes r = method_in (slice_get classes r.class) r.method
 
@@ -62,6 +63,7 @@ outcome classes objects r = outcome_of_method (method_of classes r) (map.get obj
 abbrev pub after : Classes → PlainObjects → ClientRequest → PlainObjects
 after classes objects r = stored objects r.object (outcome classes objects r).object
 
+-- the objects after these requests, one after the other
 abbrev pub fold_from : Classes → PlainObjects → List ClientRequest → PlainObjects
 fold_from classes objects [] = objects
 fold_from classes objects (r ∷ rs) = fold_from classes (after classes objects r) rs

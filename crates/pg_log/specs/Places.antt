@@ -11,6 +11,7 @@ abbrev pub standing_from : ℕ → ℕ → List ClientRequest → List (ℕ × �
 standing_from client at [] = []
 standing_from client at (r ∷ rs) = if r.client == client then (r.number, at) ∷ standing_from client (suc at) rs else standing_from client (suc at) rs
 
+-- of a list whose first request has place 0
 abbrev pub standing : ℕ → List ClientRequest → List (ℕ × ℕ)
 standing client list = standing_from client 0 list
 

@@ -30,6 +30,7 @@ name_of InputTooLong = codes "InputTooLong"
 abbrev pub log_error_text : LogError → List ℕ
 log_error_text e = decimal (number_of e) ++ codes " " ++ name_of e
 
+-- the next place, if there is one
 abbrev pub one_later : Option ℕ → Option ℕ
 one_later None = None
 one_later (Some k) = Some (suc k)
@@ -57,6 +58,7 @@ abbrev pub refusal_of_method : Option ClassMethod → ClientRequest → Option L
 refusal_of_method None r = Some NoMethod
 refusal_of_method (Some m) r = if nat_lt m.in_cap (length r.input) then Some InputTooLong else None
 
+-- the reason why a request can't run by its class, none if that isn't loaded
 abbrev pub refusal_of_class : Option (List ClassMethod) → ClientRequest → Option LogError
 refusal_of_class None r = Some NoClass
 refusal_of_class (Some class) r = refusal_of_method (method_named class r.method) r
@@ -87,10 +89,12 @@ abbrev pub list_after : Option ℕ → List ClientRequest → ClientRequest → 
 list_after (Some place) list r = list
 list_after None list r = list ++ r ∷ []
 
+-- the first reason, or else the later one
 abbrev pub or_else : Option LogError → Option LogError → Option LogError
 or_else (Some why) later = Some why
 or_else None later = later
 
+-- the first refusal among requests that come after those before them
 abbrev pub first_refusal_from : Classes → List ClientRequest → List ClientRequest → Option LogError
 first_refusal_from classes before [] = None
 first_refusal_from classes before (r ∷ rs) = or_else (refusal classes before r) (first_refusal_from classes (before ++ r ∷ []) rs)

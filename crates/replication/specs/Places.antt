@@ -6,6 +6,7 @@ use Rattle.pg_log.specs.Requests.{ClientRequest}
 use Rattle.pg_log.specs.Log.{Classes}
 use Rattle.pg_log.specs.Refusals.{refusal}
 
+-- the length after, or the refusal
 abbrev pub added_or : Option LogError → ℕ → Result (Option ℕ) LogError
 added_or None after = Ok (Some after)
 added_or (Some why) after = Err why
