@@ -82,6 +82,7 @@ flags_text flags = if flags == 1 then codes "r" else (if flags == 2 then codes "
 abbrev pub directive_line : ClassMethod → List ℕ
 directive_line m = codes ".method " ++ m.name ++ codes " " ++ flags_text m.flags ++ codes " " ++ decimal m.in_cap ++ codes " " ++ decimal m.out_cap
 
+-- a method: its first line, and its instructions
 abbrev pub method_text : ClassMethod → List ℕ
 method_text m = directive_line m ++ codes "\n" ++ canonical_text m.instructions
 
@@ -114,6 +115,7 @@ code_with_slots slot (i ∷ is) = slot_line slot i ++ codes "\n" ++ code_with_sl
 abbrev pub method_with_slots : ClassMethod → List ℕ
 method_with_slots m = directive_line m ++ codes "\n" ++ code_with_slots 0 m.instructions
 
+-- the same of methods, and of a class:
 abbrev pub methods_with_slots : List ClassMethod → List ℕ
 methods_with_slots ms = flat_map method_with_slots ms
 

@@ -65,5 +65,6 @@ abbrev pub draft_of : Option Form → List ℕ → Result Draft AsmFault
 draft_of None rest = Err faults.Word
 draft_of (Some f) rest = draft f rest
 
+-- by the line's content
 unfoldable pub instruction_of : List ℕ → Result Draft AsmFault
 instruction_of text = draft_of (form_of (first_word text)) (after_word text)

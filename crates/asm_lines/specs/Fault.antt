@@ -5,6 +5,7 @@ use Rattle.asm_lines.specs.declared.fault.AsmFault.{AsmFault}
 use Rattle.asm_lines.specs.declared.fault.AsmFault.TheVariants.{Word, Operand, Range, Label, NoMemory}
 use Rattle.asm_lines.specs.declared.fault.AsmError.{AsmError}
 
+-- the numbers of the faults, and their names
 abbrev pub fault_number : AsmFault → ℕ
 fault_number Word = 1
 fault_number Operand = 2

@@ -3,6 +3,7 @@ use Rattle.std.specs.Prelude.{ℕ, List, Bool, ◌&&◌}
 use Rattle.bpf_decode.specs.Limits.{between, is_method_name, are_flags}
 use Rattle.bpf_decode.specs.declared.limits.TheConstants.{CAPACITY_LIMIT}
 
+-- a method's name, flags, and capacities of input and output
 pub record MethodHeader : Type 0 where
   pub name : List ℕ
   pub flags : ℕ

@@ -24,6 +24,7 @@ abbrev pub natural_within : ℕ → Option ℕ → Result ℕ AsmFault
 natural_within most None = Err Operand
 natural_within most (Some n) = if nat_le n most then Ok n else Err Range
 
+-- a magnitude with a minus, which 0 doesn't have, and one without:
 abbrev pub as_negative : Result ℕ AsmFault → Result Number AsmFault
 as_negative (Ok n) = if n == 0 then Err Operand else Ok (record { negative = true; magnitude = n })
 as_negative (Err fault) = Err fault

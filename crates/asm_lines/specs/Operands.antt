@@ -51,6 +51,7 @@ unsigned_of most text = filled (λ n. n.magnitude) (plain_within 0 most text)
 unfoldable pub source_of : List ℕ → Result Operand AsmFault
 source_of text = if slice_index text 0 == 114 then filled Register (register_of text) else filled Immediate (immediate_of text)
 
+-- `+` or `-`
 abbrev pub is_sign : ℕ → Bool
 is_sign c = c == 43 || c == 45
 

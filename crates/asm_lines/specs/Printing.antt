@@ -5,6 +5,7 @@ use Rattle.asm_lines.specs.declared.print.Item.{Item}
 use Rattle.asm_lines.specs.declared.print.Item.TheVariants.{Source, Memory, Wide, Offset, Local, Helper}
 use Rattle.asm_lines.specs.Canonical.{source_text, memory_text, wide_text, offset_text}
 
+-- how an operand is printed
 abbrev pub item_text : Item → List ℕ
 item_text (Source source) = source_text source
 item_text (Memory base offset) = memory_text base offset

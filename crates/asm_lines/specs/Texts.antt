@@ -23,6 +23,7 @@ unfoldable pub trim_end : List ℕ → List ℕ
 trim_end [] = []
 trim_end (c ∷ cs) = onto_trimmed c (trim_end cs)
 
+-- a text without the blanks at its ends
 unfoldable pub trim : List ℕ → List ℕ
 trim text = trim_end (trim_start text)
 

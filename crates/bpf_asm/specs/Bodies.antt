@@ -26,6 +26,7 @@ draft_slots (Ok (drafts.Branch bits comparison dst source target)) = 1
 draft_slots (Ok (drafts.CallLocal target)) = 1
 draft_slots (Err fault) = 1
 
+-- how many slots a line takes
 abbrev pub line_slots : Statement → ℕ
 line_slots Empty = 0
 line_slots (Label name) = 0

@@ -19,6 +19,7 @@ use Rattle.asm_lines.specs.Statements.{statements_of}
 use Rattle.bpf_asm.specs.Bodies.{body, has_instruction}
 use Rattle.bpf_decode.specs.declared.limits.TheConstants.{METHOD_LIMIT}
 
+-- whether a line begins a method
 abbrev pub is_directive : Statement → Bool
 is_directive Empty = false
 is_directive (Label name) = false
@@ -47,10 +48,12 @@ opening_fault rules done bare h =
 abbrev pub method_with : MethodHeader → List Insn → ClassMethod
 method_with h insns = record { name = h.name; flags = h.flags; in_cap = h.in_cap; out_cap = h.out_cap; instructions = insns }
 
+-- that method, or what is refused of its lines
 abbrev pub with_body : MethodHeader → Result (List Insn) AsmError → Result ClassMethod AsmError
 with_body h (Ok insns) = Ok (method_with h insns)
 with_body h (Err e) = Err e
 
+-- the fault of a method's first line comes before those of its other lines
 abbrev pub unless_fault : Option AsmFault → ℕ → Result ClassMethod AsmError → Result ClassMethod AsmError
 unless_fault None line m = m
 unless_fault (Some fault) line m = Err (record { line = line; fault = fault })
@@ -60,6 +63,7 @@ abbrev pub method_at : RuleSet → List ClassMethod → ℕ → Result MethodHea
 method_at rules done line (Err fault) lines = Err (record { line = line; fault = fault })
 method_at rules done line (Ok h) lines = unless_fault (opening_fault rules done (not (has_instruction lines)) h) line (with_body h (body (line + 1) lines))
 
+-- the methods after a right one, or the refusal of a wrong one
 abbrev pub next_method : Result ClassMethod AsmError → (ClassMethod → Result (List ClassMethod) AsmError) → Result (List ClassMethod) AsmError
 next_method (Err e) others = Err e
 next_method (Ok m) others = others m
@@ -76,6 +80,7 @@ class_from rules done line (Label name ∷ rest) = if length done == 0 then Err 
 class_from rules done line (Rules other ∷ rest) = if length done == 0 then Err (record { line = line; fault = faults.Word }) else class_from rules done (line + 1) rest
 class_from rules done line (Instruction d ∷ rest) = if length done == 0 then Err (record { line = line; fault = faults.Word }) else class_from rules done (line + 1) rest
 
+-- the class of that rule set and those methods
 abbrev pub with_rules : RuleSet → Result (List ClassMethod) AsmError → Result Class AsmError
 with_rules rules (Ok ms) = Ok (record { rules = rules; methods = ms })
 with_rules rules (Err e) = Err e
@@ -103,6 +108,7 @@ bare_class_fault (Directive (Ok header) ∷ rest) = faults.Range
 bare_class_fault (Directive (Err fault) ∷ rest) = least fault faults.Range
 bare_class_fault (Instruction d ∷ rest) = faults.Range
 
+-- what `assemble_class` answers
 abbrev pub class_assembled : List Statement → Result Class AsmError
 class_assembled lines = if has_instruction lines then ruled_from 1 lines else Err (record { line = 1; fault = bare_class_fault lines })
 

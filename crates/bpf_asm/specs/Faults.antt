@@ -31,6 +31,7 @@ abbrev pub LabelFault : (ℤ → Type 0) → ℕ → Option ℕ → AsmFault →
 LabelFault Fits slot None f = f ≡ faults.Label
 LabelFault Fits slot (Some at) f = (¬ Fits (pos at -ℤ pos (slot + 1))) × (f ≡ faults.Range)
 
+-- a distance that doesn't fit, or a label that has such a fault
 abbrev pub TargetFault : (ℤ → Type 0) → List Statement → ℕ → Target → AsmFault → Type 0
 TargetFault Fits all slot (targets.Slots z) f = (¬ Fits z) × (f ≡ faults.Range)
 TargetFault Fits all slot (targets.Label name) f = LabelFault Fits slot (slot_of_label name 0 all) f
@@ -135,6 +136,7 @@ RulesFault p rules f = (((p.ruled ≡ true) ⊎ (1 ≤ p.methods)) × (f ≡ fau
 abbrev pub EarlyFault : Place → AsmFault → Type 0
 EarlyFault p f = (p.methods ≡ 0) × (f ≡ faults.Word)
 
+-- a line of a class at a place, with the lines below it
 abbrev pub ClassLineFault : Place → Statement → List Statement → AsmFault → Type 0
 ClassLineFault p Empty below f = ⊥
 ClassLineFault p (Label name) below f = EarlyFault p f ⊎ LineFault p.lines p.above p.slot (Label name) f
@@ -164,6 +166,7 @@ pub record RefusesText (text : List ℕ) (e : AsmError) : Type 0 where
   pub say : TextSays text lines
   pub first : IsFirstFault (HasFault lines) e.line e.fault
 
+-- the same of a class's text
 pub record RefusesClassText (text : List ℕ) (e : AsmError) : Type 0 where
   pub lines : List Statement
   pub say : TextSays text lines
@@ -175,6 +178,7 @@ pub record IsFaultless (text : List ℕ) : Type 0 where
   pub say : TextSays text lines
   pub none : (n : ℕ) (f : AsmFault) → ¬ HasFault lines n f
 
+-- the same of a class's text
 pub record IsFaultlessClass (text : List ℕ) : Type 0 where
   pub lines : List Statement
   pub say : TextSays text lines

@@ -42,6 +42,7 @@ pub record ReachesLabel (all : List Statement) (slot : ℕ) (name : List ℕ) (d
   pub stands : slot_of_label name 0 all ≡ Some at
   pub is_distance : distance ≡ pos at -ℤ pos (slot + 1)
 
+-- by its target
 abbrev pub Reaches : List Statement → ℕ → Target → ℤ → Type 0
 Reaches all slot (targets.Slots z) distance = z ≡ distance
 Reaches all slot (targets.Label name) distance = ReachesLabel all slot name distance

@@ -41,5 +41,6 @@ pub record SaysOnce (text : List ℕ) : Type 0 where
   pub say : TextSays text lines
   pub one : (others : List Statement) → TextSays text others → others ≡ lines
 
+-- that is so of every text
 abbrev pub TextsSayLines : Type 0
 TextsSayLines = (text : List ℕ) → SaysOnce text

@@ -18,6 +18,7 @@ IsStatementText text (statements.Directive (Err fault)) = IsFaultyDirective text
 IsStatementText text (statements.Instruction (Ok draft)) = IsInstructionText text draft
 IsStatementText text (statements.Instruction (Err fault)) = IsFaultyInstruction text fault
 
+-- a line by its content
 pub record IsLine (line : List ℕ) (statement : Statement) : Type 0 where
   pub content : List ℕ
   pub has_content : HasContent line content

@@ -30,6 +30,7 @@ AnyNumber text = (z : ℤ) × IsInteger text z
 abbrev pub AnySigned : List ℕ → Type 0
 AnySigned text = (z : ℤ) × IsSigned text z
 
+-- any register or any number
 abbrev pub AnySource : List ℕ → Type 0
 AnySource text = AnyRegister text ⊎ AnyNumber text
 
@@ -51,6 +52,7 @@ pub record AnyLocal (text : List ℕ) : Type 0 where
   pub word : HasWord text (codes "local") rest
   pub is_target : AnyTarget rest
 
+-- what a call may have: `local` and a target, or a helper's number
 abbrev pub AnyCall : List ℕ → Type 0
 AnyCall text = AnyLocal text ⊎ AnyNumber text
 
@@ -153,6 +155,7 @@ DirectiveFault text rest faults.Range = AnyDirective rest × ((header : MethodHe
 DirectiveFault text rest faults.Label = ⊥
 DirectiveFault text rest faults.NoMemory = ⊥
 
+-- a `.method` line with such a fault
 pub record IsFaultyDirective (text : List ℕ) (fault : AsmFault) : Type 0 where
   pub rest : List ℕ
   pub word : HasWord text (codes ".method") rest

@@ -25,6 +25,7 @@ use Rattle.bpf_decode.specs.declared.limits.TheConstants.{CAPACITY_LIMIT}
 
 -- ---- how a line is cut
 
+-- a text of blanks alone, one without blanks, and one without a byte:
 abbrev pub AreBlanks : List ℕ → Type 0
 AreBlanks text = list_all is_blank text ≡ true
 
@@ -86,6 +87,7 @@ pub record IsHexadecimal (text : List ℕ) (n : ℕ) : Type 0 where
   pub most : length hex ≤ 16
   pub value : digits_value 16 hex ≡ n
 
+-- a number without a sign
 abbrev pub IsNatural : List ℕ → ℕ → Type 0
 IsNatural text n = IsDecimal text n ⊎ IsHexadecimal text n
 
@@ -107,6 +109,7 @@ IsSigned text (negsuc n) = IsBehind 45 text (suc n)
 
 -- ---- operands
 
+-- an immediate of 32 bits, an offset of 16 and a distance of 32:
 abbrev pub IsImmediate : List ℕ → ℤ → Type 0
 IsImmediate text z = IsInteger text z × FitsSigned w32 z
 
@@ -127,6 +130,7 @@ pub record IsRegister (text : List ℕ) (n : ℕ) : Type 0 where
   pub decimal : IsDecimal number n
   pub most : n ≤ 10
 
+-- an immediate or a register
 abbrev pub IsSource : List ℕ → Operand → Type 0
 IsSource text (Immediate z) = IsImmediate text z
 IsSource text (Register n) = IsRegister text n
@@ -214,6 +218,7 @@ IsDraftText (drafts.JumpLong target) word rest = (word ≡ word_of forms.JumpLon
 IsDraftText (drafts.Branch bits comparison dst source target) word rest = (word ≡ word_of (forms.Branch bits comparison)) × Three IsRegister IsSource IsNearTarget rest dst source target
 IsDraftText (drafts.CallLocal target) word rest = (word ≡ word_of forms.Call) × One IsLocal rest target
 
+-- an instruction's line, by its content
 pub record IsInstructionText (text : List ℕ) (draft : Draft) : Type 0 where
   pub word : List ℕ
   pub rest : List ℕ

@@ -22,6 +22,7 @@ is_above before name = is_lt (slice_cmp nat_cmp before name)
 -- ---- fields: each is read whole and then tested, and what is read is a value and the bytes after
 -- it
 
+-- a byte, a little-endian number of two bytes, and that many bytes, each with what stands after it:
 abbrev pub byte_at : List ℕ → Result (ℕ × List ℕ) DecodeError
 byte_at [] = Err Truncated
 byte_at (b ∷ rest) = Ok (b, rest)
@@ -41,11 +42,13 @@ name_at before bytes = do
   lettered ← checked (are_name_bytes name.0) Name name
   checked (is_above before name.0) Order name
 
+-- a method's flags
 unfoldable pub flags_at : List ℕ → Result (ℕ × List ℕ) DecodeError
 flags_at bytes = do
   flags ← byte_at bytes
   checked (are_flags flags.0) Flags flags
 
+-- a capacity that the rule set allows
 unfoldable pub capacity_at : RuleSet → List ℕ → Result (ℕ × List ℕ) DecodeError
 capacity_at rules bytes = do
   n ← number_at bytes
@@ -87,6 +90,7 @@ rules_of magic =
     else (if pointwise nat_eq magic (codes "RCL3") then Ok Three
     else Err Magic))
 
+-- the rule set, by the first four bytes
 unfoldable pub rules_at : List ℕ → Result (RuleSet × List ℕ) DecodeError
 rules_at bytes = do
   magic ← bytes_at 4 bytes
@@ -131,6 +135,7 @@ pub record ReadsSoFar (rules : RuleSet) (count : ℕ) (bytes : List ℕ) (n : �
   pub more : n < count
   pub read : methods_at rules n 0 [] bytes ≡ Ok (methods, behind)
 
+-- a refusal is the one that reading the methods gives, or want of memory at one of them
 abbrev pub RefusesMethods : RuleSet → ℕ → List ℕ → ImageError → Type 0
 RefusesMethods rules count bytes e = ((e.error ≡ NoMemory) × ReadsSoFar rules count bytes e.methods) ⊎ (methods_at rules count 0 [] bytes ≡ Err e)
 
@@ -158,6 +163,7 @@ method_after rules before m = do
   written ← checked (is_capacity rules m.out_cap) Limit m
   checked (is_slot_count (slot_total m.instructions)) Limit m
 
+-- the same of methods: `done` stand before them, the last of which has the name `before`
 unfoldable pub methods_after : RuleSet → ℕ → List ℕ → List ClassMethod → Result (List ClassMethod) ImageError
 methods_after rules done before [] = Ok []
 methods_after rules done before (m ∷ ms) = after done (method_after rules before m) >>= λ first. methods_after rules (done + 1) m.name ms >>= λ others. Ok (first ∷ others)

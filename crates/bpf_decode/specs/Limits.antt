@@ -21,6 +21,7 @@ is_name_length n = between 1 NAME_LIMIT n
 abbrev pub is_name_byte : ℕ → Bool
 is_name_byte b = between 97 122 b || between 48 57 b || (b == 95)
 
+-- each byte is one of a name
 abbrev pub are_name_bytes : List ℕ → Bool
 are_name_bytes [] = true
 are_name_bytes (b ∷ bs) = is_name_byte b && are_name_bytes bs

@@ -8,6 +8,7 @@ use Rattle.bpf_decode.specs.Instruction.{slot_count}
 use Rattle.bpf_decode.specs.Fields.{Fields, fields_of}
 use Rattle.bpf_decode.specs.Table.{row_of, fields_allowed, high_half, instruction}
 
+-- what the function gives of a value; a refusal stays the refusal
 infixl 10 ◌>>=◌
 abbrev pub ◌>>=◌ : {A B E : Type 0} → Result A E → (A → Result B E) → Result B E
 (Ok x) >>= f = f x

@@ -5,6 +5,7 @@ use Rattle.bpf_decode.specs.declared.decode_error.DecodeError.{DecodeError}
 use Rattle.bpf_decode.specs.declared.image_error.ImageError.{ImageError}
 use Rattle.bpf_decode.specs.declared.decode_error.DecodeError.TheVariants.{Truncated, Magic, Opcode, Register, NonzeroField, WideHalf, Name, Order, Flags, Limit, Trailing, NoMemory}
 
+-- the numbers of the refusals, and their names
 abbrev pub number_of : DecodeError → ℕ
 number_of Truncated = 1
 number_of Magic = 2
@@ -33,6 +34,7 @@ name_of Limit = codes "Limit"
 name_of Trailing = codes "Trailing"
 name_of NoMemory = codes "NoMemory"
 
+-- the slot of a refused instruction
 abbrev pub slot_of : DecodeError → Option ℕ
 slot_of Truncated = None
 slot_of Magic = None

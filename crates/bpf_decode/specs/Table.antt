@@ -58,6 +58,7 @@ rows =
     ∷ Load Byte ∷ StoreImmediate Byte ∷ StoreRegister Byte ∷ Load Double ∷ StoreImmediate Double ∷ StoreRegister Double
     ∷ LoadSigned signed.Word ∷ LoadSigned signed.Half ∷ LoadSigned signed.Byte ∷ Call ∷ Exit ∷ []
 
+-- the row of an opcode that is none of those
 unfoldable pub other_row : ℕ → Option OpcodeRow
 other_row n = find (λ row. opcode row == n) rows
 
