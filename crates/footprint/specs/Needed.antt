@@ -51,6 +51,7 @@ abbrev pub helper_does : Deed → Option Helper → Bool
 helper_does deed None = false
 helper_does deed (Some h) = does deed h
 
+-- an instruction is a call of such a helper
 abbrev pub calls_such : Deed → Insn → Bool
 calls_such deed (Call id) = helper_does deed (helper_of id)
 calls_such deed i = false

@@ -9,6 +9,7 @@ abbrev pub reduced_content : Parts → Content → Content
 reduced_content kept c =
     record { bytes = if kept.bytes then c.bytes else []; xattrs = if kept.xattrs then c.xattrs else fin.empty; omap = if kept.keys then c.omap else fin.empty }
 
+-- the same of an object, absent or there
 abbrev pub reduced : Parts → PlainObject → PlainObject
 reduced kept None = None
 reduced kept (Some c) = Some (reduced_content kept c)

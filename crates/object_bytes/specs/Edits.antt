@@ -10,6 +10,7 @@ use Rattle.object_bytes.specs.Flat.{name_bytes, value_bytes}
 use Rattle.object_bytes.specs.declared.part.Part.{Part}
 use Rattle.object_bytes.specs.declared.part.Part.TheVariants.{Xattrs, Keys}
 
+-- a step from one object to the next
 pub data Edit : Type 0 where
   Create : Edit
   Remove : Edit
@@ -20,6 +21,7 @@ pub data Edit : Type 0 where
 
 -- ---- what it does
 
+-- the object that is there after a change, and absent after a removal, unless that is refused:
 abbrev pub there : Result Content StoreError → Result PlainObject StoreError
 there (Ok c) = Ok (Some c)
 there (Err e) = Err e
@@ -46,6 +48,7 @@ all_edited (e ∷ es) o = edited e o >>= λ after. all_edited es after
 
 -- ---- how it is written: its number and its fields
 
+-- the number that each edit begins with: 1 and 2, these by the part, 7 and 8
 abbrev pub set_number : Part → ℕ
 set_number Xattrs = 3
 set_number Keys = 5
@@ -54,6 +57,7 @@ abbrev pub remove_number : Part → ℕ
 remove_number Xattrs = 4
 remove_number Keys = 6
 
+-- the one spelling of an edit: its number and what it takes, all numbers little-endian
 abbrev pub edit_bytes : Edit → List ℕ
 edit_bytes Create = 1 ∷ []
 edit_bytes Remove = 2 ∷ []

@@ -4,6 +4,7 @@ use Rattle.object_store.specs.Object.{Attributes, Content}
 use Rattle.object_bytes.specs.declared.part.Part.{Part}
 use Rattle.object_bytes.specs.declared.part.Part.TheVariants.{Xattrs, Keys}
 
+-- the xattrs, or the keys, and their values
 abbrev pub names : Part → Content → Attributes
 names Xattrs c = c.xattrs
 names Keys c = c.omap

@@ -13,6 +13,7 @@ use Rattle.object_bytes.specs.declared.part.Part.TheVariants.{Xattrs, Keys}
 
 -- ---- fields: what is read is a value and the bytes after it
 
+-- a byte
 abbrev pub byte_at : List ℕ → Result (ℕ × List ℕ) FlatError
 byte_at [] = Err Malformed
 byte_at (b ∷ rest) = Ok (b, rest)
@@ -21,6 +22,7 @@ byte_at (b ∷ rest) = Ok (b, rest)
 abbrev pub number_at : ℕ → List ℕ → Result (ℕ × List ℕ) FlatError
 number_at n bytes = checked (nat_le n (length bytes)) Malformed (little_number n bytes, drop n bytes)
 
+-- n bytes
 abbrev pub bytes_at : ℕ → List ℕ → Result (List ℕ × List ℕ) FlatError
 bytes_at n bytes = checked (nat_le n (length bytes)) Malformed (take n bytes, drop n bytes)
 
@@ -62,6 +64,7 @@ data_at bytes = do
   c ← stored (write None 0 text.0)
   Ok (c, text.1)
 
+-- data, xattrs, keys, and nothing after them
 unfoldable pub content_at : List ℕ → Result Content FlatError
 content_at bytes = do
   text ← data_at bytes
@@ -69,6 +72,7 @@ content_at bytes = do
   keys ← part_at Keys xattrs.0 xattrs.1
   checked (length keys.1 == 0) Malformed keys.0
 
+-- an object that is there, or why it isn't read
 abbrev pub there : Result Content FlatError → Result PlainObject FlatError
 there (Ok c) = Ok (Some c)
 there (Err e) = Err e

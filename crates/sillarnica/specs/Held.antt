@@ -1,6 +1,7 @@
 -- Whether a handle holds a class.
 use Rattle.std.specs.Prelude.{ℕ, Option, Some, None}
 
+-- it holds one
 abbrev pub IsHeld : {A : Type 0} → Option A → Type 0
 IsHeld None = ⊥
 IsHeld (Some x) = Unit {0}

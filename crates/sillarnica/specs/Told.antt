@@ -65,6 +65,7 @@ Writes line old new result = (result ≡ pos (length line)) × (new ≡ overlaid
 abbrev pub WritesOrNot : List ℕ → List ℕ → List ℕ → ℤ → Type 0
 WritesOrNot line old new result = Writes line old new result ⊎ ((result ≡ negsuc 11) × (new ≡ old))
 
+-- the line says why the image is refused, or which rule refuses the class
 pub record ExplainsImage (image old new : List ℕ) (result : ℤ) : Type 0 where
   pub error : ImageError
   pub refused : image_of image ≡ Err error
@@ -75,12 +76,14 @@ pub record ExplainsVerdict (image old new : List ℕ) (result : ℤ) : Type 0 wh
   pub refused : RefusesClass image refusal
   pub written : Writes (refusal_text refusal) old new result
 
+-- one of both, or -12 and nothing, if memory was refused
 abbrev pub ExplainsClass : List ℕ → List ℕ → List ℕ → ℤ → Type 0
 ExplainsClass image old new result =
     ExplainsImage image old new result
     ⊎ (ExplainsVerdict image old new result
     ⊎ ((result ≡ negsuc 11) × (new ≡ old)))
 
+-- 0 and nothing for an accepted class, else its line
 abbrev pub TellsExplain : List ℕ → List ℕ → List ℕ → ℤ → Type 0
 TellsExplain image old new result = ((result ≡ pos 0) × IsAccepted image × (new ≡ old)) ⊎ ExplainsClass image old new result
 
@@ -90,6 +93,7 @@ pub record Declared : Type 0 where
   pub in_cap : ℕ
   pub out_cap : ℕ
 
+-- the method of that name is in the image's class, and has these numbers
 pub record Declares (image name : List ℕ) (told : Declared) : Type 0 where
   pub written : Class
   pub spelled : IsImage image written
@@ -99,15 +103,19 @@ pub record Declares (image name : List ℕ) (told : Declared) : Type 0 where
   pub in_cap : told.in_cap ≡ method.in_cap
   pub out_cap : told.out_cap ≡ method.out_cap
 
+-- the image's class has no such method
 pub record SpellsNoMethod (image name : List ℕ) : Type 0 where
   pub written : Class
   pub spelled : IsImage image written
   pub none : method_named written.methods name ≡ None
 
+-- the image is refused
 pub record SpellsNoClass (image : List ℕ) : Type 0 where
   pub error : ImageError
   pub refused : image_of image ≡ Err error
 
+-- 0 and the numbers; or 1 for such an image, -95 without such a method, -12 for want of memory, and
+-- nothing is written
 abbrev pub TellsMethod : List ℕ → List ℕ → Declared → Declared → ℤ → Type 0
 TellsMethod image name old new result =
     ((result ≡ pos 0) × Declares image name new)
@@ -129,6 +137,7 @@ pub record Needs (image name : List ℕ) (result : ℤ) : Type 0 where
   pub number : result ≡ pos (footprint.number_of (needed method.instructions))
   pub enough : AreEnough image name (needed method.instructions)
 
+-- or -95 without such a method or class, -12 for want of memory
 abbrev pub TellsNeeds : List ℕ → List ℕ → ℤ → Type 0
 TellsNeeds image name result =
     Needs image name result
