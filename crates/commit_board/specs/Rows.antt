@@ -8,6 +8,7 @@ use Rattle.pg_log.specs.Requests.{ClientRequest}
 use Rattle.commit_board.specs.declared.view.View.{View}
 use Rattle.commit_board.specs.Lists.{list_at, put_at, merged}
 
+-- a seat's view by its parts
 abbrev pub view_of : ℕ → ℕ → List ClientRequest → List (List ClientRequest) → List (List ClientRequest) → View
 view_of first end written known received = record { first = first; end = end; written = written; known = known; received = received }
 

@@ -14,6 +14,7 @@ pub record Knows : Type 0 where
   pub board : TableId
   pub lists : List (List ClientRequest)
 
+-- by its parts
 abbrev pub writer_of : TableId → ℕ → List ClientRequest → Row
 writer_of board row list = record { board = board; row = row; list = list }
 
@@ -21,5 +22,6 @@ writer_of board row list = record { board = board; row = row; list = list }
 abbrev pub new_writer : TableId → ℕ → Row
 new_writer board row = writer_of board row []
 
+-- by its parts
 abbrev pub knows : TableId → List (List ClientRequest) → Knows
 knows board lists = record { board = board; lists = lists }

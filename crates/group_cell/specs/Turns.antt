@@ -27,6 +27,7 @@ pub record IsReplyTo (cell : CellState) (by nth at : ℕ) (reply : Reply) (r : P
   pub client : r.request.client ≡ by
   pub number : r.request.number ≡ nth
 
+-- a message that gives a client a reply
 abbrev pub GivesReply : CellState → MessageKind → PostedReply → Type 0
 GivesReply cell (Query m) r = ⊥
 GivesReply cell (LogOf interval list) r = ⊥
@@ -46,6 +47,7 @@ GoesOutAs cell reported p (ToMonitor interval) = (p.receiver ≡ TheMonitor) × 
 GoesOutAs cell reported p (ToClient client (post.Reply r)) = (p.receiver ≡ AClient client) × GivesReply cell p.message.kind r
 GoesOutAs cell reported p (ToClient client (post.Refused r)) = ⊥
 
+-- a message by which a node asks the monitor
 abbrev pub asks_activation : MessageKind → Bool
 asks_activation (AskActivate interval) = true
 asks_activation _ = false
@@ -58,6 +60,7 @@ may_be_left_out (ANode n) kind = false
 may_be_left_out TheMonitor kind = not (asks_activation kind)
 may_be_left_out (AClient client) kind = true
 
+-- what goes out of a message, if it isn't left out
 abbrev pub MayGoOutAs : {N : Type 0} → CellState → ℕ → Packet → Option (Outgoing N) → Type 0
 MayGoOutAs cell reported p None = may_be_left_out p.receiver p.message.kind ≡ true
 MayGoOutAs cell reported p (Some o) = GoesOutAs cell reported p o

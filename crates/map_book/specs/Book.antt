@@ -7,6 +7,7 @@ use Rattle.map_book.specs.declared.map_error.MapError.{MapError}
 use Rattle.map_book.specs.declared.map_error.MapError.TheVariants.{NoneUp, Limit, EpochsUsedUp}
 use Rattle.map_book.specs.declared.new_map.NewMap.{NewMap}
 
+-- what the maps of a cluster are made from
 pub record Book : Type 0 where
   -- the number of the cluster's nodes; each node's number is below it
   pub nodes : ℕ
@@ -39,6 +40,7 @@ are_below bound (n ∷ ns) = nat_lt n bound && are_below bound ns
 abbrev pub are_nodes_of : ℕ → List ℕ → Bool
 are_nodes_of nodes up = are_below nodes up && are_nodes up
 
+-- Limit by a node that isn't the cluster's or stands twice, or else EpochsUsedUp
 abbrev pub refusal_of : Book → List ℕ → Option MapError
 refusal_of b up = if not (are_nodes_of b.nodes up) then Some Limit else
     if nat_le (2 ^ 32 - 1) b.epoch then Some EpochsUsedUp else None

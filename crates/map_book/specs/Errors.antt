@@ -7,6 +7,7 @@ use Rattle.group_world.specs.declared.monitor_error.MonitorError.TheVariants as 
 use Rattle.map_book.specs.declared.map_error.MapError.{MapError}
 use Rattle.map_book.specs.declared.map_error.MapError.TheVariants.{NoneUp, Limit, EpochsUsedUp, NoMemory}
 
+-- a refusal of placement, and one of the monitor, as the book's
 abbrev pub of_placement : PlacementError → MapError
 of_placement placement.NoneUp = NoneUp
 of_placement placement.Limit = Limit

@@ -12,6 +12,7 @@ abbrev pub queue_position : ℕ → ℕ → ℕ → ℕ → QueuePosition
 queue_position shard shards senders takers = record { shard = shard; shards = shards; senders = senders; takers = takers }
 
 module _ {T : Type 0} where
+  -- a pass by its parts
   abbrev pub pass_state : QueuePosition → ℕ → ℕ → ℕ → List (Ranked T) → List (Ranked T) → PassState T
   pass_state place first end parts put got = record { place = place; first = first; end = end; parts = parts; put = put; got = got }
 
@@ -64,6 +65,7 @@ module _ {T : Type 0} where
   IsRanked k [] = Unit {0}
   IsRanked k (x ∷ xs) = (x.rank ≡ k) × IsRanked (suc k) xs
 
+  -- each operation has the property P
   abbrev pub Each : (Ranked T → Type 0) → List (Ranked T) → Type 0
   Each P [] = Unit {0}
   Each P (x ∷ xs) = P x × Each P xs

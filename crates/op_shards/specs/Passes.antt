@@ -12,6 +12,7 @@ use Rattle.op_shards.specs.Order.{queue_position, sender, taker, KeptWith, WasKe
 abbrev pub name : {S D Q A : Type 0} → Slotted S D Q A → TableId
 name q = q.table.shared.table_id
 
+-- the identities of queues
 abbrev pub names : {S D Q A : Type 0} → List (Slotted S D Q A) → List TableId
 names queues = map (λ q. name q) queues
 
@@ -20,6 +21,7 @@ pub record Spot : Type 0 where
   pub queue : TableId
   pub place : QueuePosition
 
+-- by its parts
 abbrev pub spot_of : TableId → QueuePosition → Spot
 spot_of queue place = record { queue = queue; place = place }
 
@@ -29,6 +31,7 @@ pub record Queues : Type 0 where
   pub senders : ℕ
   pub takers : ℕ
 
+-- by their parts
 abbrev pub queues_of : List TableId → ℕ → ℕ → Queues
 queues_of names senders takers = record { names = names; senders = senders; takers = takers }
 
@@ -37,6 +40,7 @@ abbrev pub spots_from : ℕ → ℕ → ℕ → ℕ → List TableId → List Sp
 spots_from k shards senders takers [] = []
 spots_from k shards senders takers (q ∷ qs) = spot_of q (queue_position k shards senders takers) ∷ spots_from (suc k) shards senders takers qs
 
+-- all of them
 abbrev pub spots : Queues → List Spot
 spots q = spots_from 0 (length q.names) q.senders q.takers q.names
 
@@ -51,6 +55,7 @@ pub record FreeEndState : Type 0 where
   pub next : ℕ
   pub parts : ℕ
 
+-- by its parts
 abbrev pub free_end_state : ℕ → ℕ → Spot → FreeEndState
 free_end_state next parts spot = record { spot = spot; next = next; parts = parts }
 
@@ -89,6 +94,7 @@ module _ {T : Type 0} where
   abbrev pub ranked : ℕ → ℕ → T → Ranked T
   ranked sender rank op = record { sender = sender; rank = rank; op = op }
 
+  -- the ends of a new sender, and of a new taker
   abbrev pub new_send : ℕ → Spot → Sent T
   new_send number spot = record { spot = spot; sender = number; accepted = [] }
 
@@ -104,6 +110,7 @@ module _ {T : Type 0} where
   abbrev pub joined_end : Got T → Got T → Got T
   joined_end x y = record { spot = x.spot; parts = x.parts + y.parts; taken = x.taken ++ y.taken }
 
+  -- the same of each queue's ends
   abbrev pub join_ends : List (Got T) → List (Got T) → List (Got T)
   join_ends [] ys = []
   join_ends (x ∷ xs) [] = x ∷ xs
@@ -127,6 +134,7 @@ module _ {T : Type 0} where
   abbrev pub next_rank : Sender T → ℕ → ℕ
   next_rank s shard = length (at_shard s.accepted shard)
 
+  -- a sender after an accepted operation, and a taker after one that it took
   abbrev pub after_submit : Sender T → ℕ → T → Sender T
   after_submit s shard op = record { queues = s.queues; sender = s.sender; accepted = pushed_at s.accepted shard (ranked s.sender (next_rank s shard) op) }
 
@@ -141,6 +149,7 @@ module _ {T : Type 0} where
   abbrev pub new_sender : Queues → ℕ → Sender T
   new_sender queues number = record { queues = queues; sender = number; accepted = map (λ _. []) queues.names }
 
+  -- the same of a taker
   abbrev pub new_taker : Queues → Taker T
   new_taker queues = record { queues = queues; takers = 1; taken = map (λ _. []) queues.names }
 
@@ -148,6 +157,7 @@ module _ {T : Type 0} where
   abbrev pub SenderWasKept : (T → ℕ) → Sender T → ℕ → Type 0
   SenderWasKept group s shard = WasKept group (sender (shard_of s.queues shard) s.sender (at_shard s.accepted shard))
 
+  -- the same of a taker's pass
   abbrev pub TakerWasKept : (T → ℕ) → Taker T → ℕ → Type 0
   TakerWasKept group t shard = WasKept group (taker (shard_of t.queues shard) t.takers (at_shard t.taken shard))
 
@@ -155,6 +165,7 @@ module _ {T : Type 0} where
   abbrev pub SenderWasKeptAt : (T → ℕ) → ℕ → Sender T → ℕ → Type 0
   SenderWasKeptAt group n s shard = Held n (KeptWith group (sender (shard_of s.queues shard) s.sender (at_shard s.accepted shard)))
 
+  -- the same of a taker's pass
   abbrev pub TakerWasKeptAt : (T → ℕ) → ℕ → Taker T → ℕ → Type 0
   TakerWasKeptAt group n t shard = Held n (KeptWith group (taker (shard_of t.queues shard) t.takers (at_shard t.taken shard)))
 

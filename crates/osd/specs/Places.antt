@@ -2,6 +2,7 @@
 use Rattle.std.specs.Prelude.{ℕ, ◌<◌, ◌≤◌, ◌⊎◌}
 use Rattle.osd.specs.declared.config.Config.{Config}
 
+-- the cluster has both, or lacks one of them:
 abbrev pub IsThere : Config → ℕ → ℕ → Type 0
 IsThere c node group = (node < c.nodes) × (group < c.groups)
 

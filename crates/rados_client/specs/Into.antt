@@ -23,6 +23,7 @@ filled a buffer =
     if nat_lt (length buffer) (length a.output) then buffer else
     a.output ++ drop (length a.output) buffer
 
+-- what the call answers, and the buffer after it: a refusal changes nothing
 abbrev pub into_answer : List ℕ → Result PlacedReply ExecError → Result ℤ ExecError
 into_answer buffer (Ok reply) = Ok (into_code reply.answer buffer)
 into_answer buffer (Err e) = Err e

@@ -48,10 +48,12 @@ pub record IsAdded (image : List ℕ) (old new : ClusterState) (id : ℕ) : Type
   pub place : id ≡ length before
   pub has : new ≡ record { count = suc id; config = old.config; classes = Some (before ++ class ∷ []) }
 
+-- a method isn't safe
 abbrev pub verdict_refusal : Option Refusal → Option LoadError
 verdict_refusal None = None
 verdict_refusal (Some refusal) = Some (load.Verdict refusal)
 
+-- the same by what reading the image gave
 abbrev pub refusal_of_read : Result Class ImageError → Option LoadError
 refusal_of_read (Ok class) = verdict_refusal (class_verdict class)
 refusal_of_read (Err e) = Some (load.Image e)
@@ -60,14 +62,17 @@ refusal_of_read (Err e) = Some (load.Image e)
 abbrev pub class_refusal : List ℕ → Option LoadError
 class_refusal image = refusal_of_read (image_of image)
 
+-- the cluster has run: it has no list of classes any more
 abbrev pub refusal_of_start : Option Classes → Option LoadError
 refusal_of_start None = Some load.Started
 refusal_of_start (Some classes) = None
 
+-- there is no room for one more class, or else the later reason
 abbrev pub refusal_of_room : Bool → Option LoadError → Option LoadError
 refusal_of_room true later = Some load.TooMany
 refusal_of_room false later = later
 
+-- the first reason, or else the later one
 abbrev pub first_of : Option LoadError → Option LoadError → Option LoadError
 first_of None later = later
 first_of (Some e) later = Some e

@@ -29,6 +29,7 @@ exec_error_number exec.NothingSent = 10
 exec_error_number exec.NumbersUsedUp = 11
 exec_error_number exec.NotTaken = 12
 
+-- the names of a call's refusals
 abbrev pub exec_error_name : ExecError → List ℕ
 exec_error_name exec.NotPrimary = codes "NotPrimary"
 exec_error_name exec.Peering = codes "Peering"
@@ -63,6 +64,7 @@ abbrev pub open_error_number : OpenError → ℕ
 open_error_number opening.TooMany = 1
 open_error_number opening.NoMemory = 2
 
+-- and their texts, number and name
 abbrev pub open_error_text : OpenError → List ℕ
 open_error_text opening.TooMany = codes "1 TooMany"
 open_error_text opening.NoMemory = codes "2 NoMemory"
@@ -72,6 +74,7 @@ abbrev pub config_error_number : ConfigError → ℕ
 config_error_number config.Limit = 1
 config_error_number config.NoMemory = 2
 
+-- and their texts, number and name
 abbrev pub config_error_text : ConfigError → List ℕ
 config_error_text config.Limit = codes "1 Limit"
 config_error_text config.NoMemory = codes "2 NoMemory"
@@ -84,6 +87,7 @@ load_error_number load.TooMany = 3
 load_error_number load.NoMemory = 4
 load_error_number load.Started = 5
 
+-- and their texts, number and name
 abbrev pub load_error_text : LoadError → List ℕ
 load_error_text (load.Image e) = codes "1 Image"
 load_error_text (load.Verdict r) = codes "2 Verdict"
@@ -91,6 +95,7 @@ load_error_text load.TooMany = codes "3 TooMany"
 load_error_text load.NoMemory = codes "4 NoMemory"
 load_error_text load.Started = codes "5 Started"
 
+-- the texts of the refusals of a cluster that is to run
 abbrev pub run_error_text : RunError → List ℕ
 run_error_text run.Started = codes "1 Started"
 run_error_text run.NoMemory = codes "2 NoMemory"
