@@ -1,10 +1,11 @@
 #!/usr/bin/env python3
-"""Counts lines by block and kind, lines over 120 columns, crates, edits, pages and words.
+"""Counts lines by block and kind, lines over 120 columns, silent files, crates, edits, pages and words.
 
     tools/count.py
 
 The blocks are the comment lines of crates.txt. Lines are those of src/, specs/ and proofs/; an edit
-is a file of must-fail/ or wrong/. A word has a letter or a digit."""
+is a file of must-fail/ or wrong/. A word has a letter or a digit. A file of src/ is silent if neither
+a first line `//!` nor a type of its name says what it is for; those of tests and of bench may be."""
 import re
 from pathlib import Path
 
@@ -32,12 +33,20 @@ def lines_of(crates, folder, pattern):
             for line in file.read_text(encoding="utf-8").splitlines()]
 
 
+def is_silent(file):
+    """True if neither its first line nor a type of its name says what a file of src/ is for."""
+    text, name = file.read_text(encoding="utf-8"), file.stem.replace("_", "")
+    return not text.startswith("//!") and not re.search(rf"\b(struct|enum|trait) {name}\b", text, re.IGNORECASE)
+
+
 def row(name, crates):
     counts = {kind: lines_of(crates, kind, pattern) for kind, pattern in KINDS.items()}
     edits = sum(1 for crate in crates for folder in ("must-fail", "wrong")
                 for _ in (TOP / "crates" / crate).glob(f"{folder}/*.edit"))
     wide = sum(len(line) > COLUMNS for kind in ("src", "specs") for line in counts[kind])
-    return [name, len(crates), *(len(counts[kind]) for kind in KINDS), edits, wide]
+    silent = sum(is_silent(file) for crate in crates if not crate.startswith(("tests_", "bench"))
+                 for file in (TOP / "crates" / crate / "src").rglob("*.rt"))
+    return [name, len(crates), *(len(counts[kind]) for kind in KINDS), edits, wide, silent]
 
 
 def words(files):
@@ -47,7 +56,7 @@ def words(files):
 def main():
     rows = [row(name, crates) for name, crates in blocks()]
     rows.append(["all", *(sum(column) for column in list(zip(*rows))[1:])])
-    for name, *numbers in [["block", "crates", *KINDS, "edits", "wide"], *rows]:
+    for name, *numbers in [["block", "crates", *KINDS, "edits", "wide", "silent"], *rows]:
         print(f"{name:<10}", *(f"{it:>8}" for it in numbers))
     pages = sorted((TOP / "docs").glob("*.md"))
     scripts = [file for folder in ("tools", "ceph", "examples", "include") for file in sorted((TOP / folder).rglob("*"))
@@ -56,7 +65,7 @@ def main():
     others = "; ".join(f"{it} {words([TOP / it]):,}" for it in OTHERS)
     print(f"\n{len(pages)} pages of {words(pages):,} words; {others}")
     print(f"{scripts:,} lines of scripts, C and C++ in tools, ceph, examples and include")
-    print(f"wide: lines of src and specs over {COLUMNS} columns")
+    print(f"wide: lines of src and specs over {COLUMNS} columns; silent: files that don't say what they are for")
 
 
 main()
