@@ -13,6 +13,7 @@ use Rattle.class_advice.specs.declared.advice.LongRange.{LongRange}
 use Rattle.class_advice.specs.declared.advice.Last.{Last}
 use Rattle.class_advice.specs.declared.advice.Last.TheVariants as last
 
+-- a register's name
 abbrev pub register_text : ℕ → List ℕ
 register_text r = codes "r" ++ decimal r
 
@@ -51,6 +52,7 @@ move_text r false Input = codes "  a lower place, or a greater IN\n"
 move_text r false Output = codes "  a lower place, or a greater OUT\n"
 move_text r false Stack = codes "  a lower place: the stack is [r10-512] to [r10-1]\n"
 
+-- how far an access may reach, how great a number may be, and what OUT allows:
 unfoldable pub bytes_text : ℕ → List ℕ
 bytes_text bytes = codes "  it may be " ++ decimal bytes ++ codes " bytes from "
 
@@ -68,6 +70,7 @@ span_text region at bytes = bytes_text bytes ++ place_text region at
 unfoldable pub room_text : Region → ℕ → ℕ → List ℕ
 room_text region bytes size = codes " on, of " ++ decimal size ++ codes ": " ++ most_text region bytes size
 
+-- the advice on an access that may leave its region
 abbrev pub outside_text : OutsideAccess → List ℕ
 outside_text a = span_text a.region a.at a.bytes ++ room_text a.region a.bytes a.size ++ move_text a.register a.is_moved a.region
 
@@ -76,6 +79,7 @@ abbrev pub length_text : LongRange → List ℕ
 length_text l =
     codes "  " ++ register_text l.register ++ codes " may be " ++ decimal l.high ++ codes ": at most " ++ decimal l.most ++ codes " bytes from " ++ place_text l.region l.at ++ codes ";" ++ test_text l.register l.most
 
+-- each advice as it is printed
 abbrev pub advice_text : Advice → List ℕ
 advice_text Forward = codes "  jumps go forward: write a loop out, with an exit where it may end early\n"
 advice_text CountSlots = codes "  a wide load takes two slots: jump to a label, which counts right\n"
@@ -105,6 +109,7 @@ advice_text CodeIsNumber = codes "  `mov r0, 0` before it, or another number; ou
 advice_text LoadWhole = codes "  load the pointer whole: `ldxdw` of its slot\n"
 advice_text PassNoPointer = codes "  end the range before the pointer's slot, or store a number there first\n"
 
+-- or nothing, if there is none
 abbrev pub advised_text : Option Advice → List ℕ
 advised_text None = []
 advised_text (Some advice) = advice_text advice

@@ -36,9 +36,11 @@ use Rattle.class_advice.specs.declared.advice.Last.TheVariants as last
 abbrev pub is_set_first : ℕ → Bool
 is_set_first r = (nat_le 1 r && nat_le r 3) || r == 10
 
+-- the last change of register r before the first instruction
 abbrev pub at_first : ℕ → Last
 at_first r = if is_set_first r then last.Set else last.Never
 
+-- the same after one instruction more
 abbrev pub changed : Last → Insn → ℕ → Last
 changed before i r = if sets i r then last.Set else (if unsets i r then last.Unset else before)
 
@@ -58,9 +60,11 @@ unset_advice is slot (Some r) = advice.Unset r (why_unset is slot r)
 
 -- ---- an access, a range
 
+-- a pointer whose offset isn't one number
 abbrev pub moves : Plain → Bool
 moves at = not (at.low == at.high)
 
+-- on an access of w bytes at a distance from register r
 abbrev pub access_advice : Caps → ℕ → PlainKind → ℕ → ℕ → Option Advice
 access_advice caps r Unset distance w = None
 access_advice caps r (Num n) distance w = Some (advice.NoPlace r)
@@ -73,6 +77,7 @@ range_outside r region at len size =
     if nat_le at.high size then advice.Length (record { register = r + 1; high = len.high; most = size - at.high; region = region; at = at.high })
     else advice.Place r region at.high (size - len.high)
 
+-- on a helper's range, by the kinds of its pointer and its length
 abbrev pub range_advice : Caps → ℕ → PlainKind → PlainKind → Option Advice
 range_advice caps r Unset y = None
 range_advice caps r (Num n) y = None
@@ -82,6 +87,7 @@ range_advice caps r (Ptr region at) (Num len) = if range_fits at len (size caps 
 
 -- ---- a helper's argument, in the registers from r on
 
+-- on an argument from register r on: its range, and a range that may not be written:
 abbrev pub bounds_advice : Caps → PlainFrame → Argument → ℕ → Option Advice
 bounds_advice caps f Number r = None
 bounds_advice caps f OutputLength r = None
@@ -94,6 +100,8 @@ read_only_advice f OutputLength r = None
 read_only_advice f Readable r = None
 read_only_advice f Writable r = if range_is_read_only (kind_at f r) (kind_at f (r + 1)) then Some (advice.ReadOnlyRange r) else None
 
+-- on an argument of the wrong kind: what isn't a number, the output's length, or a pointer and its
+-- length
 abbrev pub number_advice : ℕ → PlainKind → Option Advice
 number_advice r x = if is_num x then None else Some (advice.TakesNumber r)
 
@@ -111,12 +119,14 @@ wrong_kind_advice caps f OutputLength r = output_advice caps r (kind_at f r)
 wrong_kind_advice caps f Readable r = pointer_advice r (kind_at f r) (kind_at f (r + 1))
 wrong_kind_advice caps f Writable r = pointer_advice r (kind_at f r) (kind_at f (r + 1))
 
+-- on an argument, by the rule that refuses
 abbrev pub argument_advice : Rule → Caps → PlainFrame → Argument → ℕ → Option Advice
 argument_advice rule.Bounds caps f a r = bounds_advice caps f a r
 argument_advice rule.ReadOnlyRegion caps f a r = read_only_advice f a r
 argument_advice rule.HelperArgument caps f a r = wrong_kind_advice caps f a r
 argument_advice other caps f a r = None
 
+-- the first advice, or else the second
 abbrev pub or_else : Option Advice → Option Advice → Option Advice
 or_else None b = b
 or_else (Some a) b = Some a
@@ -126,12 +136,14 @@ abbrev pub arguments_advice : Rule → Caps → PlainFrame → List Argument →
 arguments_advice why caps f [] r = None
 arguments_advice why caps f (a ∷ more) r = or_else (argument_advice why caps f a r) (arguments_advice why caps f more (r + register_count a))
 
+-- on a call, by what its helper takes
 abbrev pub call_advice : Rule → Caps → PlainFrame → Option Takes → Option Advice
 call_advice why caps f None = None
 call_advice why caps f (Some takes) = arguments_advice why caps f takes.arguments 1
 
 -- ---- by the instruction
 
+-- the advice of an instruction by rule 10, and by rule 11
 abbrev pub bounds_of : Caps → PlainFrame → Insn → Option Advice
 bounds_of caps f (Load width dst base offset) = access_advice caps base (kind_at f base) (extended offset) (byte_count width)
 bounds_of caps f (LoadSigned width dst base offset) = access_advice caps base (kind_at f base) (extended offset) (signed_byte_count width)
@@ -149,14 +161,17 @@ abbrev pub helper_in : Insn → Option ℕ
 helper_in (Call helper) = Some helper
 helper_in i = None
 
+-- the advice of a call by rule 13
 abbrev pub wrong_kind_of : Caps → PlainFrame → Option ℕ → Option Advice
 wrong_kind_of caps f None = None
 wrong_kind_of caps f (Some helper) = call_advice rule.HelperArgument caps f (signature_of helper)
 
+-- the advice by rule 17, of a load and of a call
 abbrev pub part_of : Option ℕ → Advice
 part_of None = advice.LoadWhole
 part_of (Some helper) = advice.PassNoPointer
 
+-- the advice by rule 9
 abbrev pub stored_by : RuleSet → Advice
 stored_by One = advice.TakeRules
 stored_by Two = advice.AtMultiple
@@ -186,6 +201,7 @@ shape_advice rule.FallsOff = Some advice.EndByExit
 shape_advice rule.LocalCall = Some advice.Inline
 shape_advice other = None
 
+-- THE ADVICE on instruction i, which a rule refuses: by the frame before it, if there is one
 abbrev pub advice_for : RuleSet → Rule → List Insn → ℕ → Caps → Option PlainFrame → Insn → Option Advice
 advice_for rules why is slot caps None i = shape_advice why
 advice_for rules why is slot caps (Some f) i = or_else (shape_advice why) (known_advice rules why is slot caps f i)

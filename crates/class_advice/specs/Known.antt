@@ -19,6 +19,7 @@ abbrev pub says_signed : Plain → Bool
 says_signed n =
     nat_le 9223372036854775808 n.high && (int_lt (negsuc 9223372036854775807) n.least || int_lt n.greatest (pos 9223372036854775807))
 
+-- the signed range, if it says more
 abbrev pub signed_text : Plain → List ℕ
 signed_text n = if says_signed n then codes ", signed " ++ signed_decimal n.least ++ codes ".." ++ signed_decimal n.greatest else []
 
@@ -34,6 +35,7 @@ ones_text value = codes ", bits " ++ decimal value
 unfoldable pub others_text : ℕ → List ℕ
 others_text unknown = codes " and any of " ++ decimal unknown
 
+-- the known bits, if they say more
 abbrev pub bits_if : Bool → ℕ → ℕ → List ℕ
 bits_if false value unknown = []
 bits_if true value unknown = ones_text value ++ others_text unknown
@@ -53,6 +55,7 @@ says_half One n = false
 says_half Two n = false
 says_half Three n = excludes_halves n
 
+-- the half, if it says more
 unfoldable pub low_half_text : ℤ → ℤ → List ℕ
 low_half_text least greatest = codes ", low half " ++ signed_decimal least ++ codes ".." ++ signed_decimal greatest
 
@@ -63,9 +66,11 @@ half_if true least greatest = low_half_text least greatest
 abbrev pub half_text : RuleSet → Plain → List ℕ
 half_text rules n = half_if (says_half rules n) n.half_least n.half_greatest
 
+-- all that is known of a number
 abbrev pub number_text : RuleSet → Plain → List ℕ
 number_text rules n = range_text n ++ signed_text n ++ bits_text n ++ half_text rules n
 
+-- the region's name
 abbrev pub region_text : Region → List ℕ
 region_text Input = codes "input"
 region_text Output = codes "output"

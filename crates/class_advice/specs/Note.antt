@@ -26,6 +26,7 @@ use Rattle.class_advice.specs.Touched.{touched_text}
 
 -- ---- copies: registers that have one number whole, at one distance
 
+-- two links by which both numbers are the same
 abbrev pub same_whole : Link → Link → Bool
 same_whole l m = is_whole l.form && is_whole m.form && l.name == m.name && l.distance == m.distance
 
@@ -38,6 +39,7 @@ abbrev pub copied_register : PlainFrame → ℕ → ℕ → ℕ → Option ℕ
 copied_register f r s zero = None
 copied_register f r s (suc n) = if is_copy f r s then Some s else copied_register f r (s + 1) n
 
+-- the register that one is a copy of, if there is one
 abbrev pub copy_text : Option ℕ → List ℕ
 copy_text None = []
 copy_text (Some s) = codes ", a copy of r" ++ decimal s
@@ -48,6 +50,7 @@ copy_text (Some s) = codes ", a copy of r" ++ decimal s
 abbrev pub register_line : RuleSet → ℕ → PlainKind → Option ℕ → List ℕ
 register_line rules r kind copied = codes "  r" ++ decimal r ++ codes " = " ++ kind_text rules kind ++ copy_text copied ++ codes "\n"
 
+-- the line of a register that the instruction reads
 abbrev pub line_if_read : RuleSet → Insn → PlainFrame → ℕ → List ℕ
 line_if_read rules i f r = if is_read i r then register_line rules r (kind_at f r) (copied_register f r 0 11) else []
 
@@ -103,6 +106,7 @@ slot_text rules m slot rule i known =
     head_text m ++ canonical_text (i ∷ []) ++ known_text rules rule i known ++ wanted_text rules rule
     ++ touched_text rules rule i known ++ advised_text (advice_for rules rule m.instructions slot (caps_of m) known i)
 
+-- the note by a slot, by a verdict and by a method; nothing if there is none:
 abbrev pub at_slot : RuleSet → ClassMethod → ℕ → Rule → Option Insn → Option PlainFrame → List ℕ
 at_slot rules m slot rule None known = []
 at_slot rules m slot rule (Some i) known = slot_text rules m slot rule i known
@@ -115,6 +119,7 @@ abbrev pub of_method : RuleSet → Option ClassMethod → List ℕ
 of_method rules None = []
 of_method rules (Some m) = of_verdict rules m (method_verdict rules m)
 
+-- nothing if memory was refused
 abbrev pub unless_memory : Rule → List ℕ → List ℕ
 unless_memory NoMemory text = []
 unless_memory rule text = text

@@ -41,6 +41,7 @@ source_text text method slot = line_text text (line_of_slot text method slot)
 
 -- ---- a text that is refused
 
+-- memory was refused
 abbrev pub is_memory : AsmFault → Bool
 is_memory Word = false
 is_memory Operand = false

@@ -34,10 +34,12 @@ argument_touches f OutputLength k j = false
 argument_touches f Readable k j = touches (stack_range (kind_at f k) (kind_at f (k + 1))) j
 argument_touches f Writable k j = touches (stack_range (kind_at f k) (kind_at f (k + 1))) j
 
+-- a range of one of the arguments may touch slot j
 abbrev pub arguments_touch : PlainFrame → List Argument → ℕ → ℕ → Bool
 arguments_touch f [] k j = false
 arguments_touch f (a ∷ more) k j = argument_touches f a k j || arguments_touch f more (k + register_count a) j
 
+-- by what a helper takes, by a load or a store, and by what is called:
 abbrev pub call_touches : PlainFrame → Option Takes → ℕ → Bool
 call_touches f None j = false
 call_touches f (Some takes) j = arguments_touch f takes.arguments 1 j
@@ -52,6 +54,7 @@ helper_touches f callee.Nothing j = false
 helper_touches f (callee.Helper helper) j = call_touches f (signature_of helper) j
 helper_touches f callee.Local j = false
 
+-- the instruction may touch slot j
 abbrev pub insn_touches : PlainFrame → Insn → ℕ → Bool
 insn_touches f i j = memory_touches f (touches_of i) j || helper_touches f (callee_of i) j
 
@@ -60,6 +63,7 @@ abbrev pub slot_line : RuleSet → ℕ → Option PlainKind → List ℕ
 slot_line rules j None = []
 slot_line rules j (Some x) = codes "  [r10-" ++ decimal (512 - 8 * j) ++ codes "] = " ++ kind_text rules x ++ codes "\n"
 
+-- the line of slot j, if the instruction may touch it
 unfoldable pub line_if_touched : RuleSet → Insn → PlainFrame → ℕ → List ℕ
 line_if_touched rules i f j = if insn_touches f i j then slot_line rules j (kept_kind f (Ptr Stack (constant (8 * j))) 0 8) else []
 
@@ -75,6 +79,7 @@ is_of_slots PointerStored = true
 is_of_slots PointerBytes = true
 is_of_slots rule = false
 
+-- the lines of all slots, if the rule is about slots
 abbrev pub touched_text : RuleSet → Rule → Insn → Option PlainFrame → List ℕ
 touched_text rules rule i None = []
 touched_text rules rule i (Some f) = if is_of_slots rule then slots_text rules i f 0 64 else []

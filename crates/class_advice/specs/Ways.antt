@@ -31,6 +31,7 @@ jumps_from (goes.To distance) at = target at distance ∷ []
 jumps_from (goes.Either distance) at = target at distance ∷ []
 jumps_from goes.Out at = []
 
+-- the same of an instruction, and of one that a way goes through:
 abbrev pub jumps_of : Insn → ℕ → List ℕ
 jumps_of i at = jumps_from (goes_of i) at
 

@@ -16,6 +16,7 @@ pub record IsSpelledIn (disk : Option Disk) (name : List ℕ) (object : PlainObj
   pub held : Holds disk name text
   pub spelled : spelled_object text ≡ Ok object
 
+-- the object is that of the file, or that of words if no file is named
 abbrev pub BeginsBy : Option (Bor (List ℕ)) → Option Disk → MethodCall → PlainObject → Type 0
 BeginsBy None disk call object = object_before call ≡ Ok object
 BeginsBy (Some file) disk call object = IsSpelledIn disk file.now object
@@ -35,5 +36,6 @@ abbrev pub NoneBegins : Option (Bor (List ℕ)) → Option Disk → MethodCall �
 NoneBegins None disk call failure = object_before call ≡ Err failure
 NoneBegins (Some file) disk call failure = TextFails disk file.now failure ⊎ IsMisspelledIn disk file.now failure
 
+-- the same of a call
 abbrev pub BeginFails : Option Disk → MethodCall → Failure → Type 0
 BeginFails disk call failure = (failure ≡ NoMemory) ⊎ NoneBegins call.load disk call failure

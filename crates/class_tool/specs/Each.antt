@@ -18,6 +18,7 @@ abbrev pub note_if : Bool → Source → Refusal → List ℕ
 note_if false source refusal = []
 note_if true source refusal = source_note source refusal
 
+-- a refusal's line and its note
 abbrev pub refused_lines : Bool → Source → Refusal → List ℕ
 refused_lines is_explained source refusal = refusal_text refusal ++ codes "\n" ++ note_if is_explained source refusal
 

@@ -97,6 +97,7 @@ call_wanted (failure.Call calls.InputTooLong) = codes "  wanted: at most IN byte
 call_wanted (failure.Call calls.NoMemory) = []
 call_wanted why = []
 
+-- the note of a refused call; of a file that can't be read nothing is claimed
 abbrev pub IsCallNote : Failure → List ℕ → Type 0
 IsCallNote failure.CannotRead note = ⊤
 IsCallNote why note = note ≡ call_wanted why

@@ -9,6 +9,7 @@ use Rattle.verifier.specs.RuleNumber.{refusal_text}
 use Rattle.class_tool.specs.declared.failure.Failure.{Failure}
 use Rattle.class_tool.specs.declared.failure.Failure.TheVariants.{CannotRead, CannotWrite, NoMemory, TextTooLong, Text, Image, Verdict, InputNotHex, ObjectNotHex, ObjectLine, Object, Call}
 
+-- each failure as it is printed, without the end of its line
 abbrev pub failure_text : Failure → List ℕ
 failure_text CannotRead = codes "cannot read"
 failure_text CannotWrite = codes "cannot write"

@@ -12,6 +12,7 @@ pub record Storage : Type 0 where
   pub failed : Bool
   pub in_place : List ℕ → Bool
 
+-- by its three parts
 abbrev pub storage : {F : Type 0} → (F → Option Disk) → (F → Bool) → (F → List ℕ → Bool) → F → Storage
 storage disk failed in_place files = record { disk = disk files; failed = failed files; in_place = in_place files }
 

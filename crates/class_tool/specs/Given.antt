@@ -23,6 +23,7 @@ abbrev pub of_digits : Result (List ℕ) FromHexError → Result (List ℕ) Fail
 of_digits (Ok bytes) = Ok bytes
 of_digits (Err e) = Err ObjectNotHex
 
+-- the bytes that a text of digits spells
 abbrev pub bytes_in : List ℕ → Result (List ℕ) Failure
 bytes_in text = of_digits (decode_of text)
 
@@ -35,6 +36,7 @@ abbrev pub of_change : Result Content StoreError → Result Content Failure
 of_change (Ok content) = Ok content
 of_change (Err e) = Err (Object e)
 
+-- the rest, unless this was refused
 abbrev pub and_then : {X Y : Type 0} → Result X Failure → (X → Result Y Failure) → Result Y Failure
 and_then (Ok x) next = next x
 and_then (Err e) next = Err e
@@ -44,6 +46,7 @@ abbrev pub set_in : Part → Content → List ℕ → List ℕ → Result Conten
 set_in Xattrs content name value = calls.set_xattr (Some content) name value
 set_in Keys content name value = calls.set_key (Some content) name value
 
+-- an object after one is set, by words and by an entry of the command line:
 abbrev pub with_words : Part → Content → List ℕ → List ℕ → Result Content Failure
 with_words part content name value = and_then (name_in name) (λ name. and_then (bytes_in value) (λ value. of_change (set_in part content name value)))
 
@@ -64,6 +67,7 @@ abbrev pub content_in : List ℕ → List NamedValue → List NamedValue → Res
 content_in text xattrs keys =
     and_then (with_data text) (λ content. and_then (with_entries Xattrs content xattrs) (λ more. with_entries Keys more keys))
 
+-- an object that is there, or why there is none
 abbrev pub there : Result Content Failure → Result PlainObject Failure
 there (Ok content) = Ok (Some content)
 there (Err e) = Err e
@@ -76,5 +80,6 @@ object_in None [] [] = Ok None
 object_in None [] (key ∷ keys) = there (content_in [] [] (key ∷ keys))
 object_in None (xattr ∷ xattrs) keys = there (content_in [] (xattr ∷ xattrs) keys)
 
+-- by the words of a call
 abbrev pub object_before : MethodCall → Result PlainObject Failure
 object_before call = object_in call.data call.xattrs.items call.keys.items

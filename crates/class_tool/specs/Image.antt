@@ -44,6 +44,7 @@ pub record IsFaultOf (text : List ℕ) (error : AsmError) : Type 0 where
   pub first : read_class_text text ≡ Err error
   pub none : (class : Class) → IsClassText text class → ⊥
 
+-- the class that was read
 abbrev pub class_of : Source → Class
 class_of (sources.Image class) = class
 class_of (sources.Text class text) = class

@@ -3,6 +3,7 @@ use Rattle.std.specs.Prelude.{ℕ, List, Option, Bool, take}
 use Rattle.std.specs.Io.KnownBytes.{Appends}
 use Rattle.class_tool.specs.declared.output.Printer.{Printer}
 
+-- what a printer writes to
 abbrev pub writer_of : {W : Type 0} → Printer W → W
 writer_of p = p.writer
 

@@ -25,6 +25,7 @@ of_data words = Err ObjectNotHex
 abbrev pub part_named : List ℕ → Option Part
 part_named word = if bytes_eq word (codes "xattr") then Some Xattrs else if bytes_eq word (codes "key") then Some Keys else None
 
+-- what a further line's words make of an object: by the value, by the name, by the first word:
 abbrev pub of_value : Part → Content → List ℕ → List (List ℕ) → Result Content Failure
 of_value part content name [] = Err ObjectNotHex
 of_value part content name (value ∷ more) = if length more == 0 then with_words part content name (digits_of value) else Err ObjectNotHex
@@ -41,6 +42,7 @@ abbrev pub of_entry : Content → List (List ℕ) → Result Content Failure
 of_entry content [] = Err ObjectNotHex
 of_entry content (word ∷ words) = of_part (part_named word) content words
 
+-- of the first line, and of a further one
 abbrev pub of_words : PlainObject → List (List ℕ) → Result Content Failure
 of_words None words = of_data words
 of_words (Some content) words = of_entry content words
@@ -50,6 +52,7 @@ abbrev pub at_line : ℕ → Result Content Failure → Result Content Failure
 at_line number (Ok content) = Ok content
 at_line number (Err e) = Err (ObjectLine number)
 
+-- of all lines, the first of which has that number
 abbrev pub of_lines : ℕ → PlainObject → List (List ℕ) → Result PlainObject Failure
 of_lines number object [] = Ok object
 of_lines number object (line ∷ lines) = and_then (at_line number (of_words object (words line))) (λ content. of_lines (number + 1) (Some content) lines)
@@ -82,6 +85,7 @@ IsUnwritten before after name object failure =
     ⊎ ((failure ≡ CannotWrite) × (after ≡ before) × (spelled_object (shown_text true object) ≡ Ok object → ⊥))
     ⊎ ((failure ≡ CannotWrite) × FailsToWrite before after name)
 
+-- nothing is to be saved if no file is named
 abbrev pub SaveFails : Storage → Storage → Option (Bor (List ℕ)) → PlainObject → Failure → Type 0
 SaveFails before after None object failure = ⊥
 SaveFails before after (Some file) object failure = IsUnwritten before after file.now object failure

@@ -18,9 +18,11 @@ is_printable b = nat_le 33 b && (nat_le b 126 && not (b == 61))
 abbrev pub is_text : List ℕ → Bool
 is_text name = not (slice_index name 0 == 48 && slice_index name 1 == 120) && not (list_any (λ b. not (is_printable b)) name)
 
+-- a name as it is printed
 abbrev pub name_text : List ℕ → List ℕ
 name_text name = if is_text name then name else codes "0x" ++ encode_lower name
 
+-- the line of the data
 abbrev pub data_line : List ℕ → List ℕ
 data_line bytes = codes "data " ++ or_dash (encode_lower bytes) ++ codes "\n"
 

@@ -30,12 +30,14 @@ last_in nodes replicas groups words =
     (λ tries. ended record { nodes = nodes; replicas = replicas; groups = groups; shards = shards.0; workers = workers.0; tries = tries.0 } tries.1)
     (field_in (codes "tries") workers.1)) (field_in (codes "workers") shards.1)) (field_in (codes "shards") words)
 
+-- the six numbers, by their keys in this order
 abbrev pub numbers_in_line : List (List ℕ) → Option ClusterNumbers
 numbers_in_line words =
     option_and_then (λ nodes. option_and_then (λ replicas. option_and_then
     (λ groups. last_in nodes.0 replicas.0 groups.0 groups.1)
     (field_in (codes "groups") replicas.1)) (field_in (codes "replicas") nodes.1)) (field_in (codes "nodes") words)
 
+-- what the first line's words say
 abbrev pub first_line : List (List ℕ) → Option ClusterNumbers
 first_line [] = None
 first_line (word ∷ words) = if bytes_eq word (codes "cluster") then numbers_in_line words else None
@@ -52,6 +54,7 @@ call_of names client (object ∷ class ∷ method ∷ input ∷ []) =
     (object_in object)
 call_of names client _ = None
 
+-- the words after `client`
 abbrev pub call_in : List (List ℕ) → ℕ → List (List ℕ) → Option PlannedCall
 call_in names clients [] = None
 call_in names clients (client ∷ args) = option_and_then (λ c. call_of names c args) (client_in clients client)
@@ -64,6 +67,7 @@ step_in names number clients (word ∷ args) =
     if bytes_eq word (codes "client") then option_map Call (call_in names clients args) else
     if bytes_eq word (codes "map") then option_map (Map number) (numbers_in args) else None
 
+-- by the line
 abbrev pub step_of : List (List ℕ) → ℕ → ℕ → List ℕ → Option PlannedStep
 step_of names number clients line = step_in names number clients (words line)
 
@@ -78,10 +82,12 @@ abbrev pub before_steps : PlannedStep → Result (List PlannedStep) ℕ → Resu
 before_steps step (Ok steps) = Ok (step ∷ steps)
 before_steps step (Err line) = Err line
 
+-- a step and those of the lines below it, or the number of its line if that is malformed
 abbrev pub go_on : ℕ → (PlannedStep → Result (List PlannedStep) ℕ) → Option PlannedStep → Result (List PlannedStep) ℕ
 go_on number rest None = Err number
 go_on number rest (Some step) = before_steps step (rest step)
 
+-- the steps of lines, after `number` lines that name that number of clients
 abbrev pub steps_of : List (List ℕ) → ℕ → ℕ → List (List ℕ) → Result (List PlannedStep) ℕ
 steps_of names number clients [] = Ok []
 steps_of names number clients (line ∷ lines) =
@@ -92,11 +98,13 @@ pub record FilePlan : Type 0 where
   pub numbers : ClusterNumbers
   pub steps : List PlannedStep
 
+-- by what the first line and the further ones say
 abbrev pub plan_after : Option ClusterNumbers → Result (List PlannedStep) ℕ → Result FilePlan ℕ
 plan_after None steps = Err 1
 plan_after (Some numbers) (Ok steps) = Ok record { numbers = numbers; steps = steps }
 plan_after (Some numbers) (Err line) = Err line
 
+-- of lines, and of a text:
 abbrev pub plan_in : List (List ℕ) → List (List ℕ) → Result FilePlan ℕ
 plan_in names [] = Err 1
 plan_in names (line ∷ lines) = plan_after (first_line (words line)) (steps_of names 1 0 lines)

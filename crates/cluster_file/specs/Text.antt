@@ -32,6 +32,7 @@ asked_text groups call =
     codes " group " ++ (decimal (group_of call.object groups) ++ (codes " request " ++ (escaped call.object ++ (codes " " ++ (escaped call.word
     ++ (codes " " ++ (escaped call.method ++ (codes " " ++ digits_or_dash (encode_lower call.input)))))))))
 
+-- nothing if it isn't shown
 abbrev pub asked_if : Option ℕ → PlannedCall → List ℕ
 asked_if None call = []
 asked_if (Some groups) call = asked_text groups call

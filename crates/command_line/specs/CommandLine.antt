@@ -36,6 +36,7 @@ caller_rule = option_rule (codes "caller") (codes "1")
 abbrev pub explain_rule : Rule
 explain_rule = flag_rule (codes "explain")
 
+-- `verify`, which tells whether a class is safe
 abbrev pub verify_line : App
 verify_line = with_rule (with_rule (with_rule (new_app (codes "verify")) (required_rule (codes "IN"))) (flag_rule (codes "all"))) explain_rule
 
@@ -54,6 +55,7 @@ abbrev pub run_line : App
 run_line =
     with_rule (with_rule (with_rule (with_rule object_line (value_rule (codes "load"))) (value_rule (codes "save"))) (flag_rule (codes "show"))) explain_rule
 
+-- `asm`, which makes an image of a text
 abbrev pub asm_line : App
 asm_line = with_rule (with_rule (with_rule (new_app (codes "asm")) (required_rule (codes "IN"))) (required_rule (codes "OUT"))) explain_rule
 
@@ -65,10 +67,12 @@ methods_rule = record (required_rule (codes "METHOD")) { range = Some (record { 
 abbrev pub rules_rule : Rule
 rules_rule = option_rule (codes "rules") (codes "1")
 
+-- `pack`, which makes an image of raw code
 abbrev pub pack_line : App
 pack_line =
     with_rule (with_rule (with_rule (with_rule (new_app (codes "pack")) (required_rule (codes "OUT"))) methods_rule) rules_rule) explain_rule
 
+-- `dis`, which makes a text of an image
 abbrev pub dis_line : App
 dis_line = with_rule (with_rule (with_rule (new_app (codes "dis")) (required_rule (codes "IN"))) (flag_rule (codes "slots"))) explain_rule
 
@@ -80,6 +84,7 @@ class_rule = each_rule (codes "class")
 abbrev pub trace_rule : Rule
 trace_rule = flag_rule (codes "trace")
 
+-- `sim`, which plays a file of events
 abbrev pub sim_line : App
 sim_line = with_rule (with_rule (with_rule (new_app (codes "sim")) (required_rule (codes "FILE"))) class_rule) trace_rule
 
@@ -87,6 +92,7 @@ sim_line = with_rule (with_rule (with_rule (new_app (codes "sim")) (required_rul
 abbrev pub stats_rule : Rule
 stats_rule = flag_rule (codes "stats")
 
+-- `cluster`, which plays a file of calls and maps
 abbrev pub cluster_line : App
 cluster_line =
     with_rule (with_rule (with_rule (with_rule (new_app (codes "cluster")) (required_rule (codes "FILE"))) class_rule) (flag_rule (codes "show"))) stats_rule

@@ -8,6 +8,7 @@ use Rattle.command_line.specs.CommandLine.{command_line}
 use Rattle.command_line.specs.declared.parsed.ParsedWords.{ParsedWords}
 use Rattle.command_line.specs.declared.unparsed.Unparsed.{Unparsed}
 
+-- a word, or a value, as bytes
 abbrev pub Text : Type 0
 Text = List ℕ
 
@@ -24,6 +25,7 @@ one_in p id = first_of id p.rows
 abbrev pub texts_of : Option (List Text) → List Text
 texts_of texts = unwrap_or texts []
 
+-- all texts of an argument, by its id
 abbrev pub all_in : Parsed → Text → List Text
 all_in p id = texts_of (all_of id p.rows)
 
@@ -32,6 +34,7 @@ abbrev pub is_set : Option Text → Bool
 is_set None = false
 is_set (Some text) = bytes_eq text (codes "true")
 
+-- a flag is there, by its id
 abbrev pub is_set_in : Parsed → Text → Bool
 is_set_in p id = is_set (one_in p id)
 
@@ -44,6 +47,7 @@ pub record IsParse (words : List Text) (p : Parsed) : Type 0 where
 abbrev pub IsNoParse : List Text → Type 0
 IsNoParse words = (p : Parsed) → IsParse words p → ⊥
 
+-- how contracts see what was parsed
 abbrev pub parsed_of : ParsedWords → Parsed
 parsed_of p = record { name = p.name.now; rows = rows_of (found_of p.values) }
 

@@ -11,6 +11,7 @@ is_printable b = nat_le 0x20 b && nat_le b 0x7e
 abbrev pub escape : ℕ → List ℕ
 escape b = codes "\\x" ++ digit_char (b / 16) ∷ digit_char (b % 16) ∷ []
 
+-- a byte as it is shown
 abbrev pub escaped_byte : ℕ → List ℕ
 escaped_byte b = if is_printable b then b ∷ [] else escape b
 

@@ -16,6 +16,7 @@ lines_of text = slice_split (λ b. b == 10) text
 abbrev pub ends_empty : List (List ℕ) → Bool
 ends_empty lines = nat_lt 1 (length lines) && (length (slice_index_or lines (length lines - 1) []) == 0)
 
+-- the lines without an empty one at the end
 abbrev pub without_empty_end : List (List ℕ) → List (List ℕ)
 without_empty_end lines = if ends_empty lines then take (length lines - 1) lines else lines
 
@@ -26,6 +27,7 @@ ended_lines_of text = without_empty_end (lines_of text)
 abbrev pub words_in : List ℕ → List (List ℕ)
 words_in piece = filter (λ w. not (length w == 0)) (slice_split (λ b. b == 9) piece)
 
+-- by spaces first, and then by tabs
 abbrev pub words : List ℕ → List (List ℕ)
 words line = flat_map words_in (slice_split (λ b. b == 32) line)
 
@@ -39,10 +41,12 @@ abbrev pub onto : ℕ → Option (List ℕ) → Option (List ℕ)
 onto n None = None
 onto n (Some ns) = Some (n ∷ ns)
 
+-- one number more in front
 abbrev pub before : Option ℕ → Option (List ℕ) → Option (List ℕ)
 before None ns = None
 before (Some n) ns = onto n ns
 
+-- the numbers of words
 abbrev pub numbers_in : List (List ℕ) → Option (List ℕ)
 numbers_in [] = Some []
 numbers_in (word ∷ words) = before (number_in word) (numbers_in words)

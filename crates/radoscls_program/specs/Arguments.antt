@@ -40,6 +40,7 @@ pub record TakesPlain (p : Parsed) (call : Plain) : Type 0 where
   pub input : one_in p (codes "input") ≡ Some call.input.now
   pub caller : option_and_then id_in (one_in p (codes "caller")) ≡ Some call.caller
 
+-- that part of a call
 abbrev pub plain_of : MethodCall → Plain
 plain_of call = record { image = call.image; method = call.method; input = call.input; caller = call.caller }
 
@@ -116,6 +117,7 @@ subcommand_for (Assemble text image) = codes "asm"
 subcommand_for (Pack asked) = codes "pack"
 subcommand_for (Disassemble image has_slots) = codes "dis"
 
+-- the subcommand that each task is asked for by
 abbrev pub name_for : Task → Text
 name_for (task.Class action is_explained) = subcommand_for action
 name_for (task.Each image is_explained) = codes "verify"

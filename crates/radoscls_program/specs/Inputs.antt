@@ -6,6 +6,7 @@ use Rattle.command_line.specs.Parsed.{Parsed, Text, all_in, one_in}
 use Rattle.radoscls_program.specs.Raw.{code_in}
 use Rattle.radoscls_program.specs.Tenants.{image_in}
 
+-- a name is `-`
 abbrev pub is_input : Text → Bool
 is_input name = bytes_eq name (codes "-")
 
@@ -22,6 +23,7 @@ code_files p = if bytes_eq p.name (codes "pack") then map code_in (all_in p (cod
 abbrev pub is_at : ℕ → Bool
 is_at b = b == 64
 
+-- what stands after the first `@`
 abbrev pub after_at : Text → Text
 after_at text = after_first is_at text
 
@@ -34,6 +36,7 @@ abbrev pub call_values : Parsed → List Text
 call_values p =
     named (one_in p (codes "input")) ++ named (one_in p (codes "object")) ++ map image_in (all_in p (codes "xattr")) ++ map image_in (all_in p (codes "key"))
 
+-- the same as a list
 abbrev pub value_file : Text → List Text
 value_file text = named (file_of text)
 

@@ -38,6 +38,7 @@ pub record IsUnjudged (disk : Option Disk) (old new : Stream) (image : List ℕ)
   pub noted : IfAsked is_explained (IsFileNote disk image failure) note
   pub printed : IsPrinted old new (failure_line failure ++ note)
 
+-- by the status
 abbrev pub EachEnds : Option Disk → Stream → Stream → List ℕ → Bool → ExitStatus → Type 0
 EachEnds disk old new image is_explained Done = IsJudged disk old new image is_explained true
 EachEnds disk old new image is_explained Refused =

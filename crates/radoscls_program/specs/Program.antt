@@ -32,6 +32,7 @@ pub record IsCallNamed (disk : Option Disk) (words : List Text) (action : Action
   pub values : IsFilled disk call filled
   pub same : action ≡ Run filled
 
+-- the words ask for that action
 abbrev pub IsNamed : Option Disk → List Text → Action → Bool → Type 0
 IsNamed disk words action is_explained = AreFor words (task.Class action is_explained) ⊎ IsCallNamed disk words action is_explained
 
@@ -174,6 +175,7 @@ abbrev pub Found : Storage → Storage → Action → Bool → Result ActionResu
 Found before after action is_explained (Ok answer) note = Settles before after action answer
 Found before after action is_explained (Err failure) note = Fails before after action failure × IsNoteAsked is_explained before.disk action failure note
 
+-- an action has a result or fails, and that is printed
 pub record Acts (before after : Storage) (old new : Stream) (action : Action) (is_explained : Bool) (status : ExitStatus) : Type 0 where
   pub found : Result ActionResult Failure
   pub note : List ℕ
@@ -191,6 +193,7 @@ abbrev pub CallEnds : Storage → Storage → Stream → Stream → MethodCall �
 CallEnds before after old new call is_explained status =
     ActsOn before after old new call is_explained status ⊎ ((status ≡ Refused) × IsUnfilled before after old new call is_explained)
 
+-- by the kind of the task
 abbrev pub TaskEnds : Storage → Storage → Stream → Stream → Task → ExitStatus → Type 0
 TaskEnds before after old new (task.Class action is_explained) status = Acts before after old new action is_explained status
 TaskEnds before after old new (task.Each image is_explained) status = (after ≡ before) × EachEnds before.disk old new image.now is_explained status

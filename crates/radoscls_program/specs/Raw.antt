@@ -14,6 +14,7 @@ is_colon b = b == 58
 abbrev pub has_field : Text → Bool
 has_field text = list_any is_colon text
 
+-- a text's first field, and the text after it:
 abbrev pub field_in : Text → Text
 field_in text = before_first is_colon text
 

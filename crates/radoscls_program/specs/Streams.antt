@@ -10,6 +10,7 @@ pub record Stream : Type 0 where
   pub printed : Option (List ℕ)
   pub failed : Bool
 
+-- by what is known of an output
 abbrev pub stream : {O : Type 0} → (O → Option (List ℕ)) → (O → Bool) → O → Stream
 stream printed failed out = record { printed = printed out; failed = failed out }
 

@@ -43,6 +43,7 @@ are_tenants texts = nat_le (length texts) TENANT_LIMIT && are_behind (names_of [
 abbrev pub parts_of : TenantClass → Text × Text
 parts_of o = (o.name.now, o.image.now)
 
+-- the same of a text
 abbrev pub parts_in : Text → Text × Text
 parts_in text = (name_in text, image_in text)
 

@@ -19,6 +19,7 @@ pub record IsFileValue (disk : Option Disk) (file digits : Text) : Type 0 where
   pub begun : IsBeginning disk file 65537 bytes
   pub spelled : digits ≡ encode_lower bytes
 
+-- of a text: `-` has no digits, `@` names a file, any other is the digits
 abbrev pub IsValueBy : Bool → Option Text → Option Disk → Text → Text → Type 0
 IsValueBy true file disk text digits = digits ≡ []
 IsValueBy false (Some file) disk text digits = IsFileValue disk file digits
@@ -28,15 +29,17 @@ IsValueBy false None disk text digits = digits ≡ text
 abbrev pub IsValue : Option Disk → Text → Text → Type 0
 IsValue disk text digits = IsValueBy (is_input text) (file_of text) disk text digits
 
--- why there are none: memory was refused, or its file can't be read
+-- the file of a value can't be read
 pub record IsUnreadIn (disk : Option Disk) (text : Text) : Type 0 where
   pub file : Text
   pub named : file_of text ≡ Some file
   pub unread : IsUnreadable disk file
 
+-- why there are none: memory was refused, or its file can't be read
 abbrev pub ValueFails : Option Disk → Text → Failure → Type 0
 ValueFails disk text failure = (failure ≡ NoMemory) ⊎ ((failure ≡ CannotRead) × IsUnreadIn disk text)
 
+-- a name and its value, as the words have them and with the digits read:
 abbrev pub entry_texts : NamedValue → Text × Text
 entry_texts e = (e.name.now, e.value.now)
 
@@ -58,6 +61,7 @@ pub record HasUnread (disk : Option Disk) (es : List (Text × Text)) : Type 0 wh
   pub split : es ≡ first ++ next ∷ rest
   pub unread : IsUnreadIn disk next.1
 
+-- of several values
 abbrev pub EntriesFail : Option Disk → List (Text × Text) → Failure → Type 0
 EntriesFail disk es failure = (failure ≡ NoMemory) ⊎ ((failure ≡ CannotRead) × HasUnread disk es)
 
@@ -68,10 +72,12 @@ IsMaybeValue disk None (Some digits) = ⊥
 IsMaybeValue disk (Some text) None = ⊥
 IsMaybeValue disk (Some text) (Some digits) = IsValue disk text digits
 
+-- of a value that may be missing
 abbrev pub MaybeFails : Option Disk → Option Text → Failure → Type 0
 MaybeFails disk None failure = failure ≡ NoMemory
 MaybeFails disk (Some text) failure = ValueFails disk text failure
 
+-- the text of an argument that may be missing
 abbrev pub text_in : Option (Bor (List ℕ)) → Option Text
 text_in text = option_map (λ t. t.now) text
 

@@ -29,6 +29,7 @@ use Rattle.sim_world.specs.inner.Parts.{Parts}
 abbrev pub column_of_node : ℕ → Column
 column_of_node n = Node (min n 255)
 
+-- of a node, the monitor or a client
 abbrev pub column_of : Party → Column
 column_of (ANode n) = column_of_node n
 column_of TheMonitor = Monitor
@@ -40,6 +41,7 @@ pub record Drawn : Type 0 where
   pub to : Column
   pub text : List ℕ
 
+-- of the code's message, and of one as it is shown:
 abbrev pub drawn_as : DrawnMessage → Drawn
 drawn_as m = record { from = m.from; to = m.to; text = string_bytes m.text }
 
@@ -65,6 +67,7 @@ abbrev pub delivery_of : ℕ → Taken → What
 delivery_of number taken.Stopped = Bounced number
 delivery_of number _ = Arrived number
 
+-- the event that happened, and none if the line asks for none:
 abbrev pub done_of : What → Taken → What
 done_of (At column) t = At column
 done_of (Asked client node) t = Asked client node
@@ -92,9 +95,11 @@ abbrev pub again_after : List ℕ → List ℕ → List ℕ
 again_after before [] = []
 again_after before (number ∷ numbers) = before ++ codes "again m" ++ decimal number ++ again_after (codes ", ") numbers
 
+-- that text after a colon
 abbrev pub after_colon : List ℕ → List ℕ
 after_colon text = codes ": " ++ text
 
+-- what a line's text ends with
 abbrev pub said_after : Taken → List ℕ
 said_after taken.Bad = []
 said_after taken.Skipped = []
@@ -106,6 +111,7 @@ said_after (taken.Made m) = after_colon (said_text (taken.Made m))
 said_after (taken.Shown s) = after_colon (said_text (taken.Shown s))
 said_after (taken.Again numbers) = again_after (codes ": ") numbers
 
+-- the whole text of a line's event
 abbrev pub said : List ℕ → What → Taken → List ℕ
 said line what t = escaped (line_of_step what line) ++ said_after t
 
@@ -120,13 +126,16 @@ pub record Noted : Type 0 where
   pub text : List ℕ
   pub sent : ℕ
 
+-- of the code's step
 abbrev pub noted_as : DrawnStep → Noted
 noted_as s = record { what = s.what; text = string_bytes s.text; sent = s.sent }
 
+-- the step of a line, none if it has no event
 abbrev pub noted_if : List ℕ → Taken → Option What → List Noted
 noted_if line t None = []
 noted_if line t (Some what) = record { what = what; text = said line what t; sent = sent_by t } ∷ []
 
+-- by the line
 abbrev pub noted : List (List ℕ) → List ℕ → Taken → List Noted
 noted names line t = noted_if line t (done_if (meant_by (line_of names line)) t)
 
@@ -137,6 +146,7 @@ pub record Course : Type 0 where
   pub played : Played
   pub bad : Option ℕ
 
+-- a run with these steps in front
 abbrev pub ahead : List Noted → Course → Course
 ahead steps course = record { steps = steps ++ course.steps; played = course.played; bad = course.bad }
 
@@ -150,6 +160,7 @@ abbrev pub course_from : List (List ℕ) → ℕ → Played → List (List ℕ) 
 course_from names number p [] = record { steps = []; played = p; bad = None }
 course_from names number p (line ∷ lines) = follow names line (suc number) (λ q. course_from names (suc number) q lines) (step p (line_of names line))
 
+-- from the beginning on
 abbrev pub course : Classes → List (List ℕ) → List (List ℕ) → Course
 course classes names lines = course_from names 0 (beginning classes) lines
 
@@ -191,6 +202,7 @@ pub record IsNoted (classes : Classes) (names : List (List ℕ)) (line : List �
   pub steps : after ≡ (if is_bad h.taken then before else before ++ noted names line h.taken)
   pub is : bad ≡ is_bad h.taken
 
+-- so from each played world that the parts hold
 abbrev pub Notes : Classes → List (List ℕ) → List ℕ → Parts → Parts → List Noted → List Noted → Bool → Type 0
 Notes classes names line old new before after bad = (p : Played) → Holds classes old p → IsNoted classes names line (step p (line_of names line)) new before after bad
 
@@ -200,5 +212,6 @@ pub record IsCourse (classes : Classes) (new : Parts) (before after : List Noted
   pub held : Holds classes new played
   pub same : record { steps = after; played = played; bad = bad } ≡ ahead before run
 
+-- so from each played world that the parts hold
 abbrev pub Courses : Classes → List (List ℕ) → List (List ℕ) → Parts → Parts → List Noted → List Noted → Option ℕ → Type 0
 Courses classes names lines old new before after bad = (p : Played) → Holds classes old p → IsCourse classes new before after bad (course_from names 0 p lines)

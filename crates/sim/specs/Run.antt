@@ -37,6 +37,7 @@ pub record Printed : Type 0 where
   pub bad : Bool
   pub played : Played
 
+-- a line's text before that of the rest
 abbrev pub before_rest : List ℕ → Printed → Printed
 before_rest text rest = record { text = text ++ rest.text; bad = rest.bad; played = rest.played }
 
@@ -63,6 +64,7 @@ abbrev pub asked_in : Line → List ClientRequest
 asked_in (Ask n r) = r ∷ []
 asked_in _ = []
 
+-- of all lines
 abbrev pub asked : List (List ℕ) → List (List ℕ) → List ClientRequest
 asked names [] = []
 asked names (line ∷ lines) = asked_in (line_of names line) ++ asked names lines
@@ -113,8 +115,10 @@ pub record IsLine (classes : Classes) (h : Happened) (number : ℕ) (new : Parts
   pub says : text ≡ line_text number h.played.world.sent h.taken
   pub is : bad ≡ is_bad h.taken
 
+-- so from each played world that the parts hold
 abbrev pub Takes : Classes → List (List ℕ) → List ℕ → ℕ → Parts → Parts → List ℕ → Bool → Type 0
 Takes classes names line number old new text bad = (p : Played) → Holds classes old p → IsLine classes (step p (line_of names line)) number new text bad
 
+-- the text is that of the line, by the messages of the played world
 abbrev pub SaysOf : Classes → Parts → ℕ → Taken → List ℕ → Type 0
 SaysOf classes parts number taken text = (p : Played) → Holds classes parts p → text ≡ line_text number p.world.sent taken

@@ -25,5 +25,6 @@ carried_text (Rep interval place request) = kind_text (sent.Rep interval place r
 carried_text (Ack interval count) = kind_text (sent.Ack interval count)
 carried_text (Reply client number place answer) = kind_text (sent.Reply client number place answer)
 
+-- the line of a message
 abbrev pub kept_line : ℕ → Party → CarriedMessage → List ℕ
 kept_line number receiver m = text_between number m.sender receiver (carried_text m.kind)

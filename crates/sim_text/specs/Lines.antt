@@ -8,6 +8,7 @@ pub use Rattle.file_words.specs.Words.{lines_of}
 use Rattle.sim_text.specs.declared.line.Line.{Line}
 use Rattle.sim_text.specs.declared.line.Line.TheVariants.{Empty, Map, See, Ask, Deliver, Show, Stop, Go, Resend, Bad}
 
+-- what isn't right is a bad line
 abbrev pub or_bad : Option Line → Line
 or_bad o = unwrap_or o Bad
 
@@ -30,10 +31,12 @@ abbrev pub request_by : List (List ℕ) → List ℕ → List ℕ → List ℕ �
 request_by names client number object class method input =
     option_and_then (λ ids. option_and_then (λ name. option_map (λ bytes. record { client = ids.0; number = ids.1; object = name; class = class_of 0 names class; method = method; input = bytes }) (bytes_in input)) (object_in object)) (ids_in client number)
 
+-- a request of exactly six words
 abbrev pub request_of : List (List ℕ) → List (List ℕ) → Option ClientRequest
 request_of names (client ∷ number ∷ object ∷ class ∷ method ∷ input ∷ []) = request_by names client number object class method input
 request_of names _ = None
 
+-- a request at a node, if both are right
 abbrev pub ask_at : Option ℕ → Option ClientRequest → Line
 ask_at None r = Bad
 ask_at (Some n) None = Bad

@@ -63,6 +63,7 @@ abbrev pub text_between : ℕ → Party → Party → List ℕ → List ℕ
 text_between number sender receiver says = codes "m" ++ (decimal number ++ (codes " " ++ (party_text sender ++ (codes "->" ++ (party_text receiver
     ++ (codes " " ++ (says ++ codes "\n")))))))
 
+-- of one that was sent
 abbrev pub message_line : ℕ → Packet → List ℕ
 message_line number p = text_between number p.message.sender p.receiver (kind_text p.message.kind)
 
@@ -81,12 +82,14 @@ abbrev pub again_lines : List ℕ → List ℕ
 again_lines [] = []
 again_lines (number ∷ numbers) = codes "again m" ++ decimal number ++ codes "\n" ++ again_lines numbers
 
+-- the same, or that there are none
 abbrev pub again_text : List ℕ → List ℕ
 again_text [] = codes "nothing\n"
 again_text (number ∷ numbers) = again_lines (number ∷ numbers)
 
 -- WHAT COMES OF A LINE
 
+-- the line was bad
 abbrev pub is_bad : Taken → Bool
 is_bad Bad = true
 is_bad Skipped = false
@@ -98,6 +101,7 @@ is_bad (Made m) = false
 is_bad (Shown s) = false
 is_bad (Again numbers) = false
 
+-- a refusal, by its text
 abbrev pub refused_text : List ℕ → List ℕ
 refused_text why = codes "refused " ++ why
 
@@ -107,6 +111,7 @@ abbrev pub map_text : MapMade → List ℕ
 map_text m = if m.epoch == m.interval then codes "map " ++ (decimal m.epoch ++ (codes " prev " ++ decimal m.prev))
     else codes "map " ++ (decimal m.epoch ++ (codes " same " ++ decimal m.interval))
 
+-- the words of a node's states
 abbrev pub status_text : Status → List ℕ
 status_text Out = codes "out"
 status_text Waiting = codes "waiting"
@@ -152,5 +157,6 @@ taken_text sent (Again numbers) = again_text numbers
 abbrev pub made_of : GroupMap → MapMade
 made_of m = record { epoch = m.epoch; interval = m.interval; prev = m.prev }
 
+-- what is shown of node n
 abbrev pub shown_of : ℕ → NodeState → NodeShown
 shown_of n s = record { node = n; interval = s.interval; status = s.status; length = length s.log; committed = s.committed }

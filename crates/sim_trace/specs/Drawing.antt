@@ -16,6 +16,7 @@ use Rattle.sim_trace.specs.declared.drawn_step.DrawnStep.{DrawnStep}
 abbrev pub label : ℕ → List ℕ
 label number = codes "m" ++ decimal number
 
+-- the message of a number
 abbrev pub message_at : List DrawnMessage → ℕ → Option DrawnMessage
 message_at messages number = if number == 0 then None else slice_get messages (number - 1)
 
@@ -63,6 +64,7 @@ abbrev pub sends : ℕ → ℕ → List ℕ
 sends first zero = []
 sends first (suc k) = codes " =>" ++ numbers_from first (suc k)
 
+-- the line of a step
 abbrev pub step_row : List Column → List DrawnMessage → List Bool → ℕ → ℕ → DrawnStep → List ℕ
 step_row columns messages stopped first count s = picture columns messages stopped s.what ++ string_bytes s.text ++ sends first count ++ codes "\n"
 
@@ -85,11 +87,13 @@ fate (Client c) = codes "\n"
 fate (Node n) = codes ", lost\n"
 fate Monitor = codes ", lost\n"
 
+-- the column is a client's
 abbrev pub is_client : Column → Bool
 is_client (Client c) = true
 is_client (Node n) = false
 is_client Monitor = false
 
+-- the line of a message that no step delivers, if there is such a message
 abbrev pub lost_row : List Column → List Bool → ℕ → Option DrawnMessage → List ℕ
 lost_row columns stopped number None = []
 lost_row columns stopped number (Some l) = message_row columns stopped number (is_client l.to) l ++ string_bytes l.text ++ fate l.to
@@ -104,10 +108,11 @@ lost_rows columns messages stopped arrived first (suc k) =
     lost_rows columns messages stopped arrived first k
     ++ lost_unless (slice_index_or arrived (first + k) false) (lost_row columns stopped (first + k + 1) (slice_get messages (first + k)))
 
--- the lines of the steps; the first step sent the messages from the given one on
+-- how many messages a step sent, of those that there are from the given one on
 abbrev pub sent_by : List DrawnMessage → ℕ → DrawnStep → ℕ
 sent_by messages first s = min s.sent (length messages - first)
 
+-- the lines of the steps; the first step sent the messages from the given one on
 abbrev pub rows : List Column → List DrawnMessage → List Bool → List Bool → ℕ → List DrawnStep → List ℕ
 rows columns messages arrived stopped first [] = []
 rows columns messages arrived stopped first (s ∷ ss) =
@@ -119,6 +124,7 @@ rows columns messages arrived stopped first (s ∷ ss) =
 abbrev pub heading : List ℕ → List ℕ
 heading text = text ++ repeated (12 - length text) (codes " ")
 
+-- the names of the columns
 abbrev pub names : List Column → List ℕ
 names [] = codes "event\n"
 names (column ∷ columns) = heading (name column) ++ names columns

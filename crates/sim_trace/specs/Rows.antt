@@ -11,6 +11,7 @@ repeated (suc n) text = repeated n text ++ text
 abbrev pub bar : Bool → List ℕ
 bar is_stopped = if is_stopped then codes ":" else codes "|"
 
+-- the bar of the column at a place
 abbrev pub bar_at : List Bool → ℕ → List ℕ
 bar_at stopped place = bar (slice_index_or stopped place false)
 

@@ -24,6 +24,7 @@ HasCommitted nodes (ANode n) reported = reported ≤ (nodes n).committed
 HasCommitted nodes TheMonitor reported = Unit {0}
 HasCommitted nodes (AClient client) reported = Unit {0}
 
+-- the message is kept as one that was sent
 pub record IsKept (nodes : ℕ → NodeState) (k : KeptMessage) (p : Packet) : Type 0 where
   pub committed : ℕ
   pub reported : ℕ
@@ -59,6 +60,7 @@ pub record IsStep (classes : Classes) (new : Parts) (p : Played) (line : Line) (
   pub came : taken ≡ (step p line).taken
   pub goes_on : GoesOn p line
 
+-- so from each played world that the parts hold
 abbrev pub Steps : Classes → Parts → Parts → Line → Taken → Type 0
 Steps classes old new line taken = (p : Played) → Holds classes old p → IsStep classes new p line taken
 
@@ -70,6 +72,7 @@ Says classes parts taken text = (p : Played) → Holds classes parts p → text 
 abbrev pub node_at : Played → ℕ → Option NumberedNode
 node_at p n = if is_node p n then Some (record { number = n; state = p.world.nodes n }) else None
 
+-- the code's node of a number
 abbrev pub IsNodeAt : Classes → Parts → ℕ → Option NumberedNode → Type 0
 IsNodeAt classes parts n node = (p : Played) → Holds classes parts p → node ≡ node_at p n
 
@@ -80,11 +83,13 @@ pub record MessageShown : Type 0 where
   pub receiver : Party
   pub text : List ℕ
 
+-- of a message that was sent, and of one as it is kept:
 abbrev pub message_shown : Packet → MessageShown
 message_shown p = record { sender = p.message.sender; receiver = p.receiver; text = kind_text p.message.kind }
 
 abbrev pub kept_shown : KeptMessage → MessageShown
 kept_shown k = record { sender = k.message.sender; receiver = k.receiver; text = carried_text k.message.kind }
 
+-- all messages are shown as they were sent
 abbrev pub AreShown : Classes → Parts → List KeptMessage → Type 0
 AreShown classes parts sent = (p : Played) → Holds classes parts p → map kept_shown sent ≡ map message_shown p.world.sent

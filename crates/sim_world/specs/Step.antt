@@ -54,9 +54,11 @@ happened p event taken = record { played = record { world = happens p.world even
 abbrev pub is_node : Played → ℕ → Bool
 is_node p n = nat_lt n (length p.stopped)
 
+-- node n is stopped
 abbrev pub is_stopped : Played → ℕ → Bool
 is_stopped p n = slice_index_or p.stopped n false
 
+-- this, if there is such a node and it isn't stopped
 abbrev pub unless_stopped : Played → ℕ → Happened → Happened
 unless_stopped p n h = if is_node p n then (if is_stopped p n then stays p Stopped else h) else stays p Bad
 
@@ -65,10 +67,12 @@ unless_stopped p n h = if is_node p n then (if is_stopped p n then stays p Stopp
 abbrev pub outcome_at : World → ℕ → Event → Outcome
 outcome_at w n coming = local_step w.classes n (w.nodes n) coming
 
+-- the event happens, unless the node refuses
 abbrev pub unless_refused : Played → WorldEvent → Outcome → Option HandleError → Happened
 unless_refused p event o None = happened p event (Sent (length o.sent))
 unless_refused p event o (Some why) = stays p (Refused why)
 
+-- what comes to node n
 abbrev pub at_node : Played → WorldEvent → ℕ → Event → Happened
 at_node p event n coming = let o = outcome_at p.world n coming in unless_stopped p n (unless_refused p event o o.refusal)
 
@@ -77,10 +81,12 @@ abbrev pub makes : Played → List ℕ → Option MonitorError → Happened
 makes p acting None = happened p (MapMade acting) (Made (made_of (next_map p.world.monitor acting)))
 makes p acting (Some why) = stays p (MonitorRefused why)
 
+-- the monitor activates an interval, unless it refuses
 abbrev pub activates : Played → WorldEvent → Option MonitorError → Happened
 activates p event None = happened p event (Sent 1)
 activates p event (Some why) = stays p (MonitorRefused why)
 
+-- a message at the monitor, which takes AskActivate alone
 abbrev pub at_monitor : Played → WorldEvent → MessageKind → Happened
 at_monitor p event (AskActivate interval) = activates p event (activation_refusal p.world.monitor interval)
 at_monitor p event _ = stays p (Sent 0)
@@ -107,9 +113,11 @@ abbrev pub set_stopped : Played → ℕ → Bool → Happened
 set_stopped p n b = if is_node p n
     then record { played = record { world = p.world; stopped = slice_set p.stopped n b; events = p.events }; taken = Sent 0 } else stays p Bad
 
+-- a node is shown
 abbrev pub show : Played → ℕ → Happened
 show p n = if is_node p n then stays p (Shown (shown_of n (p.world.nodes n))) else stays p Bad
 
+-- what a node would send again
 abbrev pub resend : Played → ℕ → Happened
 resend p n = unless_stopped p n (stays p (Again (map (number_of p.world.sent) (unanswered n (p.world.nodes n)))))
 
