@@ -121,7 +121,7 @@ is_instruction (Instruction d) = true
 abbrev pub has_instruction : List Statement → Bool
 has_instruction lines = nat_lt 0 (count_by is_instruction lines)
 
--- the fault on the first line of a text without instructions, where one method's text is read:
+-- the fault on the first line of a text without instructions, if one method's text is read:
 -- `.rules` and `.method` are 1 Word
 abbrev pub bare_fault : List Statement → AsmFault
 bare_fault [] = faults.Range

@@ -44,7 +44,7 @@ DraftFault all slot (drafts.JumpLong target) f = TargetFault (FitsSigned w32) al
 DraftFault all slot (drafts.Branch bits comparison dst source target) f = TargetFault (FitsSigned w16) all slot target f
 DraftFault all slot (drafts.CallLocal target) f = TargetFault (FitsSigned w32) all slot target f
 
--- a line at a slot, among all lines of its method and after those above it: its own fault where it
+-- a line at a slot, among all lines of its method and after those above it: its own fault if it
 -- isn't of the form, a label that stands above, a `.rules` or `.method` inside, an instruction that
 -- passes the limit of slots, or one that goes nowhere
 abbrev pub LineFault : List Statement → List Statement → ℕ → Statement → AsmFault → Type 0
@@ -69,7 +69,7 @@ LinesHaveFault all above line slot [] n f = ⊥
 LinesHaveFault all above line slot (s ∷ ss) n f =
     ((n ≡ line) × LineFault all above slot s f) ⊎ LinesHaveFault all (above ++ (s ∷ [])) (line + 1) (slot_behind slot s) ss n f
 
--- where no line has an instruction, the first one is out of range
+-- if no line has an instruction, the first one is out of range
 abbrev pub IsBare : List Statement → ℕ → AsmFault → Type 0
 IsBare lines n f = (n ≡ 1) × (has_instruction lines ≡ false) × (f ≡ faults.Range)
 
@@ -113,7 +113,7 @@ next_place p (Instruction d) below = record p { above = p.above ++ (Instruction 
 abbrev pub IsTooWide : RuleSet → MethodHeader → Type 0
 IsTooWide rules h = (capacity_limit rules < h.in_cap) ⊎ (capacity_limit rules < h.out_cap)
 
--- a `.method` line: its own fault where it isn't of the form; a method too many, one without
+-- a `.method` line: its own fault if it isn't of the form; a method too many, one without
 -- instruction, or one whose capacities the rule set doesn't allow; a name that isn't above the last
 abbrev pub OpeningFault : Place → Result MethodHeader AsmFault → List Statement → AsmFault → Type 0
 OpeningFault p (Err g) below f = f ≡ g

@@ -96,7 +96,7 @@ BeginsWithMethod (Rules rules ∷ ss) = ⊥
 BeginsWithMethod (Directive header ∷ ss) = Unit {0}
 BeginsWithMethod (Instruction d ∷ ss) = ⊥
 
--- above the first `.method` stands `.rules` with the rule set, or nothing where the set is 1
+-- above the first `.method` stands `.rules` with the rule set, or nothing if the set is 1
 abbrev pub BeginsWith : RuleSet → List Statement → Type 0
 BeginsWith rules [] = rules ≡ One
 BeginsWith rules (Empty ∷ ss) = BeginsWith rules ss

@@ -14,7 +14,7 @@ abbrev pub ◌>>=◌ : {A B E : Type 0} → Result A E → (A → Result B E) �
 (Ok x) >>= f = f x
 (Err e) >>= f = Err e
 
--- x where the test holds, else that refusal
+-- x if the test holds, else that refusal
 abbrev pub checked : {A E : Type 0} → Bool → E → A → Result A E
 checked test e x = if test then Ok x else Err e
 

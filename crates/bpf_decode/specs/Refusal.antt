@@ -53,7 +53,7 @@ slot_of NoMemory = None
 abbrev pub text_of : DecodeError → List ℕ
 text_of e = decimal (number_of e) ++ codes " " ++ name_of e
 
--- the slot in an image's refusal, where there is one
+-- the slot in an image's refusal, if there is one
 abbrev pub slot_text : Option ℕ → List ℕ
 slot_text None = []
 slot_text (Some slot) = codes ", slot " ++ decimal slot
