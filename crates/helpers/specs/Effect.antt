@@ -42,12 +42,12 @@ refuses errno = record { number = 2 ^ 64 - errno; bytes = [] }
 abbrev pub copies : List ℕ → Answer
 copies bytes = record { number = length bytes; bytes = bytes }
 
--- an answer where the object is there
+-- an answer if the object is there
 abbrev pub where_present : PlainObject → (Content → Answer) → Answer
 where_present None answer = refuses ENOENT
 where_present (Some o) answer = answer o
 
--- What a helper does: its answer, what it copies, the object after, and the output length where it
+-- What a helper does: its answer, what it copies, the object after, and the output length if it
 -- sets that.
 pub record Effect : Type 0 where
   pub answer : ℕ
@@ -67,7 +67,7 @@ refused errno object = leaves object (refuses errno)
 abbrev pub changes : PlainObject → ℕ → Effect
 changes object n = record { answer = n; bytes = []; object = object; out_len = None }
 
--- an effect where the object is there
+-- an effect if the object is there
 abbrev pub on_present : PlainObject → (Content → Effect) → Effect
 on_present None effect = refused ENOENT None
 on_present (Some o) effect = effect o

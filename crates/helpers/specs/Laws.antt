@@ -11,7 +11,7 @@ pub record IsWithinLimits (room : ℕ) (e : Effect) : Type 0 where
   pub bytes : AreBytes e.bytes
   pub short : length e.bytes ≤ room
 
--- Of an object within the limits every helper leaves one within them, where each text that it is
+-- Of an object within the limits every helper leaves one within them, if each text that it is
 -- given is bytes.
 abbrev pub EffectsAreWithinLimits : Type 0
 EffectsAreWithinLimits =

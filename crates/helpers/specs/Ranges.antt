@@ -16,7 +16,7 @@ use Rattle.helpers.specs.Table.{helper_of, effect}
 abbrev pub down_to : ℕ → AnswerLimit → Option AnswerRange
 down_to errno most = Some (record { errno = errno; most = most })
 
--- the table: none where any number may be answered
+-- the table: none if any number may be answered
 abbrev pub range_row : Helper → Option AnswerRange
 range_row Stat = None
 range_row Read = down_to ENOENT Room
@@ -41,7 +41,7 @@ range_row XattrNext = down_to ENODATA (RoomOrNumber NAME_LIMIT)
 abbrev pub answer_range_of : ℕ → Option AnswerRange
 answer_range_of id = option_and_then range_row (helper_of id)
 
--- the number of a limit, 0 where it has none
+-- the number of a limit, 0 if it has none
 abbrev pub number_in : AnswerLimit → ℕ
 number_in (Number n) = n
 number_in Room = 0
@@ -60,7 +60,7 @@ pub record IsInRange (g : Given) (r : AnswerRange) (answer : ℕ) : Type 0 where
   pub fits : answer < 2 ^ 64
   pub side : (answer ≤ limit_of g r.most) ⊎ (2 ^ 64 - r.errno ≤ answer)
 
--- Of an object within the limits each helper's answer lies in its range, where the length of its
+-- Of an object within the limits each helper's answer lies in its range, if the length of its
 -- writable range is a number of 64 bits.
 abbrev pub AnswersAreInRange : Type 0
 AnswersAreInRange =

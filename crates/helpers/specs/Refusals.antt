@@ -22,7 +22,7 @@ abbrev pub IsAnswer : Result (Unit {0}) StoreError → Type 0
 IsAnswer (Ok _) = Unit {0}
 IsAnswer (Err e) = e ≡ NoMemory → ⊥
 
--- the number that is answered where a change answered this
+-- the number that is answered if a change answered this
 abbrev pub number_of : Result (Unit {0}) StoreError → ℕ → ℕ
 number_of (Ok _) n = n
 number_of (Err e) n = 2 ^ 64 - errno_of e
@@ -32,7 +32,7 @@ abbrev pub answered : PlainObject → Result Content StoreError → ℕ → Effe
 answered object (Ok c) n = changes (Some c) n
 answered object (Err e) n = refused (errno_of e) object
 
--- what is answered where a value was looked up
+-- what is answered if a value was looked up
 abbrev pub looked_up : ℕ → Result (List ℕ) StoreError → Answer
 looked_up room (Ok bytes) = copy_answer bytes room
 looked_up room (Err e) = refuses (errno_of e)

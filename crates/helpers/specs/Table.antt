@@ -1,4 +1,4 @@
--- The helpers, one row each: what it takes and what it does. Where a row names several conditions
+-- The helpers, one row each: what it takes and what it does. If a row names several conditions
 -- they are tried in the order in which they stand. Numbers are whole numbers: nothing wraps.
 use Rattle.std.specs.Prelude.{ℕ, ◌+◌, ◌-◌, ◌^◌, ◌==◌, List, [], ◌∷◌, Option, Some, None, true, false, if◌then◌else◌, not, nat_lt, length}
 use Rattle.std.specs.Option.{option_map}
@@ -27,14 +27,14 @@ stat_answer object = where_present object (λ o. gives (length o.bytes))
 abbrev pub read_answer : PlainObject → ℕ → ℕ → Answer
 read_answer object at room = where_present object (λ o. copies (part o.bytes at room))
 
--- write: refused where it would pass the limit; creates an absent object, zeros fill a gap, and no
+-- write: refused if it would pass the limit; creates an absent object, zeros fill a gap, and no
 -- bytes leave the data as it is; answers how many bytes it wrote
 abbrev pub write_effect : PlainObject → ℕ → List ℕ → Effect
 write_effect object at bytes =
     if nat_lt DATA_LIMIT (at + length bytes) then refused EFBIG object else
     changes (Some (record (content_of object) { bytes = spliced (content_of object).bytes at bytes })) (length bytes)
 
--- truncate: refused past the limit, then where the object is absent; cuts the data or extends it
+-- truncate: refused past the limit, then if the object is absent; cuts the data or extends it
 -- with zeros
 abbrev pub truncate_effect : PlainObject → ℕ → Effect
 truncate_effect object size =
@@ -45,22 +45,22 @@ truncate_effect object size =
 abbrev pub remove_effect : PlainObject → Effect
 remove_effect object = on_present object (λ o. changes None 0)
 
--- copy: refused where there is too little room; copies the bytes and answers their count
+-- copy: refused if there is too little room; copies the bytes and answers their count
 abbrev pub copy_answer : List ℕ → ℕ → Answer
 copy_answer bytes room = if nat_lt room (length bytes) then refuses ERANGE else copies bytes
 
--- a value or a key that is looked up: refused where there is none; copies it
+-- a value or a key that is looked up: refused if there is none; copies it
 abbrev pub found_answer : Option (List ℕ) → ℕ → Answer
 found_answer None room = refuses ENODATA
 found_answer (Some bytes) room = copy_answer bytes room
 
--- getxattr: refused where the name is none, then where the object is absent
+-- getxattr: refused if the name is none, then if the object is absent
 abbrev pub getxattr_answer : PlainObject → List ℕ → ℕ → Answer
 getxattr_answer object name room =
     if not (is_named name) then refuses EINVAL else
     where_present object (λ o. found_answer (fin.get o.xattrs name) room)
 
--- setxattr: refused where the name is none, then where the value is too long, then where the name
+-- setxattr: refused if the name is none, then if the value is too long, then if the name
 -- is new and past the limit; creates an absent object
 abbrev pub setxattr_effect : PlainObject → List ℕ → List ℕ → Effect
 setxattr_effect object name value =
@@ -69,7 +69,7 @@ setxattr_effect object name value =
     if is_full XATTR_LIMIT (content_of object).xattrs name then refused ENOSPC object else
     changes (Some (record (content_of object) { xattrs = fin.insert (content_of object).xattrs name value })) 0
 
--- rmxattr: refused where the name is none, then where the object is absent, then where it has no
+-- rmxattr: refused if the name is none, then if the object is absent, then if it has no
 -- such xattr
 abbrev pub rmxattr_effect : PlainObject → List ℕ → Effect
 rmxattr_effect object name =
@@ -98,8 +98,8 @@ map_rm_effect object key =
     on_present object (λ o. if not (fin.contains_key o.omap key) then refused ENODATA (Some o) else
     changes (Some (record o { omap = fin.remove o.omap key })) 0)
 
--- the least name above the given bytes, which are no name where they are none; refused where these
--- are too many, then where the object is absent
+-- the least name above the given bytes, which are no name if they are none; refused if these
+-- are too many, then if the object is absent
 abbrev pub next_answer : (Content → Attributes) → PlainObject → List ℕ → ℕ → Answer
 next_answer names object name room =
     if nat_lt NAME_LIMIT (length name) then refuses EINVAL else
@@ -113,7 +113,7 @@ map_next_answer object key room = next_answer (λ o. o.omap) object key room
 abbrev pub out_len_effect : PlainObject → ℕ → Effect
 out_len_effect object n = record { answer = 0; bytes = []; object = object; out_len = Some n }
 
--- create: creates an absent object; where it is there, refused if it is to be new
+-- create: creates an absent object; refused if it is there and is to be new
 abbrev pub create_effect : PlainObject → ℕ → Effect
 create_effect None exclusive = changes (Some nothing) 0
 create_effect (Some o) exclusive = if exclusive == 0 then changes (Some o) 0 else refused EEXIST (Some o)
@@ -187,7 +187,7 @@ helper_of id =
     if id == 17 then Some Copy else
     if id == 18 then Some XattrNext else None
 
--- what the helper of an id takes; none where no helper has that id
+-- what the helper of an id takes; none if no helper has that id
 abbrev pub signature_of : ℕ → Option Takes
 signature_of id = option_map (λ h. (row h).takes) (helper_of id)
 

@@ -21,6 +21,7 @@ if_there None answer = Err Absent
 if_there (Some c) answer = answer c
 
 -- ---- reads
+-- the length of the data
 abbrev pub stat : PlainObject → Result ℕ StoreError
 stat object = if_there object (λ c. Ok (length c.bytes))
 
@@ -51,6 +52,7 @@ abbrev pub next_key : PlainObject → List ℕ → Result (List ℕ) StoreError
 next_key object key = next_in (λ c. c.omap) object key
 
 -- ---- changes: what the object holds afterwards
+-- with text written into the data at a place; an absent object is created
 abbrev pub write : PlainObject → ℕ → List ℕ → Result Content StoreError
 write object at text =
     if nat_lt DATA_LIMIT (at + length text) then Err TooBig else
@@ -61,7 +63,7 @@ abbrev pub truncate : PlainObject → ℕ → Result Content StoreError
 truncate object len =
     if nat_lt DATA_LIMIT len then Err TooBig else if_there object (λ c. Ok (record c { bytes = resized c.bytes len }))
 
--- names with one set, where they are at most that many
+-- names with one set, if they are at most that many
 abbrev pub set_in : ℕ → Attributes → List ℕ → List ℕ → Result Attributes StoreError
 set_in most m name value =
     if is_some (fin.get m name) then Ok (fin.insert m name value) else

@@ -10,7 +10,7 @@ abbrev pub flat : List (List ℕ) → List ℕ
 flat [] = []
 flat (x ∷ xs) = x ++ flat xs
 
--- the extents of a shared list, where there is one
+-- the extents of a shared list, if there is one
 abbrev pub shared : {Y Z : Type 0} → Option (Arc (Vec (List ℕ) Y) Z) → List (List ℕ)
 shared None = []
 shared (Some parts) = (arc_value parts).items
@@ -20,7 +20,7 @@ abbrev pub AreFull : List (List ℕ) → Type 0
 AreFull [] = Unit {0}
 AreFull (x ∷ xs) = (length x ≡ EXTENT_LIMIT) × AreFull xs
 
--- an extent has 1 to 4,096 bytes, and 4,096 where another follows: as few extents as the bytes need
+-- an extent has 1 to 4,096 bytes, and 4,096 if another follows: as few extents as the bytes need
 abbrev pub ArePacked : List (List ℕ) → Type 0
 ArePacked [] = Unit {0}
 ArePacked (x ∷ xs) = (1 ≤ length x) × (length x ≤ EXTENT_LIMIT) × (1 ≤ length xs → length x ≡ EXTENT_LIMIT) × ArePacked xs

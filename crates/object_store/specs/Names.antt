@@ -14,7 +14,7 @@ abbrev pub stored : PlainObjects → List ℕ → PlainObject → PlainObjects
 stored objects name None = fin.remove objects name
 stored objects name (Some c) = fin.insert objects name c
 
--- the objects after a change of the one of a name, where it isn't refused
+-- the objects after a change of the one of a name, if it isn't refused
 abbrev pub after : PlainObjects → List ℕ → Result Content StoreError → Result PlainObjects StoreError
 after objects name (Ok c) = Ok (fin.insert objects name c)
 after objects name (Err e) = Err e

@@ -23,12 +23,13 @@ PlainObject = Option Content
 abbrev pub nothing : Content
 nothing = record { bytes = []; xattrs = fin.empty; omap = fin.empty }
 
--- what an object holds, nothing where it is absent
+-- what an object holds, nothing if it is absent
 abbrev pub content_of : PlainObject → Content
 content_of None = nothing
 content_of (Some c) = c
 
 -- ---- the limits
+-- each number is a byte
 abbrev pub AreBytes : List ℕ → Type 0
 AreBytes [] = Unit {0}
 AreBytes (b ∷ bs) = (b < 256) × AreBytes bs

@@ -31,7 +31,7 @@ pub(crate) fn with_text(
     with_text_within(alloc, &longer, at, text)
 }
 
-/// The same where the text leaves no gap after the bytes.
+/// The same if the text leaves no gap after the bytes.
 fn with_text_within(
     alloc: Global,
     parts: &[Extent],

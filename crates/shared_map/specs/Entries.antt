@@ -22,7 +22,7 @@ Entries V = List (Pair V)
 abbrev pub sorted : {V : Type 0} → Entries V → Bool
 sorted es = is_sorted (slice_cmp nat_cmp) es
 
--- the first key above some bytes, which is the least where the keys rise
+-- the first key above some bytes, which is the least if the keys rise
 abbrev pub least_above : {V : Type 0} → List ℕ → Entries V → Option (List ℕ)
 least_above k [] = None
 least_above k (e ∷ es) = cond (is_lt (slice_cmp nat_cmp k e.0)) (Some e.0) (least_above k es)
