@@ -8,7 +8,7 @@ use Rattle.object_store.specs.Object.{AreBytes}
 use Rattle.bpf_machine.specs.State.{le_value, le_bytes}
 use Rattle.bpf_machine.specs.Typed.{Cell, Byte, PartOf, as_cells, parts_of, place_of, plain_bytes, number_or, over}
 
--- what the cells of a slot are: a number, or a place; neither, where a place was overwritten in
+-- what the cells of a slot are: a number, or a place; neither, if a place was overwritten in
 -- part
 abbrev pub slot_of : List Cell → Option Value
 slot_of cs = number_or (plain_bytes cs) (place_of cs)
