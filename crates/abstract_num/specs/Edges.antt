@@ -18,7 +18,7 @@ use Rattle.abstract_num.specs.declared.fact.Fact.TheVariants.{Same, Above, AtLea
 use Rattle.abstract_num.specs.declared.fact.Edge.{Edge}
 use Rattle.abstract_num.specs.declared.fact.Edge.TheVariants.{Ahead, Turned, Apart, Disjoint}
 
--- How the first and the second number stand to one another where a comparison holds, and where it
+-- How the first and the second number stand to one another if a comparison holds, and if it
 -- doesn't.
 abbrev pub edge_of : Comparison → Bool → Edge
 edge_of is.Equal true = Ahead Same
@@ -78,7 +78,7 @@ turned s = (s.1, s.0)
 abbrev pub first_of : Pair → Plain
 first_of s = s.0
 
--- x, other than y where that is constant
+-- x, other than y if that is constant
 abbrev pub other_than : Plain → Plain → Option Plain
 other_than x y = (if is_constant y then option_map first_of (by_fact (Not y.low) x y) else Some x)
 

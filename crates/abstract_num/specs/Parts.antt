@@ -36,7 +36,7 @@ joined_urange x y = record { low = min x.low y.low; high = max x.high y.high; or
 abbrev pub joined_srange : SRange → SRange → SRange
 joined_srange x y = record { low = int_min x.low y.low; high = int_max x.high y.high; ordered = signed_hull_ordered x y }
 
--- a bit is known where both know it and agree
+-- a bit is known if both know it and agree
 abbrev pub joined_bits : Bits → Bits → Bits
 joined_bits x y =
     let m = joined_unknown x y in

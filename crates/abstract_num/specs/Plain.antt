@@ -63,7 +63,7 @@ constant n =
       half_greatest = signed_half n;
     }
 
--- hulls of the ranges and the halves; a bit is known where both know it and agree
+-- hulls of the ranges and the halves; a bit is known if both know it and agree
 abbrev pub join : Plain → Plain → Plain
 join x y =
     let m = bit_or (bit_or x.unknown y.unknown) (bit_xor x.value y.value) in

@@ -9,7 +9,7 @@ use Rattle.abstract_num.specs.declared.fact.Fact.TheVariants.{Same, Above, AtLea
 abbrev pub TwoSigned : Type 0
 TwoSigned = (ℤ × ℤ) × (ℤ × ℤ)
 
--- 1 where an end is c, which moves it by one
+-- 1 if an end is c, which moves it by one
 abbrev pub if_at : ℤ → ℤ → ℤ
 if_at end c = (if int_le end c && int_le c end then pos 1 else pos 0)
 

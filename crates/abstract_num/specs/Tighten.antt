@@ -7,7 +7,7 @@ use Rattle.abstract_num.specs.Plain.{Plain, any}
 use Rattle.abstract_num.specs.declared.precision.Precision.{Precision}
 use Rattle.abstract_num.specs.declared.precision.Precision.TheVariants.{Whole, Halves}
 
--- z, or 0 where it is negative
+-- z, or 0 if it is negative
 abbrev pub natural : ℤ → ℕ
 natural (pos n) = n
 natural (negsuc n) = 0
@@ -31,13 +31,13 @@ meet_signed x p q = record x { least = int_max x.least p; greatest = int_min x.g
 abbrev pub by_bits : Plain → Plain
 by_bits x = meet_unsigned x x.value (x.value + x.unknown)
 
--- the signed range meets the unsigned one, where its numbers have one sign
+-- the signed range meets the unsigned one, if its numbers have one sign
 abbrev pub by_unsigned : Plain → Plain
 by_unsigned x =
     (if nat_lt x.high (2 ^ 63) then meet_signed x (pos x.low) (pos x.high)
     else (if nat_le (2 ^ 63) x.low then meet_signed x (less_all x.low) (less_all x.high) else x))
 
--- the unsigned range meets the signed one, where its numbers have one sign
+-- the unsigned range meets the signed one, if its numbers have one sign
 abbrev pub by_signed : Plain → Plain
 by_signed x =
     (if int_le (pos 0) x.least then meet_unsigned x (natural x.least) (natural x.greatest)
@@ -78,8 +78,8 @@ meet_half x =
     let q = int_min x.greatest x.half_greatest in
     record x { least = p; greatest = q; half_least = p; half_greatest = q }
 
--- The half meets the signed range where that lies in 32 signed bits; else the unsigned range meets
--- the half where that lies in 32 bits and the half isn't negative.
+-- The half meets the signed range if that lies in 32 signed bits; else the unsigned range meets
+-- the half if that lies in 32 bits and the half isn't negative.
 abbrev pub by_half : Plain → Plain
 by_half x =
     (if is_short x then meet_half x
@@ -107,7 +107,7 @@ half_of_constant x =
     then (if half_agrees x x.low then Some (record x { half_least = n; half_greatest = n }) else None)
     else Some x)
 
--- the parts but the half, again where the half narrowed a range
+-- the parts but the half, again if the half narrowed a range
 abbrev pub tighten_again : Plain → Plain → Option Plain
 tighten_again x y = (if is_empty y then None else (if is_narrowed x y then tighten_whole y else Some y))
 

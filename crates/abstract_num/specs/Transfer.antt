@@ -27,7 +27,7 @@ use Rattle.abstract_num.specs.declared.row.Row.TheVariants as row
 use Rattle.abstract_num.specs.declared.row.RowAnswer.{RowAnswer}
 use Rattle.abstract_num.specs.declared.row.RowAnswer.TheVariants.{Exact, By, Raised, All}
 
--- The row that answers an operation by rows, with the source's masked number where that is
+-- The row that answers an operation by rows, with the source's masked number if that is
 -- constant.
 abbrev pub row_of : Arithmetic → Option ℕ → RowAnswer
 row_of op.Add s = By row.Add
@@ -51,7 +51,7 @@ row_of op.Arsh None = By row.Arsh
 abbrev pub is_constant : Plain → Bool
 is_constant x = x.low == x.high
 
--- the shift count modulo the width, where it is constant
+-- the shift count modulo the width, if it is constant
 abbrev pub count_of : ℕ → Plain → Option ℕ
 count_of width y = (if is_constant y then Some (y.low % width) else None)
 
@@ -59,7 +59,7 @@ count_of width y = (if is_constant y then Some (y.low % width) else None)
 abbrev pub raised_fits : Plain → Bool
 raised_fits x = fits (x.least *ℤ pos (2 ^ 32)) && fits (x.greatest *ℤ pos (2 ^ 32))
 
--- LSH by a constant count: by 32 the half says which signed numbers come, where the signed range
+-- LSH by a constant count: by 32 the half says which signed numbers come, if the signed range
 -- doesn't
 abbrev pub lsh_answer : ℕ → Plain → RowAnswer
 lsh_answer s x = (if s == 32 && not (raised_fits x) then Raised else By (row.SignedLshBy s))
@@ -77,7 +77,7 @@ answer64 precision operation x y =
     (if is_constant x && is_constant y then Exact (alu_value Bits64 operation x.low y.low)
     else row_in precision operation (count_of 64 y) x)
 
--- of 32 bits an arithmetic shift is a logical one where the sign is 0, and else any number
+-- of 32 bits an arithmetic shift is a logical one if the sign is 0, and else any number
 abbrev pub row_of_32 : Precision → Arithmetic → Plain → Plain → RowAnswer
 row_of_32 precision op.Arsh x y = (if nat_lt x.high (2 ^ 31) then row_of op.Rsh (count_of 32 y) else All)
 row_of_32 precision operation x y = row_in precision operation (count_of 32 y) x

@@ -7,7 +7,7 @@ use Rattle.abstract_num.specs.declared.fact.Fact.TheVariants.{Same, Above, AtLea
 abbrev pub TwoRanges : Type 0
 TwoRanges = (ℕ × ℕ) × (ℕ × ℕ)
 
--- 1 where an end is c, which moves it by one
+-- 1 if an end is c, which moves it by one
 abbrev pub if_at : ℕ → ℕ → ℕ
 if_at end c = (if end == c then 1 else 0)
 

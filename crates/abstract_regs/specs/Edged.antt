@@ -18,7 +18,7 @@ use Rattle.abstract_regs.specs.Seen.{seen_both}
 abbrev pub refined : PlainFrame → Compared → Kinds → PlainFrame
 refined g compared kinds = with_both g compared.dst compared.source (seen_both kinds)
 
--- a frame that may be dead: where nothing is left, there is none
+-- a frame that may be dead: if nothing is left, there is none
 abbrev pub if_live : Bool → PlainFrame → Option PlainFrame
 if_live live g = if live then Some g else None
 
@@ -35,8 +35,8 @@ left_kinds live xs = if live then Some xs else None
 abbrev pub heard : Precision → PlainFrame → Compared → Option PlainFrame
 heard precision g compared = told precision compared.dst compared.source g
 
--- where the slot after the instruction is next, and the frame that flowed is g; the lent place has
--- these kinds
+-- The edges as pairs: the slot after the instruction is next, and the frame that flowed is g; the
+-- lent place has these kinds.
 abbrev pub with_edges : Precision → Edges → Kinds → ℕ → PlainFrame → List (ℕ × PlainFrame)
 with_edges precision Leaves kinds next g = []
 with_edges precision Falls kinds next g = (next, g) ∷ []

@@ -22,7 +22,7 @@ use Rattle.abstract_regs.specs.Links.{told, relinked}
 abbrev pub target : ℕ → ℤ → ℕ
 target p distance = jump_target p (extended distance)
 
--- an edge to a slot; a dead one, where no value is left, is none
+-- an edge to a slot; none if it is dead, since no value is left
 abbrev pub edge_to : ℕ → Option PlainFrame → List (ℕ × PlainFrame)
 edge_to q None = []
 edge_to q (Some f) = (q, f) ∷ []
@@ -45,7 +45,7 @@ with_operand f (Register r) y = with_kind f r y
 abbrev pub with_both : PlainFrame → ℕ → Operand → PlainKind × PlainKind → PlainFrame
 with_both f dst source s = with_operand (with_kind f dst s.0) source s.1
 
--- The frame along the edge of a comparison where it holds, or where it doesn't: with what is left of both
+-- The frame along the edge of a comparison if it holds, or if it doesn't: with what is left of both
 -- kinds, and then of what these tell of linked places.
 abbrev pub along_edge : Precision → OpWidth → Comparison → Bool → ℕ → Operand → PlainFrame → Option PlainFrame
 along_edge precision bits comparison taken dst source f =

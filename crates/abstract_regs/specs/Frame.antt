@@ -61,7 +61,7 @@ entry_frame precision in_cap stack count places = record {
   links = replicate places no_link;
 }
 
--- the bytes of the stack that a helper may write, where the first register of its writable range is
+-- the bytes of the stack that a helper may write, if the first register of its writable range is
 -- given
 abbrev pub room_span : PlainFrame → Option ℕ → Option Span
 room_span f None = None
@@ -93,7 +93,7 @@ abbrev pub compared_kind : OpWidth → PlainFrame → Operand → PlainKind
 compared_kind bits f (Immediate imm) = Num (constant (mov_value bits (extended imm)))
 compared_kind bits f (Register r) = kind_at f r
 
--- what a load of w bytes gives where it is a slot
+-- what a load of w bytes gives if it is a slot
 abbrev pub kept_kind : PlainFrame → PlainKind → ℕ → ℕ → Option PlainKind
 kept_kind f x distance w = slot_kind f.slots (whole_slot (stack_place x distance) w)
 

@@ -77,7 +77,7 @@ join_kind (Ptr r k) Unset = Unset
 join_kind (Ptr r k) (Num l) = Unset
 join_kind (Ptr r k) (Ptr q l) = if same_region r q then Ptr r (join k l) else Unset
 
--- What an instruction that no rule refuses computes; none where no number is left. Arithmetic of
+-- What an instruction that no rule refuses computes; none if no number is left. Arithmetic of
 -- numbers, or a pointer whose offset moves:
 abbrev pub alu_kind : Precision → OpWidth → Arithmetic → PlainKind → PlainKind → Option PlainKind
 alu_kind precision bits operation (Num k) (Num l) = option_map Num (transferred precision bits operation k l)
@@ -130,11 +130,11 @@ along_kinds precision bits comparison taken same (Num k) (Ptr q l) = Some (Num k
 along_kinds precision bits comparison taken same (Ptr r k) y = Some (Ptr r k, y)
 
 -- The last place of an access at a distance from an offset: the upper bound of their sum, of whose low
--- half nothing is asked; none where no place is left.
+-- half nothing is asked; none if no place is left.
 abbrev pub last_place : Plain → ℕ → Option Plain
 last_place k distance = transferred Whole Bits64 Add k (constant distance)
 
--- all of the w bytes at those places are among the first so many
+-- all of the w bytes at those places are among the first `size`
 abbrev pub places_fit : Option Plain → ℕ → ℕ → Bool
 places_fit None w size = true
 places_fit (Some place) w size = nat_le (place.high + w) size
@@ -143,6 +143,6 @@ places_fit (Some place) w size = nat_le (place.high + w) size
 abbrev pub access_fits : Plain → ℕ → ℕ → ℕ → Bool
 access_fits k distance w size = places_fit (last_place k distance) w size
 
--- a range of a length from an offset on is within the first so many bytes
+-- a range of a length from an offset on is within the first `size` bytes
 abbrev pub range_fits : Plain → Plain → ℕ → Bool
 range_fits at len size = nat_le (at.high + len.high) size

@@ -97,14 +97,14 @@ pub record EntryIsHeld (precision : Precision) (in_cap stack count places n : �
 abbrev pub EntryHolds : Type 0
 EntryHolds = (precision : Precision) (in_cap stack count places n : ℕ) → in_cap < 2 ^ 64 → stack < 2 ^ 64 → n ≤ in_cap → EntryIsHeld precision in_cap stack count places n
 
--- An access that fits by an offset stays within the first so many bytes, at every place that the
+-- An access that fits by an offset stays within the first `size` bytes, at every place that the
 -- offset holds.
 abbrev pub AccessesFit : Type 0
 AccessesFit =
     (k : Plain) → Fits k → (distance w size : ℕ) → distance < 2 ^ 64 → access_fits k distance w size ≡ true →
     (at : ℕ) → Holds k at → (at + distance) % 2 ^ 64 + w ≤ size
 
--- A range that fits from an offset on stays within the first so many bytes, from every place that
+-- A range that fits from an offset on stays within the first `size` bytes, from every place that
 -- the offset holds, for every number of bytes that the length holds.
 abbrev pub RangesFit : Type 0
 RangesFit =
@@ -144,7 +144,7 @@ LoadsAreKnown =
     (vs : List (Option Value)) → length f.slots ≡ length vs → HoldsEach f.slots vs →
     (r : Region) (at : ℕ) → HoldsKind x (Some (values.Ptr r at)) → LoadIsKnown vs r ((at + distance) % 2 ^ 64) w
 
--- Where a helper's range meets nothing that isn't to be read, each slot that it reaches is a
+-- If a helper's range meets nothing that isn't to be read, each slot that it reaches is a
 -- number.
 abbrev pub RangesAreKnown : Type 0
 RangesAreKnown =
@@ -152,7 +152,7 @@ RangesAreKnown =
     (vs : List (Option Value)) → length f.slots ≡ length vs → HoldsEach f.slots vs → is_ptr x ≡ true → is_num y ≡ true →
     (r : Region) (at n j : ℕ) → HoldsKind x (Some (values.Ptr r at)) → HoldsKind y (Some (values.Num n)) → j < length vs → 1 ≤ n → Reached r at n j → IsNumber (value_at vs j)
 
--- Where the kind of an access's slot is known, the access is that slot.
+-- If the kind of an access's slot is known, the access is that slot.
 abbrev pub SlotsAreKnown : Type 0
 SlotsAreKnown =
     (f : PlainFrame) (x : PlainKind) (distance w : ℕ) → KindFits x → distance < 2 ^ 64 → is_some (kept_kind f x distance w) ≡ true →

@@ -58,7 +58,7 @@ HoldsForm Low m c = NumberIs c (λ n. n % 2 ^ 32 ≡ m % 2 ^ 32)
 HoldsForm Up m c = NumberIs c (λ n. n ≡ m * 2 ^ 32 % 2 ^ 64)
 HoldsForm Sign m c = NumberIs c (λ n. n ≡ m / 2 ^ 31 % 2 * 2 ^ 31)
 
--- a link is true of a value, where the names have these numbers
+-- a link is true of a value, if the names have these numbers
 abbrev pub HoldsLink : (ℕ → ℕ) → Link → Option Value → Type 0
 HoldsLink numbers l c = HoldsForm l.form ((numbers l.name + l.distance) % 2 ^ 64) c
 
@@ -96,7 +96,7 @@ down_form Sign = Unlinked
 abbrev pub moved_link : Link → ℕ → Link
 moved_link l d = if is_whole l.form then record { distance = (l.distance + d) % 2 ^ 64; name = l.name; form = Whole } else no_link
 
--- 0, or so many bits all set
+-- a number whose bits are all set, from the lowest up to the highest set one; also 0
 abbrev pub is_ones : ℕ → Bool
 is_ones c = c == 2 ^ digits c - 1
 

@@ -44,7 +44,7 @@ is_touched span place = nat_le 11 place && touches span (place - 11)
 abbrev pub is_clobbered : ℕ → Bool
 is_clobbered place = nat_lt place 6
 
--- the slot that an access is, where it is known
+-- the slot that an access is, if it is known
 abbrev pub known_slot : List PlainKind → Option ℕ → Option ℕ
 known_slot slots None = None
 known_slot slots (Some j) = if nat_lt j (length slots) then Some j else None
@@ -111,7 +111,7 @@ stored_links (Some j) span (Register src) p f = copied_link p f.links src (kind_
 
 -- ---- arithmetic
 
--- the number that an operation takes from its source, where it is one alone
+-- the number that an operation takes from its source, if it is one alone
 abbrev pub constant_of : OpWidth → PlainKind → Option ℕ
 constant_of bits Unset = None
 constant_of bits (Num k) = if k.low == k.high then Some (mov_value bits k.low) else None
@@ -184,7 +184,7 @@ apart e d = (d + (2 ^ 64 - e % 2 ^ 64)) % 2 ^ 64
 abbrev pub at_distance : Precision → Plain → ℕ → Option Plain
 at_distance precision z d = if d == 0 then Some z else transferred precision Bits64 Add z (constant d)
 
--- t, where it is equal to z
+-- t, if it is equal to z
 abbrev pub met_number : Precision → Plain → Plain → Option Plain
 met_number precision t z = option_map first_of (along precision Bits64 Equal true t z)
 
@@ -200,8 +200,8 @@ tell_whole precision z d t = if is_bounded z then option_and_then (met_number pr
 abbrev pub any_half : ℤ × ℤ
 any_half = (any.half_least, any.half_greatest)
 
--- what z, of a form, tells of the low half of the number that its link names: where it has that half, it
--- is z's; moved up, it is in the upper half; its sign bit alone says whether it is negative
+-- what z, of a form, tells of the low half of the number that its link names: if it has that half,
+-- it is z's; moved up, it is in the upper half; its sign bit alone says whether it is negative
 abbrev pub half_told : Form → Plain → ℤ × ℤ
 half_told Unlinked z = any_half
 half_told Whole z = (z.half_least, z.half_greatest)
@@ -209,7 +209,7 @@ half_told Low z = (z.half_least, z.half_greatest)
 half_told Up z = (int_shr z.least 32, int_shr z.greatest 32)
 half_told Sign z = if z.high == 0 then (pos 0, pos (2 ^ 31 - 1)) else (if nat_le 1 z.low then (negsuc (2 ^ 31 - 1), negsuc 0) else any_half)
 
--- t, where its low half lies between these
+-- t, if its low half lies between these
 abbrev pub met_half : Precision → Plain → ℤ × ℤ → Option Plain
 met_half precision t h =
     let p = int_max t.half_least h.0 in
@@ -220,7 +220,7 @@ met_half precision t h =
 abbrev pub tell_half : Precision → Form → Plain → Plain → Option Plain
 tell_half precision form z t = met_half precision t (half_told form z)
 
--- a number t linked by m, where another is z, linked by l; both name the same number
+-- a number t linked by m, if another is z, linked by l; both name the same number
 abbrev pub told_number : Precision → Plain → Link → Link → Plain → Option Plain
 told_number precision z l m t =
     let d = apart l.distance m.distance in

@@ -31,7 +31,7 @@ abbrev pub flat_option : Option (Option Value) → Option Value
 flat_option None = None
 flat_option (Some c) = c
 
--- a register's value, where it is set
+-- a register's value, if it is set
 abbrev pub value_at : List (Option Value) → ℕ → Option Value
 value_at cs r = flat_option (slice_get cs r)
 
@@ -46,7 +46,7 @@ with_value cs r v = slice_set cs r (Some v)
 
 -- ---- links
 
--- the links of a frame are true, where the names have these numbers
+-- the links of a frame are true, if the names have these numbers
 pub record LinksAre (links : List Link) (cs vs : List (Option Value)) (numbers : ℕ → ℕ) : Type 0 where
   pub registers : (r : ℕ) → r ≤ 10 → HoldsLink numbers (link_in links r) (value_at cs r)
   pub slots : (j : ℕ) → HoldsLink numbers (link_in links (slot_place j)) (value_at vs j)
@@ -60,7 +60,7 @@ HoldsLinks f cs vs = (numbers : ℕ → ℕ) × LinksAre f.links cs vs numbers
 abbrev pub NamesBelow : ℕ → PlainFrame → Type 0
 NamesBelow p f = (place : ℕ) → NameBelow p (link_in f.links place)
 
--- ---- slots of the stack, by their values: a number, a place, or none where a place was
+-- ---- slots of the stack, by their values: a number, a place, or none if a place was
 -- overwritten in part
 
 -- one of w bytes at a place is in slot j
@@ -86,7 +86,7 @@ pub record IsSlot (vs : List (Option Value)) (r : Region) (at w j : ℕ) : Type 
   pub place : at ≡ 8 * j
   pub inside : j < length vs
 
--- A load of w bytes gives the value of the slot that they are; it gives a number where each slot
+-- A load of w bytes gives the value of the slot that they are; it gives a number if each slot
 -- that they reach is one.
 pub record Loads (vs : List (Option Value)) (r : Region) (at w : ℕ) (v : Value) : Type 0 where
   pub whole : (j : ℕ) → IsSlot vs r at w j → value_at vs j ≡ Some v

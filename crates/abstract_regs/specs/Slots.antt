@@ -28,7 +28,7 @@ stack_place (Ptr Output k) distance = None
 stack_place (Num k) distance = None
 stack_place Unset distance = None
 
--- the w bytes of an access at a place; none, where no place is left
+-- the w bytes of an access at a place; none, if no place is left
 abbrev pub access_span : Option Plain → ℕ → Option Span
 access_span None w = None
 access_span (Some place) w = Some (record { low = place.low; high = place.high + w })
@@ -38,14 +38,14 @@ abbrev pub whole_slot : Option Plain → ℕ → Option ℕ
 whole_slot None w = None
 whole_slot (Some place) w = if (w == 8) && ((place.low == place.high) && (place.low % 8 == 0)) then Some (place.low / 8) else None
 
--- what is known of the slot that an access is, where slots are known
+-- what is known of the slot that an access is, if slots are known
 abbrev pub slot_kind : List PlainKind → Option ℕ → Option PlainKind
 slot_kind slots None = None
 slot_kind slots (Some j) = slice_get slots j
 
 -- ---- a helper's ranges
 
--- the bytes from an offset on, that many; none, where the length can only be 0
+-- the bytes from an offset on, that many; none, if the length can only be 0
 abbrev pub range_span : Plain → Plain → Option Span
 range_span at len = if len.high == 0 then None else Some (record { low = at.low; high = at.high + len.high })
 
@@ -61,7 +61,7 @@ stack_range Unset y = None
 
 -- ---- what becomes of slots
 
--- a slot that was overwritten in part: some number, where it was one
+-- a slot that was overwritten in part: some number, if it was one
 abbrev pub overwritten : PlainKind → PlainKind
 overwritten Unset = Unset
 overwritten (Num k) = Num any

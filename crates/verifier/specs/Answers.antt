@@ -43,14 +43,14 @@ text_in (OutputLength ∷ more) k = text_in more (k + 1)
 text_in (Readable ∷ more) k = Some k
 text_in (Writable ∷ more) k = text_in more (k + 2)
 
--- the greatest answer within a limit, where the greatest lengths of the ranges are known
+-- the greatest answer within a limit, if the greatest lengths of the ranges are known
 abbrev pub most_of : PlainFrame → List Argument → AnswerLimit → Option ℕ
 most_of f arguments (limit.Number n) = Some n
 most_of f arguments limit.Room = longest f (room_in arguments 1)
 most_of f arguments (limit.RoomOrNumber n) = option_map (λ most. min most n) (longest f (room_in arguments 1))
 most_of f arguments limit.Text = longest f (text_in arguments 1)
 
--- the numbers from the negative of an errno to the greatest answer; every number, where that isn't
+-- the numbers from the negative of an errno to the greatest answer; every number, if that isn't
 -- known or is no signed number
 abbrev pub answers_to : Precision → ℕ → Option ℕ → Plain
 answers_to precision errno None = any

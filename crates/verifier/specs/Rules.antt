@@ -50,7 +50,7 @@ range_meets content caps f x y = meets content (stack_range x y) 0 f.slots && no
 abbrev pub begins_at : List (Option Insn) → ℕ → Bool
 begins_at code q = is_some (fetch code q)
 
--- a jump's distance, where it has one, passes a test
+-- a jump's distance, if it has one, passes a test
 abbrev pub jumps : (ℤ → Bool) → Goes → Bool
 jumps test goes.On = false
 jumps test (goes.To distance) = test distance
@@ -316,7 +316,7 @@ returns_pointer f i = answered_pointer f (uses_of i)
 abbrev pub reads_pointer : RuleSet → Caps → PlainFrame → Insn → Bool
 reads_pointer rules caps f i = loads_pointer caps f (touches_of i) || asks rules caps f HasPointer (callee_of i)
 
--- a test of the frame, where there is one
+-- a test of the frame, if there is one
 abbrev pub under : Option PlainFrame → (PlainFrame → Bool) → Bool
 under None test = false
 under (Some f) test = test f
@@ -346,7 +346,7 @@ breaks_frame rules caps f i ReturnsPointer = returns_pointer f i
 breaks_frame rules caps f i PointerBytes = reads_pointer rules caps f i
 breaks_frame rules caps f i rule = false
 
--- whether a rule refuses instruction i at slot p, where there is such a frame
+-- whether a rule refuses instruction i at slot p, if there is such a frame
 abbrev pub breaks : RuleSet → Caps → List (Option Insn) → ℕ → Insn → Option PlainFrame → Rule → Bool
 breaks rules caps code p i None rule = breaks_shape code p i rule
 breaks rules caps code p i (Some f) rule = breaks_shape code p i rule || breaks_frame rules caps f i rule

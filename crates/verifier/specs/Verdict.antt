@@ -19,7 +19,7 @@ use Rattle.verifier.specs.Frame.{precision_of, entry}
 use Rattle.verifier.specs.Rules.{breaks, rule_at, room_of}
 use Rattle.verifier.specs.Answers.{answer_of}
 
--- the frames of a method by slot, none where no flow comes
+-- the frames of a method by slot, none if no flow comes
 abbrev pub Table : Type 0
 Table = List (Option PlainFrame)
 

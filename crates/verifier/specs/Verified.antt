@@ -16,7 +16,7 @@ pub record IsVerifiedClass (ms : List ClassMethod) : Type 0 where
   pub class : IsClass ms
   pub safe : AllByRecursion IsSafe ms
 
--- the method of a name, where a class has one
+-- the method of a name, if a class has one
 abbrev pub method_named : List ClassMethod → List ℕ → Option ClassMethod
 method_named [] name = None
 method_named (m ∷ ms) name = if bytes_eq m.name name then Some m else method_named ms name

@@ -42,7 +42,7 @@ pub(crate) fn linked_places(rules: RuleSet) -> usize
     ensures { result ≡ known_links rules }
 {
     match rules {
-        // Where no place can be linked, no link is ever made.
+        // If no place can be linked, no link is ever made.
         RuleSet::One | RuleSet::Two => 0,
         RuleSet::Three => REGISTERS + STACK_SLOTS,
     }

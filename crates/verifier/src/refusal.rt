@@ -7,7 +7,7 @@ use std::fmt;
 use thiserror::Error;
 
 /// Why a class is refused: the first method with a refusal, its lowest refused slot, and there the
-/// lowest rule. Methods and slots count from 0; where memory was refused both are 0. It prints as
+/// lowest rule. Methods and slots count from 0; if memory was refused both are 0. It prints as
 /// `refused method 0 slot 0: 5 UnsetRead`.
 #[derive(Clone, Copy, Debug, PartialEq, Eq, Error)]
 pub struct Refusal {

@@ -77,7 +77,7 @@ bits_refine_sound f x y (Some s) c m n p q h =
     let i = bits_fact_keeps f x.value x.unknown y.value y.unknown m n p.0 q.0 h in
     (in_mask s.0 _ m c.1.0 i.1 p.1, in_mask s.1 _ n c.1.1 i.2 q.1)
 
--- The known bits of a meet have no bit in common, where there is no conflict; nor have those
+-- The known bits of a meet have no bit in common, if there is no conflict; nor have those
 -- without some unknown ones.
 pub meet_apart : (v1 m1 v2 m2 : ℕ) → bit_and v1 m1 ≡ 0 → bit_and v2 m2 ≡ 0 → conflict v1 m1 v2 m2 ≡ 0 → bit_and (bit_or v1 v2) (bit_and m1 m2) ≡ 0
 meet_apart v1 m1 v2 m2 a b z =

@@ -45,7 +45,7 @@ fits_yes (negsuc n) h = grind (arith, ints)
 fits_no : (z : ℤ) → (FitsSigned w32 z → ⊥) → fits z ≡ false
 fits_no z h = bool_no (fits z) (λ e. h (fits_between z (fits_low z e) (fits_high z e)))
 
--- the ends where both fit, and every number where one doesn't
+-- the ends if both fit, and every number if one doesn't
 pub ends_fit : (p q : ℤ) → FitsSigned w32 p → FitsSigned w32 q → ends_that_fit p q ≡ ends p q
 ends_fit p q f g = rw (fits_yes p f, fits_yes q g)
 

@@ -58,7 +58,7 @@ shr_mono t (negsuc a) (negsuc b) p h =
     let l : b ≤ a = omega (arith, ints) in
     let k : b / t ≤ a / t = div_nat t b a p l in omega (arith, ints)
 
--- a quotient fits where the number does
+-- a quotient fits if the number does
 pub shr_fits : (t : ℕ) (z : ℤ) → FitsSigned w64 z → FitsSigned w64 (shr_z z t)
 shr_fits t z f = record { sfits = omega (arith, mag_shr z t, f.sfits) }
 

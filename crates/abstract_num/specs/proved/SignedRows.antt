@@ -48,7 +48,7 @@ fits_yes (negsuc n) h = grind (arith, ints)
 fits_no : (z : ℤ) → (FitsSigned w64 z → ⊥) → fits z ≡ false
 fits_no z h = bool_no (fits z) (λ e. h (fits_between z (fits_low z e) (fits_high z e)))
 
--- the ends where both fit, and every number where one doesn't
+-- the ends if both fit, and every number if one doesn't
 pub ends_fit : (p q : ℤ) → FitsSigned w64 p → FitsSigned w64 q → ends_that_fit p q ≡ ends p q
 ends_fit p q f g = rw (fits_yes p f, fits_yes q g)
 
@@ -116,7 +116,7 @@ arsh_keeps k p q r s m n f g a b c d =
     let e : signed (row_value (SignedArshBy k) m n) ≡ int_shr (signed m) (k % 64) = to_z-of_z w64 (int_shr (signed m) (k % 64)) (shifted_fits (k % 64) m f) in
     (rw e (shr_mono (2 ^ (k % 64)) p (signed m) (pow_pos (k % 64)) a), rw e (shr_mono (2 ^ (k % 64)) (signed m) q (pow_pos (k % 64)) b))
 
--- times 2 ^ 32, where the low half lies between the ends
+-- times 2 ^ 32, if the low half lies between the ends
 pub raised_between : (h k : ℤ) (m : ℕ) → h ≤ℤ signed_half m → signed_half m ≤ℤ k → SignedBetween (h *ℤ pos (2 ^ 32), k *ℤ pos (2 ^ 32)) (m * 2 ^ 32 % 2 ^ 64)
 raised_between h k m a b =
     let e = raised_is m in
