@@ -18,7 +18,7 @@ pub record Frames (m : ClassMethod) (kept : Parts) (whole : PlainObject) (caller
   pub runs : RunsTo m whole caller input (whole_outcome kept whole outcome) steps
   pub empty : reduced kept outcome.object ≡ outcome.object
 
--- Of every method within the limits and all parts that its code needs, or more: where the run on an
+-- Of every method within the limits and all parts that its code needs, or more: if the run on an
 -- object that has only these ends, so does the run on the whole object.
 abbrev pub FrameLaw : Type 0
 FrameLaw =

@@ -7,7 +7,7 @@
 --     5 remove, 13 out_len, 14 create, 15 caller        none
 --     16 compare, 17 copy                               none
 --
--- 5 removes the object, and 3, 7, 10 and 14 create one where there is none. Code that calls 5 and
+-- 5 removes the object, and 3, 7, 10 and 14 create one if there is none. Code that calls 5 and
 -- one of these can empty every part of an object that was there and is there: so it needs all. Else
 -- a part that is left out stands as it was, or went with the object, or the object was created
 -- without it.

@@ -9,7 +9,7 @@ use Rattle.object_bytes.specs.declared.part.Part.TheVariants.{Xattrs, Keys}
 use Rattle.object_bytes.specs.Part.{names}
 use Rattle.object_bytes.specs.Edits.{Edit, Create, Remove, SetName, RemoveName, SetLength, Write}
 
--- ---- data: its length, where it differs, and one write from the first byte that differs to the
+-- ---- data: its length, if it differs, and one write from the first byte that differs to the
 -- last
 
 -- how many of the first n bytes stand before the last that differs, that one included

@@ -18,7 +18,7 @@ use Rattle.footprint.specs.Needed.{needed}
 use Rattle.sillarnica.specs.declared.told.ToldRefusal.{ToldRefusal}
 use Rattle.sillarnica.specs.declared.told.ToldAnswer.{ToldAnswer}
 
--- a slot as C sees it, -1 where there is none (or one that no method has room for)
+-- a slot as C sees it, -1 if there is none (or one that no method has room for)
 abbrev pub slot_number : Option ℕ → ℤ
 slot_number None = negsuc 0
 slot_number (Some slot) = if nat_lt slot 9223372036854775808 then pos slot else negsuc 0
@@ -53,7 +53,7 @@ TellsClass image old new result =
     ⊎ (((result ≡ pos 2) × TellsVerdict image new)
     ⊎ ((result ≡ negsuc 11) × (new ≡ old)))
 
--- ---- the verdict
+-- ---- the verdict: 0 if the class is safe, and nothing is written; else why it isn't
 abbrev pub TellsVerify : List ℕ → ToldRefusal → ToldRefusal → ℤ → Type 0
 TellsVerify image old new result = ((result ≡ pos 0) × IsAccepted image × (new ≡ old)) ⊎ TellsClass image old new result
 
@@ -198,7 +198,7 @@ TellsClassCall class name object caller input old new result =
     ⊎ (((result ≡ negsuc 33) × HasNoRoom class name object caller input old new)
     ⊎ (TellsNoAnswer class name object input result × (new ≡ old)))
 
--- ---- a call of an image's class
+-- ---- a call of an image's class, which is safe
 pub record CallsClass (image name object : List ℕ) (caller : ℕ) (input : List ℕ) (old new : Memory) (result : ℤ) : Type 0 where
   pub class : List ClassMethod
   pub loaded : IsLoaded image class
