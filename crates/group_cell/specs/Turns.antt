@@ -39,8 +39,8 @@ GivesReply cell (Rep interval place request) r = ⊥
 GivesReply cell (Ack interval length) r = ⊥
 GivesReply cell (ReplyTo client number place answer) r = IsReplyTo cell client number place answer r
 
--- A MESSAGE GOES OUT to a node packed for a receiver that reported so many entries, to the monitor
--- as its question, and to a client as a reply.
+-- A MESSAGE GOES OUT to a node packed for a receiver that reported that many entries, to the
+-- monitor as its question, and to a client as a reply.
 abbrev pub GoesOutAs : {N : Type 0} → CellState → ℕ → Packet → Outgoing N → Type 0
 GoesOutAs cell reported p (ToNode n m) = packed_as cell.node.state.committed reported p ≡ (ANode n, m)
 GoesOutAs cell reported p (ToMonitor interval) = (p.receiver ≡ TheMonitor) × (p.message.kind ≡ AskActivate interval)

@@ -128,7 +128,7 @@ impl<N: BoardName> GroupCell<N> {
     }
 
     /// The answer to the request at a committed place, with a note of the row's list; none exactly
-    /// where the place isn't committed. It costs a copy of the answer. Only memory may be refused.
+    /// if the place isn't committed. It costs a copy of the answer. Only memory may be refused.
     ///
     /// The board is the named one.
     pub fn reply(

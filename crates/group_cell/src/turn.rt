@@ -33,8 +33,8 @@ impl<N: BoardName> GroupCell<N> {
     /// node, as a question to the monitor, as a `Reply` to a client. A refused request goes out as
     /// a `Refused`. A list whose beginning the node doesn't have is lost, and then nothing happens.
     ///
-    /// `None` stands for a message that memory was refused to, which is a reply. Where there was no
-    /// memory for the event itself it never came; where there was none for the list of what goes
+    /// `None` stands for a message that memory was refused to, which is a reply. If there was no
+    /// memory for the event itself it never came; if there was none for the list of what goes
     /// out, all of it is lost.
     ///
     /// The board and the table are the named ones.

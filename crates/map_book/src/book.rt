@@ -175,9 +175,9 @@ impl MapBook {
 
     /// Makes a map more of each group, and gives them in the order of the groups. Each acting list
     /// is the placement's of these up nodes: the first by falling score, as many as there are
-    /// replicas. Where a group's acting list stays, its interval does, and it needn't be told.
+    /// replicas. If a group's acting list stays, its interval does, and it needn't be told.
     ///
-    /// Refused: `NoneUp` where no node is up; `Limit` where a number isn't that of a node of the
+    /// Refused: `NoneUp` if no node is up; `Limit` if a number isn't that of a node of the
     /// cluster, or stands twice; `EpochsUsedUp` after epoch 2^32 - 1; of these the first. Memory
     /// may be refused in place of an answer. After a refusal no group's monitor has moved: all that
     /// grows does so before the first moves.
@@ -212,7 +212,7 @@ impl MapBook {
     }
 
     /// Activates an interval of a group, as its `Monitor::activate` does; the other groups stay as
-    /// they are. It refuses by `NotNewest` where the interval isn't that of the group's newest map,
+    /// they are. It refuses by `NotNewest` if the interval isn't that of the group's newest map,
     /// and changes nothing then. It takes no memory.
     pub fn activate(&mut self, group: usize, interval: Epoch) -> Result<(), MonitorError>
         requires { group < length self.old.monitors }

@@ -15,7 +15,7 @@ impl<T> Property<T> for Brand {
 }
 
 /// From a state of a pass to itself nothing is lost, nor over several steps of each of which this
-/// is so. Where an operation was sent, one was sent that has each property of it; and what was sent
+/// is so. If an operation was sent, one was sent that has each property of it; and what was sent
 /// in one step was sent in that step together with steps before and after it. The property may
 /// speak of `about`.
 pub fn sending_goes_on<T, A, P: Property<T>>(about: &A)

@@ -1,7 +1,7 @@
 /// Why a request isn't in a queue.
 #[derive(Clone, Copy, Debug, PartialEq, Eq)]
 pub enum AskError {
-    /// The request was given back: fewer than 256 places of its queue were free. Requests leave the
+    /// Fewer than 256 places of its queue were free, and nothing was submitted. Requests leave the
     /// last places to what nodes send to one another.
     Full,
     /// Memory was refused, and nothing was submitted.

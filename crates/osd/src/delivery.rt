@@ -25,7 +25,7 @@ impl<N: ClusterName> Delivery<N> {
         matches!(self.outgoing, Outgoing::ToClient(_, Post::Refused(_)))
     }
 
-    /// The same once more, where memory isn't refused. Of an answer there is none.
+    /// The same once more, if memory isn't refused. Of an answer there is none.
     pub fn again(&self, alloc: Global) -> Option<Delivery<N>> {
         let outgoing = match &self.outgoing {
             Outgoing::ToNode(node, message) => Outgoing::ToNode(*node, message.copy(alloc).ok()?),

@@ -7,7 +7,7 @@ pub enum DeliveryMode {
     Drop,
     /// It is sent twice. A Reply is sent once.
     Twice,
-    /// It is sent after the worker's next message, and lost where there is none.
+    /// It is sent after the worker's next message, and lost if there is none.
     Late,
 }
 

@@ -20,7 +20,7 @@ impl Nudges {
         Ok(Nudges { under_way })
     }
 
-    /// Begins a nudge of the group. False where one is under way, and where there is no such group.
+    /// Begins a nudge of the group. False if one is under way, and if there is no such group.
     pub fn begin(&self, group: usize) -> bool {
         match self.under_way.get(group) {
             Some(count) => count

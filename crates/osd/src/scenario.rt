@@ -28,7 +28,7 @@ pub trait Scenario {
 }
 
 /// Names a cluster, with the classes that are loaded, and plays a scenario on it. It is not played
-/// where memory for the nodes is refused.
+/// if memory for the nodes is refused.
 pub fn play<S: Scenario, R: Threads + Wait + Sync + Drop>(
     alloc: Global,
     rt: R,

@@ -34,9 +34,9 @@ impl Schedule {
         self.claimed.load(Ordering::SeqCst) & bit_of(shard) != 0
     }
 
-    /// Claims a shard. False where another worker has claimed it: then it is skipped. Who skips it
+    /// Claims a shard. False if another worker has claimed it: then it is skipped. Who skips it
     /// needn't come again. The other worker has found an operation and looks at each shard once
-    /// more, and where it leaves the shard to others before that, it rings.
+    /// more, and if it leaves the shard to others before that, it rings.
     pub fn claim(&self, shard: usize) -> bool {
         if self.try_claim(shard) {
             return true;

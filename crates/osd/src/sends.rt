@@ -45,7 +45,8 @@ impl<N: ClusterName> Sends<N> {
         }
     }
 
-    /// Puts the operation into its group's queue, or drops it where that is full, and tells which.
+    /// Puts the operation at the end of its group's queue. If that is full it gives the operation
+    /// back, and the pass is as it was.
     pub(crate) fn submit<R: Wait>(
         &mut self,
         rt: &R,

@@ -57,7 +57,7 @@ impl Model for Cluster {
 impl Cluster {
     /// A cluster of these nodes, with a map of epoch 1 in which all nodes are up. The classes
     /// `lock` and `obj` are loaded, with the ids 0 and 1. No thread is started. Refused: `Limit`
-    /// exactly where a number is outside its limits, else `NoMemory`.
+    /// exactly if a number is outside its limits, else `NoMemory`.
     pub fn new(alloc: Global, config: Config) -> Result<Cluster, ConfigError>
         ensures limit { (result ≡ Err ConfigError.Limit) ↔ (is_within_limits config ≡ false) }
         ensures made { IfOk result (HasBuiltIn config) }
@@ -80,9 +80,9 @@ impl Cluster {
     /// Loads a class from its image, and gives its id; the first has id 2, the next 3, and so on.
     /// Its methods are verified to be safe.
     ///
-    /// Refused, the first that applies, and the cluster is as it was: `Image` where the bytes are
-    /// no image, `Verdict` where a method isn't safe, `TooMany` where 64 classes are loaded,
-    /// `NoMemory`, `Started` where the cluster has run.
+    /// Refused, the first that applies, and the cluster is as it was: `Image` if the bytes are
+    /// no image, `Verdict` if a method isn't safe, `TooMany` if 64 classes are loaded,
+    /// `NoMemory`, `Started` if the cluster has run.
     pub fn load_class(&mut self, image: &[u8]) -> Result<ClassId, LoadError>
         ensures loaded { IfOk result (IsAdded image.now self.old self.new) }
         ensures refused { IfErr result (λ e. (load_refusal image.now self.old ≡ Some e) ⊎ (e ≡ LoadError.NoMemory)) }
@@ -104,7 +104,7 @@ impl Cluster {
 
     /// Gives the parts and the classes to who names the cluster (`Running::named`) and brings its
     /// threads: a scenario of `run` can start none. From then on the cluster has started. None
-    /// exactly where it had started before.
+    /// exactly if it had started before.
     pub fn start(&mut self) -> Option<(ClusterParts, ClassTable)>
         ensures given { MatchOption result (self.old.classes ≡ None) (λ p. (self.old.config ≡ Some p.0.config) × (self.old.classes ≡ Some p.1)) }
         ensures spent { self.new ≡ record {
@@ -123,7 +123,7 @@ impl Cluster {
     /// Runs the scenario on the cluster with the classes that are loaded. It is done once: from
     /// then on the cluster has started, and no class is loaded any more.
     ///
-    /// Refused: `Started` exactly where the cluster was run before, `NoMemory` where memory for the
+    /// Refused: `Started` exactly if the cluster was run before, `NoMemory` if memory for the
     /// nodes is refused; then nothing was run, and the cluster has started.
     pub fn run<S: Scenario, R: Threads + Wait + Sync + Drop>(
         &mut self,
@@ -174,7 +174,7 @@ fn started_with(count: usize) -> LoadError
     }
 }
 
-/// A table with the classes `lock` and `obj`. None where memory is refused: their texts are
+/// A table with the classes `lock` and `obj`. None if memory is refused: their texts are
 /// constants, which tests load.
 fn built_in(alloc: Global) -> Option<ClassTable>
     ensures { IfSome result IsBuiltIn }

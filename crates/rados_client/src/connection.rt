@@ -108,7 +108,7 @@ impl<'a, N: ClusterName, R: Wait> Connection<'a, N, R> {
     }
 
     /// Asks for the request until it is answered or the tries are used up: the first submit is one,
-    /// and each later submit and each look. None where memory was refused before the first submit.
+    /// and each later submit and each look. None if memory was refused before the first submit.
     pub fn ask(&mut self, request: &Request, tries: u32) -> Option<Result<Reply, ExecError>>
         ensures none { IfNone result (self.new ≡ self.old) }
         ensures some { IfSome result (IsAsked N.classes self.old self.new request.now) }
@@ -126,8 +126,8 @@ impl<'a, N: ClusterName, R: Wait> Connection<'a, N, R> {
         Some(Err(patience.end()))
     }
 
-    /// One try: the request is submitted again where that is due, else the mailbox is looked into.
-    /// Some where the request is answered.
+    /// One try: the request is submitted again if that is due, else the mailbox is looked into.
+    /// Some if the request is answered.
     fn try_once(
         &mut self,
         request: &Request,

@@ -18,10 +18,10 @@ const TOO_LONG: i64 = -34;
 
 impl<N: ClusterName, R: Wait> Session<'_, N, R> {
     /// Calls a method as `exec` does, and puts its output at the beginning of the buffer. The
-    /// answer is the code where it is negative; else -34 where the output is longer than the
-    /// buffer; else the output's length where it isn't 0; else the code. Where the answer is -34
-    /// the call stands in the history all the same. The buffer is changed only where the output
-    /// fits and the code isn't negative.
+    /// answer is the code if it is negative; else -34 if the output is longer than the buffer;
+    /// else the output's length if it isn't 0; else the code. If the answer is -34 the call stands
+    /// in the history all the same. The buffer is changed only if the output fits and the code
+    /// isn't negative.
     pub fn exec_into(
         &mut self,
         alloc: Global,

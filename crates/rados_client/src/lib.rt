@@ -1,5 +1,5 @@
 //! A user's side of a cluster: `Cluster` is made, loaded with classes and run; a `Session` of the
-//! running cluster calls methods on objects. Where `exec` or `retry` answers Ok, the session then
+//! running cluster calls methods on objects. If `exec` or `retry` answers Ok, the session then
 //! knows a list of requests that begins with all that it had seen or been told of that list, and in
 //! a legal beginning of it the whole request stands once, at the reply's place, and is answered
 //! there as the reply says (`specs/Promise.antt`). A refusal by class, method or input is true;

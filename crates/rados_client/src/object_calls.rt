@@ -21,8 +21,8 @@ const OBJECT_CLASS: usize = 1;
 
 impl<N: ClusterName, R: Wait> Session<'_, N, R> {
     /// Reads `length` bytes of the object's data from `offset` on, as many as there are: they are
-    /// the output, and their count the code. It is -22 (EINVAL) where the length passes 4,096, -2
-    /// (ENOENT) where there is no object. It answers as `exec`.
+    /// the output, and their count the code. It is -22 (EINVAL) if the length passes 4,096, -2
+    /// (ENOENT) if there is no object. It answers as `exec`.
     pub fn read(
         &mut self,
         alloc: Global,
@@ -44,7 +44,7 @@ impl<N: ClusterName, R: Wait> Session<'_, N, R> {
     }
 
     /// Writes the bytes into the object's data at `offset`; an absent object is created, and what
-    /// lies before the offset is zero. Their count is the code. It is -27 (EFBIG) where the data
+    /// lies before the offset is zero. Their count is the code. It is -27 (EFBIG) if the data
     /// would pass 65,536 bytes. More than 4,088 bytes are refused by `InputTooLong`. It answers as
     /// `exec`.
     pub fn write(
@@ -67,7 +67,7 @@ impl<N: ClusterName, R: Wait> Session<'_, N, R> {
         self.call(alloc, &call)
     }
 
-    /// The length of the object's data is the code; -2 (ENOENT) where there is no object. It
+    /// The length of the object's data is the code; -2 (ENOENT) if there is no object. It
     /// answers as `exec`.
     pub fn stat(&mut self, alloc: Global, object: &ObjectName) -> Result<Reply, ExecError>
         ensures { IsCall N.classes self.old self.new (next_request self.old object.now 1 (codes "stat") []) result }
@@ -76,7 +76,7 @@ impl<N: ClusterName, R: Wait> Session<'_, N, R> {
     }
 
     /// The value of the object's xattr of that name is the output, and its length the code; -2
-    /// (ENOENT) where there is no object, -61 (ENODATA) where it has no such xattr. A name of more
+    /// (ENOENT) if there is no object, -61 (ENODATA) if it has no such xattr. A name of more
     /// than 64 bytes is refused by `InputTooLong`. It answers as `exec`.
     pub fn getxattr(
         &mut self,
@@ -96,8 +96,8 @@ impl<N: ClusterName, R: Wait> Session<'_, N, R> {
     }
 
     /// Gives the object's xattr of that name the value; an absent object is created. The code is 0,
-    /// or -22 (EINVAL) where the name has no byte or more than 64, -27 (EFBIG) where the value has
-    /// more than 4,031, -28 (ENOSPC) where the object has 32 others. It answers as `exec`.
+    /// or -22 (EINVAL) if the name has no byte or more than 64, -27 (EFBIG) if the value has
+    /// more than 4,031, -28 (ENOSPC) if the object has 32 others. It answers as `exec`.
     pub fn setxattr(
         &mut self,
         alloc: Global,
@@ -121,7 +121,7 @@ impl<N: ClusterName, R: Wait> Session<'_, N, R> {
         self.call(alloc, &call)
     }
 
-    /// Removes the object; the code is 0, or -2 (ENOENT) where there is none. It answers as `exec`.
+    /// Removes the object; the code is 0, or -2 (ENOENT) if there is none. It answers as `exec`.
     pub fn remove(&mut self, alloc: Global, object: &ObjectName) -> Result<Reply, ExecError>
         ensures { IsCall N.classes self.old self.new (next_request self.old object.now 1 (codes "remove") []) result }
     {

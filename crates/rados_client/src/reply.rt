@@ -52,7 +52,7 @@ impl Reply {
         self.answer.code()
     }
 
-    /// The output that the method gave; empty where the code is negative.
+    /// The output that the method gave; empty if the code is negative.
     pub fn output(&self) -> &[u8]
         ensures { result.now ≡ self.now.answer.output }
     {

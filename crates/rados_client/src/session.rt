@@ -54,7 +54,7 @@ impl<'a, N: ClusterName, R> Model for Session<'a, N, R> {
 
 impl<'a, N: ClusterName, R: Wait> Session<'a, N, R> {
     /// Opens a session; the first has client 1, the next 2, and so on. It has sent nothing and
-    /// knows nothing. Refused: `TooMany` exactly where 64 were opened before. What a session needs
+    /// knows nothing. Refused: `TooMany` exactly if 64 were opened before. What a session needs
     /// was made with the cluster, so `NoMemory` never comes.
     pub fn open(running: &'a Running<N, R>) -> Result<Session<'a, N, R>, OpenError>
         ensures new { IfOk result (λ s. (s.client ≤ 64) × (s.used ≡ 0) × (s.last ≡ None) × (s.contact.seen ≡ []) × (s.contact.nudges ≡ 0)) }
@@ -97,10 +97,10 @@ impl<'a, N: ClusterName, R: Wait> Session<'a, N, R> {
     /// (`answers_have_run`). That list begins with all that the session had seen or been told of
     /// the row.
     ///
-    /// Refused, the first that applies: `NumbersUsedUp` where the client has sent number 2^32 - 1,
-    /// and `NoMemory` where memory for the request is refused; then the session is as it was. After
+    /// Refused, the first that applies: `NumbersUsedUp` if the client has sent number 2^32 - 1,
+    /// and `NoMemory` if memory for the request is refused; then the session is as it was. After
     /// the first submit the number is used up: by `LogFull`, `StaleNumber`, `NoClass`, `NoMethod`,
-    /// `InputTooLong` or `NoMemory` of the node; by `Unanswered` or `NotTaken` where the tries are
+    /// `InputTooLong` or `NoMemory` of the node; by `Unanswered` or `NotTaken` if the tries are
     /// used up.
     pub fn exec(
         &mut self,
@@ -127,7 +127,7 @@ impl<'a, N: ClusterName, R: Wait> Session<'a, N, R> {
     /// `exec` does. A request that stands in the history is answered from there, so it never runs
     /// twice. Number and request stay.
     ///
-    /// Refused: `NothingSent` exactly where nothing was sent yet; else as `exec`, but for
+    /// Refused: `NothingSent` exactly if nothing was sent yet; else as `exec`, but for
     /// `NumbersUsedUp`.
     pub fn retry(&mut self) -> Result<Reply, ExecError>
         ensures { IsRepeat N.classes self.old self.new result }

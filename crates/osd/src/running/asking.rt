@@ -18,9 +18,9 @@ use pg_log::Request;
 use std::sync::Wait;
 
 impl<N: ClusterName, R: Wait> Running<N, R> {
-    /// Submits a copy of the request to the newest map's primary of its object's group. Full: fewer
-    /// than 256 places of the queue were free, and the request is given back. NoMemory: nothing was
-    /// submitted.
+    /// Submits a copy of the request to the newest map's primary of its object's group. Refused,
+    /// and nothing was submitted: `Full` if fewer than 256 places of the queue were free,
+    /// `NoMemory` if memory was refused.
     pub fn ask(&self, sends: &mut Sends<N>, request: &Request) -> Result<(), AskError>
         ensures grew { Grew sends.old sends.new }
         ensures sent { OnOk result (WasSent sends.old sends.new (λ op. op.carried ≡ ARequest request.now)) }
@@ -55,7 +55,8 @@ impl<N: ClusterName, R: Wait> Running<N, R> {
         sends.free_places(&self.rt, &self.shards, shard) >= KEPT_PLACES
     }
 
-    /// Submits an operation, and wakes the workers where its queue took it.
+    /// Submits an operation, and wakes the workers if its queue took it. One that isn't taken is
+    /// dropped.
     pub(crate) fn submit(
         &self,
         sends: &mut Sends<N>,

@@ -39,7 +39,7 @@ impl<N: ClusterName, R: Wait> Running<N, R> {
         }
     }
 
-    /// Asks the group's monitor to activate the interval, and tells the node where it did.
+    /// Asks the group's monitor to activate the interval, and tells the node if it did.
     fn ask_monitor(&self, sends: &mut Sends<N>, origin: Origin, interval: Epoch)
         ensures { OnlySent sends.old sends.new (IsInternalTo origin.group) }
     {
@@ -70,7 +70,7 @@ impl<N: ClusterName, R: Wait> Running<N, R> {
         monitors.activate(group, interval).is_ok()
     }
 
-    /// Puts an answer into the client's mailbox, over the one that is there. It is lost where the
+    /// Puts an answer into the client's mailbox, over the one that is there. It is lost if the
     /// client has no mailbox.
     fn post(&self, client: ClientId, post: Post<N>) {
         let place = (client.get() - 1) as usize;

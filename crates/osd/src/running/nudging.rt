@@ -19,9 +19,9 @@ impl<N: ClusterName, R: Wait> Running<N, R> {
     /// each acting node sends again. A stopped node sends nothing. What it submits is of that
     /// group, and no request of a client.
     ///
-    /// It does nothing where there is no such group, where another nudge of the group is under way,
-    /// and where an operation isn't served yet that goes back to the last one: what that submitted,
-    /// what nodes sent on it, and so on. What goes to a node isn't submitted where fewer than 256
+    /// It does nothing if there is no such group, if another nudge of the group is under way,
+    /// and if an operation isn't served yet that goes back to the last one: what that submitted,
+    /// what nodes sent on it, and so on. What goes to a node isn't submitted if fewer than 256
     /// places of the queue are free.
     pub fn nudge(&self, sends: &mut Sends<N>, group: usize)
         ensures grew { Grew sends.old sends.new }
@@ -77,7 +77,7 @@ impl<N: ClusterName, R: Wait> Running<N, R> {
         reached.get() < self.newest.lock(&self.rt).interval(group).get()
     }
 
-    /// Hands the newest map to a node. It is lost where memory is refused.
+    /// Hands the newest map to a node. It is lost if memory is refused.
     pub(crate) fn tell_map(&self, sends: &mut Sends<N>, cause: Cause, group: usize, node: NodeId)
         requires { group < N.config.groups }
         ensures { OnlySent sends.old sends.new (IsInternalTo group) }

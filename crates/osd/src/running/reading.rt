@@ -15,7 +15,7 @@ use std::alloc::{AllocError, Global};
 use std::sync::Wait;
 
 impl<N: ClusterName, R: Wait> Running<N, R> {
-    /// The entries of a node's log of a group. It refuses by `NoSuch` exactly where there is no
+    /// The entries of a node's log of a group. It refuses by `NoSuch` exactly if there is no
     /// such node or group, and else by `NoMemory`.
     pub fn logged(&self, node: NodeId, group: usize) -> Result<Vec<LoggedEntry>, LoggedError>
         ensures log { IfOk result (λ v. IsLogOf N.classes v.items) }

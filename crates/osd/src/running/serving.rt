@@ -46,13 +46,13 @@ fn next_shard(shard: usize, shards: usize) -> usize
 }
 
 impl<N: ClusterName, R: Wait> Running<N, R> {
-    /// Serves as a worker until `finish`. It returns at once where the number is no worker's, or
+    /// Serves as a worker until `finish`. It returns at once if the number is no worker's, or
     /// was served already.
     pub fn serve<G: Gate>(&self, worker: usize, gate: &G) {
         self.serve_with(worker, gate, &PassAll);
     }
 
-    /// Serves as a worker until `finish`, under a fate. It returns at once where the number is no
+    /// Serves as a worker until `finish`, under a fate. It returns at once if the number is no
     /// worker's, or was served already.
     pub fn serve_with<G: Gate, F: Fate>(&self, worker: usize, gate: &G, fate: &F) {
         let Some(mut worker) = self.worker(worker) else {
