@@ -317,7 +317,7 @@ fn push_advice(out: &mut String, advice: Advice) -> Result<(), AllocError>
     }
 }
 
-/// Adds advice, where there is some.
+/// Adds advice, if there is some.
 pub(crate) fn push_advised(out: &mut String, advice: Option<Advice>) -> Result<(), AllocError>
     ensures { OnOk result (string_bytes out.new ≡ string_bytes out.old ++ advised_text advice) }
 {

@@ -31,7 +31,7 @@ fn says_signed(n: &Number) -> bool
     0x8000_0000_0000_0000 <= n.first.high && (i64::MIN < least || greatest < i64::MAX)
 }
 
-/// Adds the signed range, where that says more.
+/// Adds the signed range, if that says more.
 fn push_signed(out: &mut String, n: Number) -> Result<(), AllocError>
     ensures { OnOk result (string_bytes out.new ≡ string_bytes out.old ++ signed_text (view n)) }
 {
@@ -79,7 +79,7 @@ fn push_bits_if(out: &mut String, is_said: bool, value: u64, unknown: u64) -> Re
     }
 }
 
-/// Adds the known bits, where these say more.
+/// Adds the known bits, if these say more.
 fn push_bits(out: &mut String, n: Number) -> Result<(), AllocError>
     ensures { OnOk result (string_bytes out.new ≡ string_bytes out.old ++ bits_text (view n)) }
 {
@@ -134,7 +134,7 @@ fn push_half_if(
     }
 }
 
-/// Adds the half, where it says more.
+/// Adds the half, if it says more.
 fn push_half(out: &mut String, rules: RuleSet, n: Number) -> Result<(), AllocError>
     ensures { OnOk result (string_bytes out.new ≡ string_bytes out.old ++ half_text rules (view n)) }
 {

@@ -157,7 +157,7 @@ fn fault_wanted(fault: AsmFault) -> &'static str
     }
 }
 
-/// The line of a text that is refused, and what is wanted there; nothing where memory was refused.
+/// The line of a text that is refused, and what is wanted there; nothing if memory was refused.
 pub fn fault_text(alloc: Global, text: &str, error: &AsmError) -> Result<String, AllocError>
     ensures { IfOk result (λ t. string_bytes t ≡ fault_text text.now error.now) }
 {

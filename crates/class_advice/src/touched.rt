@@ -140,7 +140,7 @@ fn helper_touches(frame: &Frame, callee: Callee, slot: u64) -> bool
     }
 }
 
-/// Adds a slot's line, where something of it is known.
+/// Adds a slot's line, if something of it is known.
 fn push_slot(
     out: &mut String,
     rules: RuleSet,
@@ -219,7 +219,7 @@ fn is_of_slots(rule: Rule) -> bool
     }
 }
 
-/// Adds the lines of the slots that a refused instruction may touch, where the rule looks at slots.
+/// Adds the lines of the slots that a refused instruction may touch, if the rule looks at slots.
 pub(crate) fn push_touched(
     out: &mut String,
     rules: RuleSet,

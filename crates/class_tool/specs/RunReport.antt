@@ -55,7 +55,7 @@ IsReplied (Some object) class r logged = ⊤
 -- A report tells what the method's bytes do on the flat machine, in every layout, on the object
 -- that words or a file spell. If there is no object, it also tells what a group replies that has
 -- this call as its only request, which is the same outcome. The class is safe, and the file holds
--- its image.
+-- its image or its text.
 pub record Reports (disk : Option Disk) (call : MethodCall) (report : RunReport) : Type 0 where
   pub class : List ClassMethod
   pub input : List ℕ

@@ -10,10 +10,10 @@ pub struct NamedValue<'a> {
     pub value: &'a str,
 }
 
-/// A call of a method of an image's class, on the object that words or a file spell, or on none.
+/// A call of a method of a file's class, on the object that words or a file spell, or on none.
 #[derive(Drop)]
 pub struct MethodCall<'a> {
-    /// The file of the image.
+    /// The file of the class, as an image or as a text.
     pub image: &'a str,
     /// The name of the method.
     pub method: &'a str,

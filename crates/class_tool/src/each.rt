@@ -56,7 +56,7 @@ struct Judged<'a> {
 impl Judged<'_> {
     ghost use Rattle.std.specs.Prelude.{IfOk, string_bytes, ◌≡◌};
 
-    /// The note of a refusal, where that is asked for.
+    /// The note of a refusal, if that is asked for.
     fn note(&self, refusal: &Refusal) -> Result<String, AllocError>
         ensures { IfOk result (λ note. string_bytes note ≡ note_if self.now.is_explained self.now.source.now refusal.now) }
     {

@@ -44,7 +44,7 @@ pub(crate) fn source_note(
     }
 }
 
-/// The line of a refused instruction in its class's text; nothing where memory was refused.
+/// The line of a refused instruction in its class's text; nothing if memory was refused.
 fn line_note(alloc: Global, text: &str, refusal: &Refusal) -> Result<String, AllocError>
     ensures { IfOk result (λ line. string_bytes line ≡ unless_memory refusal.now.rule (source_text text.now refusal.now.method refusal.now.slot)) }
 {
@@ -54,7 +54,7 @@ fn line_note(alloc: Global, text: &str, refusal: &Refusal) -> Result<String, All
     source_text(alloc, text, refusal.method, refusal.slot)
 }
 
-/// The class that a file holds, where it is safe, and else the note of its refusal.
+/// The class that a file holds, if it is safe, and else the note of its refusal.
 fn load_noted<F: Reads>(
     alloc: Global,
     files: &F,
@@ -161,7 +161,7 @@ fn add_unread<F: Files>(alloc: Global, files: &F, failure: &Failure, note: &mut 
     }
 }
 
-/// `run` on what the files hold; and where the class can't be had, the note of `verify`.
+/// `run` on what the files hold; and if the class can't be had, the note of `verify`.
 fn run_noted<F: Files>(
     alloc: Global,
     files: &F,
@@ -271,7 +271,7 @@ fn method_note(
 }
 
 /// Puts the note of a failure of `pack` into an empty text. It fails for want of memory, and only
-/// where a method was not read.
+/// if a method was not read.
 #[rattlefmt::skip]
 fn add_pack_note<F: Files>(alloc: Global, files: &F, raws: &[RawMethod<'_>], failure: Failure, note: &mut String) -> Result<(), AllocError>
     requires { string_bytes note.old ≡ [] }

@@ -27,7 +27,7 @@ pub enum Failure {
     Text(AsmError),
     /// The file is no class image.
     Image(ImageError),
-    /// A method of the image is not safe.
+    /// A method of the class is not safe.
     Verdict(Refusal),
     /// The input is not pairs of hexadecimal digits.
     InputNotHex,

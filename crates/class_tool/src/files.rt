@@ -34,7 +34,7 @@ pub trait Files: Reads {
     ghost in_place: { Self → List ℕ → Bool } = { λ _ _. false };
 
     /// Makes those bytes the whole of the file of that name. Every other file stays as it was, also
-    /// where it fails, which `failed` tells from then on; then that file stays too, unless it is
+    /// if it fails, which `failed` tells from then on; then that file stays too, unless it is
     /// written in place.
     fn write(&mut self, name: &str, bytes: &[u8]) -> io::Result<()>
         ensures written { IfOk result (λ _. IsWritten (Self.disk self.new) name.now bytes.now) }
@@ -44,14 +44,14 @@ pub trait Files: Reads {
         ensures lost { IsErr result → failed self.new ≡ true };
 
     /// The name of the file that was last not read or written, and the system's reason, as a line;
-    /// none where that isn't known. Nothing is claimed of it.
+    /// none if that isn't known. Nothing is claimed of it.
     fn fault(&self, _alloc: Global) -> Option<String> {
         None
     }
 }
 
-/// The files of the system, and standard input under the name `-`, where it is read. Nothing is
-/// claimed of what they hold. A file is written beside its place and renamed over it; what is no
+/// The files of the system, and standard input under the name `-`, if it is read. Nothing is
+/// claimed of what they hold. A file is written next to its place and renamed over it; what is no
 /// regular file is written in place.
 #[derive(Drop)]
 pub struct SystemFiles<'a, R> {

@@ -54,7 +54,7 @@ fn is_long_text(bytes: &[u8]) -> bool
     bytes.len() > TEXT_LIMIT && !is_for_image(&bytes[..TEXT_LIMIT + 1])
 }
 
-/// The text that bytes are, where they are read as one.
+/// The text that bytes are, if they are read as one.
 fn text_in(alloc: Global, bytes: &[u8]) -> Result<Option<String>, AllocError>
     ensures some { IfOk result (λ found. IfSome found (λ text. (string_bytes text ≡ bytes.now) × IsText bytes.now)) }
     ensures none { IfOk result (λ found. IfNone found (IsText bytes.now → ⊥)) }
@@ -84,7 +84,7 @@ fn class_of_text(alloc: Global, text: &str) -> Result<ClassImage, Failure>
 const IMAGE_WANTED: &str =
     "  wanted: an image, which begins with RCL1, RCL2 or RCL3, or a class's text in UTF-8\n  see docs/IMAGE.md\n";
 
-/// The note of an image that says no class; nothing where memory was refused.
+/// The note of an image that says no class; nothing if memory was refused.
 #[rattlefmt::skip]
 fn image_note(error: DecodeError) -> &'static str
     ensures { result.now ≡ image_note error }
@@ -248,7 +248,7 @@ pub fn read_class<F: Reads>(
     }
 }
 
-/// The class whose image or text a file holds, where it is safe: each method runs to its exit on
+/// The class whose image or text a file holds, if it is safe: each method runs to its exit on
 /// every object and input.
 pub fn load<F: Reads>(alloc: Global, files: &F, image: &str) -> Result<VerifiedClass, Failure>
     ensures safe { IfOk result (IsSafeIn (F.disk files.now) image.now) }

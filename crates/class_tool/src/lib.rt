@@ -1,5 +1,5 @@
 //! Does what the words of the program `radoscls` ask for: `find` tells whether a class is safe,
-//! calls a method of one, writes the image of a text or of raw code, or gives the text of an image.
+//! calls a method of one, writes the image of a text or of raw code, or gives the text of a class.
 //! Its answer is true of the files as they were, and a failure says why, the first reason in a
 //! stated order. `verify_each` tells it of each method. Only an image is written, or a call's
 //! object, to the file that is named for it, and only if it is right; a failed write leaves that

@@ -16,7 +16,7 @@ pub trait Output {
     // True if a write or a flush of it failed.
     ghost failed: { Self → Bool };
 
-    /// Prints a whole text, and lets nothing of it wait. It fails exactly where a write or a flush
+    /// Prints a whole text, and lets nothing of it wait. It fails exactly if a write or a flush
     /// does, which `failed` tells from then on; then a beginning of the text was printed.
     fn print<D: fmt::Display + Drop>(&mut self, text: D) -> io::Result<()>
         ensures printed { OnOk result (IfSome (D.output text) (Appends (printed self.old) (printed self.new))) }
@@ -70,7 +70,7 @@ impl<W: io::Write> Output for Printer<W> {
     }
 }
 
-/// Writes bytes. Where a write fails, a beginning of them was written.
+/// Writes bytes. If a write fails, a beginning of them was written.
 fn write_bytes<W: io::Write>(writer: &mut W, bytes: &[u8]) -> io::Result<()>
     ensures all { OnOk result (Appends (W.contents writer.old) (W.contents writer.new) bytes.now) }
     ensures begun { OnErr result (Begins (W.contents writer.old) (W.contents writer.new) bytes.now) }
@@ -102,7 +102,7 @@ fn window_of<D: fmt::Display>(text: &D, skip: usize) -> Result<Window, fmt::Erro
     Ok(window)
 }
 
-/// Writes a whole text, a window of it after the other, and flushes it. Where that fails, a
+/// Writes a whole text, a window of it after the other, and flushes it. If that fails, a
 /// beginning of it was written. A text that fits into a window is formatted once; a longer one once
 /// for each, so that nothing is written of one whose formatting fails midway.
 fn print_whole<W: io::Write, D: fmt::Display + Drop>(writer: &mut W, text: D) -> io::Result<()>

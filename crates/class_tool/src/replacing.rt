@@ -1,4 +1,4 @@
-//! Writes a file whole or not at all: beside it, and renamed over it.
+//! Writes a file whole or not at all: as a new file next to it, which is renamed over it.
 
 use std::fs::{self, File, OpenFile, OpenOptions, Permissions};
 use std::io::{self, ErrorKind, Write};
@@ -12,7 +12,7 @@ const LINKS: usize = 40;
 /// The most names that are tried for a new file.
 const TRIES: u32 = 8;
 
-/// True if a name is one of the system's, beside which no file can be created: a process's open
+/// True if a name is one of the system's, next to which no file can be created: a process's open
 /// file, as `/dev/stdout` leads to.
 fn is_of_system(name: &str) -> bool {
     name.starts_with("/proc/") || name.starts_with("/dev/fd/")
@@ -76,7 +76,7 @@ fn fill<F: Write + OpenFile>(
     file.sync_all()
 }
 
-/// Puts a new file in the place of a file, or of none. Where that fails the new one is removed.
+/// Puts a new file in the place of a file, or of none. If that fails the new one is removed.
 fn replace<R: Files + AllocGlobal + Clock>(
     rt: &R,
     target: &PathBuf,
@@ -109,7 +109,7 @@ fn write_regular<R: Files + AllocGlobal + Clock>(
     }
 }
 
-/// Writes a file that is open for it: in place where it is no regular one.
+/// Writes a file that is open for it: in place if it is no regular one.
 fn write_open<R: Files + AllocGlobal + Clock>(
     rt: &R,
     name: &str,
@@ -124,7 +124,7 @@ fn write_open<R: Files + AllocGlobal + Clock>(
     write_regular(rt, name, bytes, Some(found.permissions()))
 }
 
-/// Makes those bytes the whole of the file of that name. Where it fails, a regular file is as it
+/// Makes those bytes the whole of the file of that name. If it fails, a regular file is as it
 /// was, and there is no other. Of a symbolic link the target is written. A file that may not be
 /// written isn't replaced, nor is one in whose folder no file may be created. The file's mode stays.
 pub(crate) fn write_whole<R: Files + AllocGlobal + Clock>(

@@ -173,7 +173,7 @@ pub fn run<F: Reads>(alloc: Global, files: &F, asked: &MethodCall<'_>) -> Result
     run_safe(alloc, files, class, asked)
 }
 
-/// Saves the object after a call where a file is named for it.
+/// Saves the object after a call if a file is named for it.
 pub(crate) fn keep<F: Files>(
     alloc: Global,
     files: &mut F,
@@ -186,7 +186,7 @@ pub(crate) fn keep<F: Files>(
     save(alloc, files, asked.save, report.after.as_ref())
 }
 
-/// The same, and the object is saved where a file is named for it.
+/// The same, and the object is saved if a file is named for it.
 pub fn run_and_save<F: Files>(
     alloc: Global,
     files: &mut F,

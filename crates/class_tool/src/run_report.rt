@@ -22,9 +22,9 @@ pub struct RunReport {
     pub steps: usize,
     /// The sizes of the object's parts after the call; `None` if it is absent.
     pub object: Option<Holdings>,
-    /// The lines of all that the object holds then, where they are asked for.
+    /// The lines of all that the object holds then, if they are asked for.
     pub shown: String,
-    /// The object after the call; `None` where it is absent.
+    /// The object after the call; `None` if it is absent.
     pub(crate) after: Option<Object>,
 }
 
@@ -89,7 +89,7 @@ impl RunReport {
         })
     }
 
-    /// The output as it is printed: its digits, or `-` where there are none.
+    /// The output as it is printed: its digits, or `-` if there are none.
     fn shown_output(&self) -> &str
         ensures { result.now ≡ or_dash (string_bytes self.now.output) }
     {

@@ -174,7 +174,7 @@ fn spells(alloc: Global, text: &str, object: Option<&Object>) -> Result<bool, Fa
 }
 
 /// Writes an object's text to the file that is named for it. The text is read back first, and not
-/// written where it spells another object: what was saved is loaded as it was.
+/// written if it spells another object: what was saved is loaded as it was.
 pub(crate) fn save<F: Files>(
     alloc: Global,
     files: &mut F,

@@ -9,7 +9,7 @@ ghost use Rattle.class_tool.specs.Shown.{content_text, data_line, entry_line, is
 use object_store::Object;
 use std::alloc::{AllocError, Global};
 
-/// Adds bytes in hexadecimal, or `-` where there are none.
+/// Adds bytes in hexadecimal, or `-` if there are none.
 fn push_bytes(alloc: Global, out: &mut String, bytes: &[u8]) -> Result<(), AllocError>
     ensures { OnOk result (string_bytes out.new ≡ string_bytes out.old ++ or_dash (encode_lower bytes.now)) }
 {

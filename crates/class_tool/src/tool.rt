@@ -40,7 +40,7 @@ fn disassembled<F: Files>(
 }
 
 /// Does what is asked for. The answer is true of the files as they were. No file is written but the
-/// one that is named for the image of a text or of raw code, and that one only where it is right, or
+/// one that is named for the image of a text or of raw code, and that one only if it is right, or
 /// for a call's object; a failure says why, the first reason in the order of `Fails`.
 pub fn find<F: Files>(
     alloc: Global,

@@ -6,8 +6,8 @@ use std::fmt;
 /// The most bytes that a window shows.
 pub(crate) const ROOM: usize = 1_024;
 
-/// Shows a part of the text that is written to it: what comes after the first bytes, so many, as far
-/// as there is room. It takes no memory but its own.
+/// Shows a part of the text that is written to it: what comes after a number of bytes, as far as
+/// there is room. It takes no memory but its own.
 #[derive(Drop)]
 pub(crate) struct Window {
     skip: usize,

@@ -95,7 +95,7 @@ impl Figures {
         }
     }
 
-    /// Notes that the first call begins, where none has begun: what was sent up to it isn't counted.
+    /// Notes that the first call begins, if none has begun: what was sent up to it isn't counted.
     /// So that this is all that the groups' first maps take, it waits until workers have had nothing
     /// to do for a while, and not without end.
     pub fn begin<C: Clock>(&self, clock: &C) {

@@ -51,7 +51,7 @@ impl<'a, E> Meter<'a, E> {
 }
 
 impl<E: io::Write> Meter<'_, E> {
-    /// Notes how many calls there are, and that none was made yet. Where no line is wanted, the clock
+    /// Notes how many calls there are, and that none was made yet. If no line is wanted, the clock
     /// isn't read.
     pub fn begin<C: Clock>(&mut self, clock: &C, all: u64) {
         if self.err.is_some() {
@@ -61,7 +61,7 @@ impl<E: io::Write> Meter<'_, E> {
         }
     }
 
-    /// Looks at the clock, and tells how many of all calls are answered, where a second has passed.
+    /// Looks at the clock, and tells how many of all calls are answered, if a second has passed.
     pub fn look<C: Clock>(&mut self, clock: &C) {
         let now = shown_by(clock);
         if now.saturating_sub(self.looked) < LOOK {

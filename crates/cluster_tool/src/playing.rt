@@ -47,7 +47,7 @@ pub(crate) fn play<
     Ok(play_while_served(alloc, &running, plan, meter))
 }
 
-/// Plays a plan while all workers serve. Where the thread that they start from can't be had, nothing
+/// Plays a plan while all workers serve. If the thread that they start from can't be had, nothing
 /// is played: no call would be answered.
 fn play_while_served<N: ClusterName + Send + Sync, R: Threads + Wait + Clock + Sync, E: io::Write>(
     alloc: Global,

@@ -146,7 +146,7 @@ impl Form {
     }
 }
 
-/// The lines of all calls of these steps, by client from 1 on; where the number of groups is given,
+/// The lines of all calls of these steps, by client from 1 on; if the number of groups is given,
 /// with what was asked.
 pub(crate) fn lines_of(
     alloc: Global,

@@ -60,8 +60,8 @@ struct Printout {
 /// others.
 ///
 /// A failure says why nothing was done, the first reason in this order: a built-in class can't be
-/// had, which memory alone is known to cause; the image of a tenant's class can't be loaded, the
-/// first one in their order; the file can't be read or is no text. Nothing was printed then. It
+/// had, which memory alone is known to cause; a tenant's class can't be loaded, the first one
+/// in their order; the file can't be read or is no text. Nothing was printed then. It
 /// starts threads and waits for them: nothing is said of when it ends. What the run took is added
 /// to the meter's figures.
 pub fn cluster<

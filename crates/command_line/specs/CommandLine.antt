@@ -72,7 +72,7 @@ abbrev pub pack_line : App
 pack_line =
     with_rule (with_rule (with_rule (with_rule (new_app (codes "pack")) (required_rule (codes "OUT"))) methods_rule) rules_rule) explain_rule
 
--- `dis`, which makes a text of an image
+-- `dis`, which gives the text of a class
 abbrev pub dis_line : App
 dis_line = with_rule (with_rule (with_rule (new_app (codes "dis")) (required_rule (codes "IN"))) (flag_rule (codes "slots"))) explain_rule
 
@@ -102,11 +102,11 @@ abbrev pub plain_line : App
 plain_line = let named = new_app (codes "radoscls") in
     record named { top = record named.top { has_version = true; arg_required_else_help = true; subcommand_required = true } }
 
--- with the subcommands of images alone
+-- with the subcommands that judge a class and call it
 abbrev pub image_line : App
 image_line = with_subcommand (with_subcommand plain_line verify_line.top) run_line.top
 
--- with those of texts too
+-- with those that make images and texts too
 abbrev pub class_line : App
 class_line = with_subcommand (with_subcommand (with_subcommand image_line asm_line.top) pack_line.top) dis_line.top
 

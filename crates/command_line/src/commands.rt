@@ -199,7 +199,7 @@ fn plain_command<'a>(alloc: Global) -> Command<'a>
         .arg_required_else_help(true)
 }
 
-/// The command with the subcommands of images alone.
+/// The command with the subcommands that judge a class and call it.
 fn image_command<'a>(alloc: Global) -> Result<Command<'a>, AllocError>
     ensures { IfOk result (λ c. app_of c ≡ image_line) }
 {

@@ -23,7 +23,7 @@ without_empty_end lines = if ends_empty lines then take (length lines - 1) lines
 abbrev pub ended_lines_of : List ℕ → List (List ℕ)
 ended_lines_of text = without_empty_end (lines_of text)
 
--- WORDS of a line: what stands between spaces and tabs, where something does.
+-- WORDS of a line: what stands between spaces and tabs, if anything does.
 abbrev pub words_in : List ℕ → List (List ℕ)
 words_in piece = filter (λ w. not (length w == 0)) (slice_split (λ b. b == 9) piece)
 
@@ -36,7 +36,7 @@ words line = flat_map words_in (slice_split (λ b. b == 32) line)
 abbrev pub number_in : List ℕ → Option ℕ
 number_in word = if is_decimal word then Some (min (digits_value 10 word) (2 ^ 64 - 1)) else None
 
--- each word's number, where each is one
+-- each word's number, if each is one
 abbrev pub onto : ℕ → Option (List ℕ) → Option (List ℕ)
 onto n None = None
 onto n (Some ns) = Some (n ∷ ns)

@@ -32,7 +32,7 @@ pub record TakesPacking (p : Parsed) (asked : Packing) : Type 0 where
   pub rules : option_and_then rules_named (one_in p (codes "rules")) ≡ Some asked.rules
   pub methods : AreRaw (all_in p (codes "METHOD")) asked.methods.items
 
--- `run` takes, not counting the object: the file IN of the image, METHOD, the bytes that --input
+-- `run` takes, not counting the object: the file IN of the class, METHOD, the bytes that --input
 -- spells, and the client with the number --caller.
 pub record TakesPlain (p : Parsed) (call : Plain) : Type 0 where
   pub image : one_in p (codes "IN") ≡ Some call.image.now

@@ -40,7 +40,7 @@ call_values p =
 abbrev pub value_file : Text → List Text
 value_file text = named (file_of text)
 
--- the files that a command line has read, each as often as it names it: IN, FILE, the images of
+-- the files that a command line has read, each as often as it names it: IN, FILE, those of
 -- --class, raw code, those of values, and that of --load
 abbrev pub files_read : Parsed → List Text
 files_read p =

@@ -11,7 +11,7 @@ use Rattle.tenant_classes.specs.declared.tenant_class.TheConstants.{TENANT_LIMIT
 abbrev pub is_equals : ℕ → Bool
 is_equals b = b == 61
 
--- the name is before the first `=`, and the file of the image after it
+-- the name is before the first `=`, and the file of the image or text after it
 abbrev pub name_in : Text → Text
 name_in text = before_first is_equals text
 
@@ -39,7 +39,7 @@ are_behind used (text ∷ texts) = is_tenant used text && are_behind (used ++ na
 abbrev pub are_tenants : List Text → Bool
 are_tenants texts = nat_le (length texts) TENANT_LIMIT && are_behind (names_of []) texts
 
--- a class's name and the file of its image
+-- a class's name and the file of its image or text
 abbrev pub parts_of : TenantClass → Text × Text
 parts_of o = (o.name.now, o.image.now)
 

@@ -48,7 +48,7 @@ fn push_named<'a>(names: &mut Vec<&'a str>, name: Option<&'a str>) -> Result<(),
     Ok(())
 }
 
-/// Adds the files of images that texts name.
+/// Adds the files of tenants' classes that texts name.
 fn push_images<'a>(names: &mut Vec<&'a str>, texts: &[&'a str]) -> Result<(), AllocError>
     ensures { OnOk result (map (λ n. n.now) names.new.items ≡ map (λ n. n.now) names.old.items ++ map image_in (map (λ t. t.now) texts.now)) }
 {

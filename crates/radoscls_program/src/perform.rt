@@ -84,7 +84,7 @@ fn tell_saved<E: io::Write>(action: &Action<'_>, err: &mut E) {
     }
 }
 
-/// Does what is asked of a class, and prints it. Where an answer could not be printed, a line on
+/// Does what is asked of a class, and prints it. If an answer could not be printed, a line on
 /// `err` says that a call's object was saved: the same call again would count twice.
 fn act<F: Files, O: Output, E: io::Write>(
     alloc: Global,
@@ -151,7 +151,7 @@ fn act_call<F: Files, O: Output, E: io::Write>(
     }
 }
 
-/// Plays a file of events, and prints why where that comes to nothing or ends for want of memory.
+/// Plays a file of events, and prints why if that comes to nothing or ends for want of memory.
 fn play<F: Reads, O: Output>(
     alloc: Global,
     files: &F,
@@ -230,7 +230,7 @@ fn explain<O: Output, E: io::Write>(error: &Unparsed, out: &mut O, err: &mut E) 
     ExitStatus::Usage
 }
 
-/// Does what the words ask for, and says why where they name no task.
+/// Does what the words ask for, and says why if they name no task.
 pub(crate) fn perform<
     S: AsStr,
     R: AllocGlobal + Threads + Wait + Clock + Sync,
@@ -257,11 +257,11 @@ pub(crate) fn perform<
 /// Does what the words ask for; the first is the program's own name. Answers and refusals are
 /// printed on `out`, a line each; usage and help on `err`.
 ///
-/// The answer is what the process ends with: 0 where it was done and printed, 1 where it was
+/// The answer is what the process ends with: 0 if it was done and printed, 1 if it was
 /// refused, or a write or a flush of `out` failed, and then a beginning of it was printed; 2 after
-/// usage or help, where the words name no task without a fault. No file is written but the one that
-/// `asm` or `pack` names for the image, and that one only where the text or the raw code is right,
-/// and the one that `run --save` names for the object; where that fails, it is as it was. If only
+/// usage or help, if the words name no task without a fault. No file is written but the one that
+/// `asm` or `pack` names for the image, and that one only if the text or the raw code is right,
+/// and the one that `run --save` names for the object; if that fails, it is as it was. If only
 /// the answer of a call could not be printed, a line on `err` says that its object was saved.
 /// `sim` prints of each line of its file what it comes to before the next is done; `cluster` prints
 /// its lines once all calls have ended.
@@ -279,7 +279,7 @@ pub fn program<
     ensures done { result ≡ 0 → IsDone (storage F.disk F.failed F.in_place files.old) (storage F.disk F.failed F.in_place files.new) (stream O.printed O.failed out.old) (stream O.printed O.failed out.new) (map S.text words.now) }
     ensures refused { result ≡ 1 → IsRefused (storage F.disk F.failed F.in_place files.old) (storage F.disk F.failed F.in_place files.new) (stream O.printed O.failed out.old) (stream O.printed O.failed out.new) (map S.text words.now) }
     ensures usage { result ≡ 2 → IsUsage (storage F.disk F.failed F.in_place files.old) (storage F.disk F.failed F.in_place files.new) (stream O.printed O.failed out.old) (stream O.printed O.failed out.new) (map S.text words.now) }
-    // Where a write or a flush of `out` fails, the ending is 1.
+    // If a write or a flush of `out` fails, the ending is 1.
     ensures failed { O.failed out.old ≡ false → O.failed out.new ≡ true → result ≡ 1 }
 {
     perform(rt, words, files, out, err).code()

@@ -28,8 +28,8 @@ fn words<R: Env + AllocGlobal>(rt: &R) -> io::Result<Vec<String>> {
     Ok(env::args(rt)?.collect(rt.alloc())?)
 }
 
-/// Says why there are no words: on `out` where memory for them was refused, and on `err`, as of
-/// wrong words, where one of them is no text.
+/// Says why there are no words: on `out` if memory for them was refused, and on `err`, as of
+/// wrong words, if one of them is no text.
 fn unstarted<O: Output, E: io::Write>(error: &io::Error, out: &mut O, err: &mut E) -> ExitStatus
     ensures unstarted { (files : Storage) → IsUnstarted files files (stream O.printed O.failed out.old) (stream O.printed O.failed out.new) result }
     ensures memory { (result ≡ ExitStatus.Refused) ↔ (error_kind error.now ≡ ErrorKind.OutOfMemory) }
@@ -62,7 +62,7 @@ pub fn end_of<
 }
 
 /// Runs `end_of` on the process's own words and files, and gives the number of its status:
-/// `program`'s answer, or where the words could not be read 1 for want of memory, of which a line is
+/// `program`'s answer, or if the words could not be read 1 for want of memory, of which a line is
 /// printed, and 2 for a word that is no text, which a line on `err` says.
 pub fn start<
     R: Env + Files + AllocGlobal + Input + Threads + Wait + Clock + Sync,

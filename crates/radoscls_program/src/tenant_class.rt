@@ -37,8 +37,8 @@ fn is_taken(name: &str, tenants: &[TenantClass<'_>]) -> bool
     name == "lock" || name == "obj" || is_used(name, tenants)
 }
 
-/// The class that a text spells: its name stands before the first `=`, the file of its image after
-/// it.
+/// The class that a text spells: its name stands before the first `=`, the file of its image or
+/// text after it.
 fn tenant_class<'a>(text: &'a str) -> Option<TenantClass<'a>>
     ensures none { IfNone result (list_any is_equals text.now ≡ false) }
     ensures some { IfSome result (λ o. (list_any is_equals text.now ≡ true) × (o.name.now ≡ name_in text.now) × (o.image.now ≡ image_in text.now)) }

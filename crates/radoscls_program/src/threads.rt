@@ -11,7 +11,7 @@ use std::sync::Wait;
 use std::thread::Threads;
 use std::time::Clock;
 
-/// Plays a file of calls and maps, and prints why where that comes to nothing or ends for want of
+/// Plays a file of calls and maps, and prints why if that comes to nothing or ends for want of
 /// memory.
 pub(crate) fn play_cluster<
     R: AllocGlobal + Threads + Wait + Clock + Sync,

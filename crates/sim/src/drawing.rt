@@ -20,7 +20,7 @@ use std::marker::Brand;
 /// A drawing of a file.
 #[derive(Drop)]
 pub(crate) struct Traced {
-    /// The drawing; where a line is bad, of the lines above it, and then the line that says so.
+    /// The drawing; if a line is bad, of the lines above it, and then the line that says so.
     pub(crate) text: String,
     /// A line is bad.
     pub(crate) bad: bool,

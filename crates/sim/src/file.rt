@@ -113,8 +113,8 @@ fn run_lines<C: Classes, O: Output>(setup: &Setup<'_>, lines: &[&str], out: &mut
 /// Does the lines of a text, and prints of each what it comes to before the next is done. Requests
 /// go to the classes by their names; another word is a class that isn't loaded.
 ///
-/// It ends with `Bad` at the first bad line, whose number is printed; with `NoMemory` where memory
-/// is refused, and then prints nothing of that line; and where a write or a flush fails.
+/// It ends with `Bad` at the first bad line, whose number is printed; with `NoMemory` if memory
+/// is refused, and then prints nothing of that line; and if a write or a flush fails.
 pub(crate) fn run<O: Output>(setup: &Setup<'_>, text: &str, out: &mut O) -> SimulationEnd
     ensures { EndsBy setup.now.table.now (map (λ n. n.now) setup.now.names.now) (lines_of text.now) (O.printed out.old) (O.printed out.new) (O.failed out.old) (O.failed out.new) result }
 {

@@ -18,8 +18,8 @@ use tenant_classes::{class_names, classes};
 /// tenants' classes, by their names.
 ///
 /// A failure says why no line was done, the first reason in this order: a built-in class can't be
-/// had, which memory alone is known to cause; the image of a tenant's class can't be loaded, the
-/// first one in their order; the file can't be read or is no text. Nothing was printed then.
+/// had, which memory alone is known to cause; a tenant's class can't be loaded, the first one
+/// in their order; the file can't be read or is no text. Nothing was printed then.
 pub fn simulate<F: Reads, O: Output>(
     alloc: Global,
     files: &F,

@@ -3,7 +3,7 @@
 ghost use Rattle.std.specs.Prelude.{◌≡◌, ◌≤◌, ◌-◌, option_copied};
 ghost use Rattle.sim_text.specs.Lines.{numbered};
 
-/// The one of that number, where the items are numbered from 1, as maps and messages are.
+/// The one of that number, if the items are numbered from 1, as maps and messages are.
 pub fn numbered<T>(items: &[T], number: u64) -> Option<&T>
     ensures { option_copied result ≡ numbered items.now number }
 {

@@ -69,7 +69,7 @@ is_same_party (AClient c) other = is_client other c
 abbrev pub is_same_packet : Packet → Packet → Bool
 is_same_packet p q = is_same_party p.receiver q.receiver && (is_same_party p.message.sender q.message.sender && is_same_kind p.message.kind q.message.kind)
 
--- The lowest number of an equal message, from a number on; the one past the last where there is
+-- The lowest number of an equal message, from a number on; the one past the last if there is
 -- none.
 abbrev pub number_from : ℕ → Packet → List Packet → ℕ
 number_from number p [] = number

@@ -50,7 +50,7 @@ stays p taken = record { played = p; taken = taken }
 abbrev pub happened : Played → WorldEvent → Taken → Happened
 happened p event taken = record { played = record { world = happens p.world event; stopped = p.stopped; events = p.events ++ event ∷ [] }; taken = taken }
 
--- AT A NODE. Where it is stopped nothing happens; a node that isn't there is bad.
+-- AT A NODE. If it is stopped nothing happens; a node that isn't there is bad.
 abbrev pub is_node : Played → ℕ → Bool
 is_node p n = nat_lt n (length p.stopped)
 

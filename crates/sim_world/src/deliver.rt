@@ -103,7 +103,7 @@ fn delivery_of<C: Classes>(
 }
 
 impl<C: Classes> Parts<C> {
-    /// The monitor is asked to activate an interval, and says so where it does.
+    /// The monitor is asked to activate an interval, and says so if it does.
     fn activate(&mut self, asker: Party, interval: Epoch) -> Result<Taken, AllocError>
         ensures { IfOk result (λ t. record { parts = self.new; taken = t } ≡ activated self.old asker interval (activation_refusal self.old.monitor interval)) }
     {

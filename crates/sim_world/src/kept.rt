@@ -16,8 +16,8 @@ pub struct KeptMessage {
 }
 
 impl KeptMessage {
-    /// A message of a sender that has committed so many entries, to a receiver that has reported so
-    /// many.
+    /// A message of a sender that has committed `committed` entries, to a receiver that has
+    /// reported `reported`.
     pub(crate) fn new(committed: usize, reported: usize, packet: Packet) -> KeptMessage
         ensures { result ≡ kept_as committed reported packet }
     {

@@ -286,7 +286,7 @@ impl<C: Classes> Parts<C> {
         Ok(self.stands(node))
     }
 
-    /// Does a line. Where memory is refused, the parts are of no further use.
+    /// Does a line. If memory is refused, the parts are of no further use.
     pub(crate) fn take(&mut self, table: &ClassTable, line: Line) -> Result<Taken, AllocError>
         requires { table.now ≡ C.classes }
         ensures { IfOk result (λ t. record { parts = self.new; taken = t } ≡ turn table.now self.old line) }

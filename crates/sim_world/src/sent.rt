@@ -69,7 +69,7 @@ fn last_number(kept: &Vec<KeptMessage>) -> usize
     kept.len()
 }
 
-/// Keeps a message after the others, and its number in its bucket. Where memory is refused, both
+/// Keeps a message after the others, and its number in its bucket. If memory is refused, both
 /// are as before.
 fn keep_numbered(
     kept: &mut Vec<KeptMessage>,

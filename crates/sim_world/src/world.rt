@@ -15,7 +15,7 @@ use std::marker::Model;
 
 /// A played world, for the classes that `C` names: a world of the group that events lead to, and
 /// which of the nodes 0 to 15 are stopped. Contracts see how it is held; `Holds` says of which
-/// played world that is. Where memory was refused at a line, it is lost.
+/// played world that is. If memory was refused at a line, it is lost.
 #[derive(Drop)]
 pub struct World<C: Classes> {
     parts: Parts<C>,
@@ -54,7 +54,7 @@ impl<C: Classes> World<C> {
         self.parts.messages()
     }
 
-    /// The node of a number, as it stands; none where the number is past 15.
+    /// The node of a number, as it stands; none if the number is past 15.
     pub fn node(&self, number: NodeId) -> Option<&GroupNode<C>>
         ensures { IsNodeAt C.classes self.now number (option_copied result) }
     {
@@ -75,7 +75,7 @@ impl<C: Classes> World<C> {
         if self.is_lost {
             return Err(AllocError);
         }
-        // Where memory is refused amid the line, it stays so.
+        // If memory is refused amid the line, it stays so.
         self.is_lost = true;
         let taken = self.parts.take(table, line)?;
         self.is_lost = false;
