@@ -28,12 +28,12 @@ caps_in s = s.memory.machine.caps
 abbrev pub layout_in : FlatState → Layout
 layout_in s = layout_of s.memory.machine.layout
 
--- what a step left, as the definition has it; where there is none, nothing is said of the state
+-- what a step left, as the definition has it; if there is none, nothing is said of the state
 abbrev pub GivesState : {A : Type 0} → Option A → State ℕ → Option (State ℕ) → Type 0
 GivesState (Some x) after step = step ≡ Some after
 GivesState None after step = step ≡ None
 
--- the step that sets a register to a value and goes on at the next slot; there is none where there
+-- the step that sets a register to a value and goes on at the next slot; there is none if there
 -- is no value
 abbrev pub sets : ℕ → State ℕ → Option ℕ → Option (State ℕ)
 sets d s value = value >>= λ v. after s (set_reg s d v)
@@ -51,7 +51,7 @@ range_at caps lay s writes k =
 abbrev pub may_call : Caps → ℕ → Bool
 may_call caps id = unwrap_or (option_map (λ takes. not takes.writes || caps.writes) (signature_of id)) false
 
--- a helper by its row of the table, where the method may call it
+-- a helper by its row of the table, if the method may call it
 abbrev pub helped : Caps → Layout → Helper → State ℕ → Option (State ℕ)
 helped caps lay h s =
     arguments caps lay s (row h).takes.arguments 1 >>= λ g.
@@ -63,7 +63,7 @@ abbrev pub with_answer : State ℕ → ℕ → State ℕ
 with_answer s n = record s { regs = answered s.regs n }
 
 -- a helper's answer, which is still to be put in register 0, and what it left of the state; none
--- where there is no step
+-- if there is no step
 abbrev pub Answers : Option ℕ → State ℕ → Option (State ℕ) → Type 0
 Answers (Some n) s step = step ≡ Some (with_answer s n)
 Answers None s step = step ≡ None
