@@ -148,8 +148,8 @@ put_back x c =
 abbrev pub put_both_back : Plain → Plain → Pair → Option Pair
 put_both_back x y s = both (put_back x s.0) (put_back y s.1)
 
--- Along an edge. Of whole numbers no half is looked at; with halves a comparison of 32 bits is one of
--- the cuts.
+-- Along an edge. Of whole numbers no half is looked at; with halves a comparison of 32 bits is one
+-- of the cuts.
 abbrev pub along : Precision → OpWidth → Comparison → Bool → Plain → Plain → Option Pair
 along Whole bits comparison taken x y =
     option_and_then (tightened Whole) (refined bits comparison taken (with_any_half x) (with_any_half y))

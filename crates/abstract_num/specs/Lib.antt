@@ -1,7 +1,7 @@
 -- A reader must believe Signed, Masks and Plain (what is known of a number, and which numbers that
 -- holds), Tighten, Transfer and Edges (what operations and comparisons make of it), with the tables
--- UnsignedRows, SignedRows, BitsRows, HalfRows and their Facts. Keeping and Laws are proved of them. Meaning,
--- Parts, Both and Refined are what the code's parts say; proved has proofs.
+-- UnsignedRows, SignedRows, BitsRows, HalfRows and their Facts. Keeping and Laws are proved of
+-- them. Meaning, Parts, Both and Refined are what the code's parts say; proved has proofs.
 pub mod Signed
 pub mod Masks
 pub mod Plain

@@ -1,6 +1,6 @@
 -- A number in plain numbers: the unsigned range [low, high], the signed range [least, greatest],
--- the bits of value that unknown leaves known, and the half: the range [half_least, half_greatest] of
--- the low 32 bits as a signed number.
+-- the bits of value that unknown leaves known, and the half: the range [half_least, half_greatest]
+-- of the low 32 bits as a signed number.
 use Rattle.std.specs.Prelude.{◌≡◌, ℕ, ℤ, pos, negsuc, ◌-◌, ◌^◌, ◌<◌, ◌≤◌, ◌≤ℤ◌, min, max, bit_or, bit_xor, Option, Some, None, MatchOption, IsSomeAnd}
 use Rattle.std.specs.Int.{int_min, int_max}
 use Rattle.abstract_num.specs.Signed.{signed, signed_half}
@@ -23,8 +23,8 @@ pub record Plain : Type 0 where
   pub half_least : ℤ
   pub half_greatest : ℤ
 
--- n is below 2 ^ 64, lies in both ranges, agrees with the known bits, and has a low half that lies in
--- the half
+-- n is below 2 ^ 64, lies in both ranges, agrees with the known bits, and has a low half that lies
+-- in the half
 pub record Holds (x : Plain) (n : ℕ) : Type 0 where
   pub fits : n < 2 ^ 64
   pub above : x.low ≤ n

@@ -39,8 +39,8 @@ pub fn keeping_laws()
     ensures join { JoinKeeps }
 {}
 
-/// A law. With `Precision::Whole` an answer has any half, but a copy of 64 bits, which is the number
-/// as it is.
+/// A law. With `Precision::Whole` an answer has any half, but a copy of 64 bits, which is the
+/// number as it is.
 pub fn whole_laws()
     ensures { WholeHasAnyHalf }
 {}

@@ -135,8 +135,8 @@ fn short_end(comparison: Comparison) -> u64
     }
 }
 
-/// True if the comparison refines its numbers, without halves: one of 32 bits does so only if both are so small
-/// that their low halves compare as they do.
+/// True if the comparison refines its numbers, without halves: one of 32 bits does so only if both
+/// are so small that their low halves compare as they do.
 #[inline(always)]
 fn tells(bits: OpWidth, comparison: Comparison, x: Number, y: Number) -> bool
     ensures { result ≡ tells bits comparison (view x) (view y) }

@@ -388,8 +388,8 @@ fn extended(precision: Precision, extension: SignedMove, x: Number) -> Option<Nu
     }
 }
 
-/// A copy with sign extension: exact of a constant, and else any number of its width, or with halves
-/// what its shifts make. None if no number is left.
+/// A copy with sign extension: exact of a constant, and else any number of its width, or with
+/// halves what its shifts make. None if no number is left.
 pub fn sign_extended(precision: Precision, extension: SignedMove, x: Number) -> Option<Number>
     ensures table { Gives (sign_extended precision extension (view x)) result }
     ensures keeps { (n : ℕ) → Holds (view x) n → Kept result (signed_move_value extension n) }

@@ -1,5 +1,5 @@
--- What a frame holds before an instruction, a frame along an edge holds after it, where its links are those
--- after it already.
+-- What a frame holds before an instruction, a frame along an edge holds after it, where its links
+-- are those after it already.
 use Rattle.std.proofs.Common.{◌≡◌, ℕ, ℤ, pos, negsuc, zero, suc, ◌+◌, ◌*◌, ◌%◌, ◌^◌, ◌<◌, ◌≤◌, List, [], ◌∷◌, ◌++◌, length, Option, Some, None, Bool, true, false, refl, inl, inr, ap, ◌∙◌, sym, subst, arith, drop, IsSomeAnd}
 use Rattle.std.specs.Prelude.{slice_get, slice_set, ◌==◌, FitsSigned, if◌then◌else◌}
 use Rattle.std.specs.Int.{w16, w32}

@@ -1,5 +1,5 @@
--- The links that an instruction leaves are true after it; so what a frame holds before, a frame along an
--- edge holds after it.
+-- The links that an instruction leaves are true after it; so what a frame holds before, a frame
+-- along an edge holds after it.
 use Rattle.std.proofs.Common.{◌≡◌, ◌≢◌, ℕ, zero, suc, ◌+◌, ◌-◌, ◌*◌, ◌%◌, ◌^◌, ◌<◌, ◌≤◌, List, [], ◌∷◌, length, Option, Some, None, Bool, true, false, cond, refl, ap, ◌∙◌, sym, subst, arith, drop}
 use Rattle.std.specs.Prelude.{slice_set, ◌==◌, ◌&&◌, nat_lt, nat_le}
 use Rattle.std.proofs.lemmas.Bool.{false≢true, eqb-true, ltb-true, cond_both}

@@ -1,4 +1,5 @@
--- Instructions keep the number of places that may be linked, and give links no names of later slots.
+-- Instructions keep the number of places that may be linked, and give links no names of later
+-- slots.
 use Rattle.std.proofs.Common.{◌≡◌, ℕ, ◌+◌, ◌-◌, ◌%◌, ◌^◌, ◌<◌, List, length, Option, Some, None, Bool, cond, refl, inl, inr, ap, ◌∙◌, sym, subst, arith, ⊎_elim}
 use Rattle.std.specs.Prelude.{◌==◌, ◌&&◌, nat_le, slice_set}
 use Rattle.std.proofs.lemmas.Bool.{cases_eq, cond_both, false≢true}

@@ -57,8 +57,8 @@ abbrev pub loaded_kind : Option PlainKind → Option PlainKind → Option PlainK
 loaded_kind (Some x) number = Some x
 loaded_kind None number = number
 
--- The edges of an instruction, with the links as they stand. `room` is the first register of the range
--- that a helper writes, `answer` the number that it leaves in register 0.
+-- The edges of an instruction, with the links as they stand. `room` is the first register of the
+-- range that a helper writes, `answer` the number that it leaves in register 0.
 abbrev pub edges_of : Precision → Option ℕ → Plain → Insn → ℕ → PlainFrame → List (ℕ × PlainFrame)
 edges_of precision room answer (Alu bits operation dst source) p f = computed (p + 1) f dst (alu_kind precision bits operation (kind_at f dst) (operand_kind f source))
 edges_of precision room answer (Neg bits dst) p f = computed (p + 1) f dst (neg_kind precision bits (kind_at f dst))

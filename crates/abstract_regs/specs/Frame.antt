@@ -16,8 +16,8 @@ use Rattle.abstract_regs.specs.declared.link.Link.{Link}
 use Rattle.abstract_regs.specs.Link.{no_link, join_links}
 use Rattle.abstract_regs.specs.Slots.{Span, stack_place, stack_range, access_span, whole_slot, slot_kind, spoiled, stored}
 
--- Kinds by register, and by slot of the stack: in rule set 1 there are none. Links by place, that is by
--- register and then by slot: in rule sets 1 and 2 there are none.
+-- Kinds by register, and by slot of the stack: in rule set 1 there are none. Links by place, that
+-- is by register and then by slot: in rule sets 1 and 2 there are none.
 pub record PlainFrame : Type 0 where
   pub registers : List PlainKind
   pub slots : List PlainKind
@@ -51,8 +51,8 @@ number_kind None = Unset
 number_kind (Some n) = Num n
 
 -- As a method begins: 1 points to the input, 2 is its length, at most in_cap, 3 points to the
--- output, 10 to the end of the stack. So many slots are known: each is the number 0. So many places may
--- be linked: none is.
+-- output, 10 to the end of the stack. Of `count` slots each is known to be 0. Of `places` places
+-- none is linked.
 abbrev pub entry_frame : Precision → ℕ → ℕ → ℕ → ℕ → PlainFrame
 entry_frame precision in_cap stack count places = record {
   registers =

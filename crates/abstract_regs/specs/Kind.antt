@@ -129,8 +129,8 @@ along_kinds precision bits comparison taken same (Num k) Unset = Some (Num k, Un
 along_kinds precision bits comparison taken same (Num k) (Ptr q l) = Some (Num k, Ptr q l)
 along_kinds precision bits comparison taken same (Ptr r k) y = Some (Ptr r k, y)
 
--- The last place of an access at a distance from an offset: the upper bound of their sum, of whose low
--- half nothing is asked; none if no place is left.
+-- The last place of an access at a distance from an offset: the upper bound of their sum, of whose
+-- low half nothing is asked; none if no place is left.
 abbrev pub last_place : Plain → ℕ → Option Plain
 last_place k distance = transferred Whole Bits64 Add k (constant distance)
 

@@ -84,8 +84,8 @@ pub record JoinHolds (f g : PlainFrame) : Type 0 where
 abbrev pub JoinsHold : Type 0
 JoinsHold = (f g : PlainFrame) → JoinHolds f g
 
--- What a method begins with, an input of n bytes and a stack of zeros: the entry frame holds it. No place
--- is linked.
+-- What a method begins with, an input of n bytes and a stack of zeros: the entry frame holds it. No
+-- place is linked.
 pub record EntryIsHeld (precision : Precision) (in_cap stack count places n : ℕ) : Type 0 where
   pub registers : HoldsEach (entry_frame precision in_cap stack count places).registers
       (None ∷ Some (values.Ptr Input 0) ∷ Some (values.Num n) ∷ Some (values.Ptr Output 0) ∷ None ∷ None ∷ None ∷ None ∷ None ∷ None ∷ Some (values.Ptr Stack stack) ∷ [])
@@ -127,8 +127,8 @@ FlowsKeepLinks =
 abbrev pub JoinsKeepLinks : Type 0
 JoinsKeepLinks = (f g : PlainFrame) → length g.links ≡ length f.links → length (join f g).links ≡ length f.links
 
--- The names that links have after an instruction at slot p are below every later slot, if those before
--- it are below p. A join has no others.
+-- The names that links have after an instruction at slot p are below every later slot, if those
+-- before it are below p. A join has no others.
 abbrev pub FlowsKeepNames : Type 0
 FlowsKeepNames =
     (precision : Precision) (room : Option ℕ) (answer : Plain) (i : Insn) (p q : ℕ) (f g : PlainFrame) → NamesBelow p f → Among q g (flow precision room answer i p f) →

@@ -1,5 +1,5 @@
--- A link says how the number of a place, a register or a slot of the stack, comes from a number that
--- the link names: which part of that number, with a distance added, it is.
+-- A link says how the number of a place, a register or a slot of the stack, comes from a number
+-- that the link names: which part of that number, with a distance added, it is.
 use Rattle.std.specs.Prelude.{◌≡◌, ℕ, ◌+◌, ◌-◌, ◌*◌, ◌/◌, ◌%◌, ◌^◌, ◌<◌, ◌⊎◌, ◌==◌, ◌&&◌, List, [], ◌∷◌, Option, Some, None, Bool, true, false, if◌then◌else◌, slice_index_or}
 use Rattle.bpf_decode.specs.declared.value.Value.{Value}
 use Rattle.bpf_decode.specs.declared.value.Value.TheVariants as values

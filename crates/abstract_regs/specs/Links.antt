@@ -1,6 +1,6 @@
--- What becomes of links: those that an instruction leaves, by the kinds before it, and what they tell
--- of other places' kinds along the edges of a comparison. A register's place is its number, a slot's
--- is after all registers'. In rule sets 1 and 2 the list of links is empty, and stays so.
+-- What becomes of links: those that an instruction leaves, by the kinds before it, and what they
+-- tell of other places' kinds along the edges of a comparison. A register's place is its number, a
+-- slot's is after all registers'. In rule sets 1 and 2 the list of links is empty, and stays so.
 use Rattle.std.specs.Prelude.{ℕ, ℤ, pos, negsuc, ◌+◌, ◌-◌, ◌%◌, ◌^◌, ◌==◌, ◌&&◌, ◌||◌, not, nat_lt, nat_le, int_le, int_lt, List, [], ◌∷◌, length, Option, Some, None, Bool, true, false, if◌then◌else◌, slice_get, slice_set, option_map, option_and_then}
 use Rattle.std.specs.Int.{int_max, int_min, int_shr}
 use Rattle.bpf_decode.specs.declared.insn.Operand.{Operand}
@@ -59,8 +59,8 @@ slot_at f j = or_unset (slice_get f.slots j)
 
 -- ---- copies
 
--- The link of a place whose number is copied by the instruction at slot p: a number that has none gets
--- one, which the slot names; what isn't a number has none and gives none.
+-- The link of a place whose number is copied by the instruction at slot p: a number that has none
+-- gets one, which the slot names; what isn't a number has none and gives none.
 abbrev pub taken : ℕ → PlainKind → Link → Link
 taken p Unset l = no_link
 taken p (Num k) l = if is_linked l.form then l else record { distance = 0; name = p; form = Whole }
@@ -125,8 +125,8 @@ shifted_link c l = if c % 64 == 32 then l else no_link
 abbrev pub masked_link : Plain → ℕ → Link → Link
 masked_link k c l = if is_ones c && nat_le k.high c then l else (if c == 2 ^ 31 then shaped l (sign_form l.form) else no_link)
 
--- Of a number and a constant: sums and differences stay whole, and shifts by 32 move the low half up and
--- down.
+-- Of a number and a constant: sums and differences stay whole, and shifts by 32 move the low half
+-- up and down.
 abbrev pub alu_link : OpWidth → Arithmetic → Plain → ℕ → Link → Link
 alu_link Bits64 Add k c l = moved_link l c
 alu_link Bits64 Sub k c l = moved_link l (2 ^ 64 - c)

@@ -186,8 +186,8 @@ Allows room (Store width base offset source) f =
 Allows room (Call helper) f = AllowsRoom room f
 Allows room i f = Unit {0}
 
--- What a frame held before an instruction, a frame along an edge holds after it. The frame's links have
--- no names that the instruction gives.
+-- What a frame held before an instruction, a frame along an edge holds after it. The frame's links
+-- have no names that the instruction gives.
 abbrev pub Keeps : Precision → Option ℕ → Plain → Insn → ℕ → PlainFrame → Type 0
 Keeps precision room answer i p f =
     Fits i → Allows room i f → NamesBelow p f → (cs ds vs ws : List (Option Value)) (q : ℕ) → length f.slots ≡ length vs → HoldsEach f.registers cs → HoldsEach f.slots vs → HoldsLinks f cs vs → Moves room answer i p cs vs q ds ws → Reaches (flow precision room answer i p f) q ds ws

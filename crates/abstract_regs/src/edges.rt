@@ -14,8 +14,8 @@ pub enum Edges {
     /// To a jump's target, or to the instruction after it; the lent place has the kinds of the
     /// operands along the latter.
     Branches(usize, Compared),
-    /// The same of a comparison of linked registers. Along each edge `Frame::tell` follows: it may leave
-    /// the edge dead.
+    /// The same of a comparison of linked registers. Along each edge `Frame::tell` follows: it may
+    /// leave the edge dead.
     Forks(usize, Compared),
 }
 

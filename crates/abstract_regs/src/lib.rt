@@ -2,11 +2,10 @@
 //! method, and after it.
 //!
 //! A `Kind` says that a register or a slot is a number, points into a region, or nothing; a `Frame`
-//! has those of the registers and, from rule set 2 on, of the slots, and in rule set 3 links between
-//! places whose numbers come from one. `Frame::flow` takes a frame over an
-//! instruction, by the table of specs/Flow, and gives the frame along each of its edges: none along
-//! a dead one. If a frame holds the values before the instruction, one along an edge holds those
-//! after it.
+//! has those of the registers and, from rule set 2 on, of the slots, and in rule set 3 links
+//! between places whose numbers come from one. `Frame::flow` takes a frame over an instruction, by
+//! the table of specs/Flow, and gives the frame along each of its edges: none along a dead one. If
+//! a frame holds the values before the instruction, one along an edge holds those after it.
 //! `Frame::join` is an upper bound of two frames. Both take no memory and can't fail.
 #![tactic(auto)]
 

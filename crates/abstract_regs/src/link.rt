@@ -16,8 +16,8 @@ pub enum Form {
     Sign,
 }
 
-/// How the number of a register or of a slot comes from another that has a name: from that number plus
-/// a distance, modulo `2^64`, in a form.
+/// How the number of a register or of a slot comes from another that has a name: from that number
+/// plus a distance, modulo `2^64`, in a form.
 #[derive(Clone, Copy)]
 pub struct Link {
     /// What is added to the number, modulo `2^64`.

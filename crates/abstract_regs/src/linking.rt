@@ -21,8 +21,8 @@ use bpf_decode::{Arithmetic, Insn, OpWidth, Operand, Register, SignedMove};
 /// The place of the first slot, after those of the registers.
 pub(crate) const FIRST_SLOT: usize = 11;
 
-/// The link of a place whose number the instruction at a slot copies. A number that has none gets one;
-/// what isn't a number gives none.
+/// The link of a place whose number the instruction at a slot copies. A number that has none gets
+/// one; what isn't a number gives none.
 #[inline(always)]
 fn taken(slot: u32, kind: &Kind, link: Link) -> Link
     ensures { result ≡ taken slot (seen kind.now) link }
@@ -125,7 +125,8 @@ fn computed_link(bits: OpWidth, operation: Arithmetic, x: &Kind, y: &Kind, link:
 }
 
 impl Frame {
-    /// Changes the links to those after the instruction at a slot, and leaves the kinds as they are.
+    /// Changes the links to those after the instruction at a slot, and leaves the kinds as they
+    /// are.
     #[inline(always)]
     pub(crate) fn relink(&mut self, room: Option<u8>, insn: &Insn, slot: u32)
         ensures { self.new ≡ relinked room insn.now slot self.old }
@@ -160,8 +161,8 @@ impl Frame {
         }
     }
 
-    /// The link of a place: of a register, or of a slot of the stack, from place 11 on. Past the last
-    /// place, and in rule sets 1 and 2, there is none.
+    /// The link of a place: of a register, or of a slot of the stack, from place 11 on. Past the
+    /// last place, and in rule sets 1 and 2, there is none.
     #[inline(always)]
     pub fn link(&self, place: usize) -> Link
         ensures { result ≡ link_in self.now.links place }

@@ -104,8 +104,8 @@ fn met_half(precision: Precision, t: Number, told: (i32, i32)) -> Option<Number>
     tighten(precision, number)
 }
 
-/// What is left of a number whose low half is that of the number that a link names, if another, in that
-/// form, is `z`.
+/// What is left of a number whose low half is that of the number that a link names, if another, in
+/// that form, is `z`.
 fn tell_half(precision: Precision, form: Form, z: Number, t: Number) -> Option<Number>
     ensures { Gives (tell_half precision form (view z) (view t)) result }
 {
@@ -155,8 +155,8 @@ fn is_named(l: Link, from: usize, place: usize, m: Link) -> bool
     m.form.is_linked() && l.name == m.name && place != from
 }
 
-/// Lets the number `z`, linked by `l`, tell the kinds of the places from `first` on, except its own,
-/// `from`. False if no value is left of one.
+/// Lets the number `z`, linked by `l`, tell the kinds of the places from `first` on, except its
+/// own, `from`. False if no value is left of one.
 fn tell_kinds(
     precision: Precision,
     z: Number,
@@ -197,8 +197,8 @@ impl Frame {
         }
     }
 
-    /// What the registers of a comparison know along an edge of `Edges::Forks`, they tell the places
-    /// with links of the same names. False if no value is left of one: the edge is dead.
+    /// What the registers of a comparison know along an edge of `Edges::Forks`, they tell the
+    /// places with links of the same names. False if no value is left of one: the edge is dead.
     pub fn tell(&mut self, precision: Precision, compared: &Compared) -> bool
         ensures { heard precision self.old compared.now ≡ if_live result self.new }
     {

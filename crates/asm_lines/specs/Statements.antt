@@ -19,7 +19,8 @@ use Rattle.bpf_decode.specs.declared.limits.TheConstants.{CAPACITY_LIMIT}
 unfoldable pub flags_of : List ℕ → Option ℕ
 flags_of text = if bytes_eq text (codes "r") then Some 1 else (if bytes_eq text (codes "w") then Some 2 else (if bytes_eq text (codes "rw") then Some 3 else None))
 
--- the numbers of a method's line, by the limits that all rule sets have, with the name and the flags before them
+-- the numbers of a method's line, by the limits that all rule sets have, with the name and the
+-- flags before them
 abbrev pub header_with : Bool → List ℕ → Option ℕ → List ℕ → Result MethodHeader AsmFault
 header_with named name None caps = Err faults.Operand
 header_with named name (Some flags) caps =

@@ -154,8 +154,8 @@ opens done p line h ss br k fine below jb = goes_on p line (Directive (Ok h)) ss
     by_body (Ok is) j = below (done ++ (method_with h is ∷ [])) (next_place p (Directive (Ok h)) ss) (Ok is) (known (method_with h is) refl) (some (method_with h is)) j
     by_body (Err e) j = below (done ++ (method_with h [] ∷ [])) (next_place p (Directive (Ok h)) ss) (Err e) (known (method_with h []) refl) (some (method_with h [])) j
 
--- by the tests of a `.method` line: too many methods, an instruction among its lines, capacities that
--- the rule set allows, a name above the last
+-- by the tests of a `.method` line: too many methods, an instruction among its lines, capacities
+-- that the rule set allows, a name above the last
 by_tests : (done : List ClassMethod) (p : Place) (line : ℕ) (h : MethodHeader) (ss : List Statement) (full has fits above : Bool) → full ≡ nat_le METHOD_LIMIT (length done) → has ≡ has_instruction (before_first is_directive ss) → fits ≡ is_within_set p.rules h → above ≡ is_above (last_name [] done) h.name → Knows p done → Below (line + 1) ss → Judged (ClassLinesHaveFault p line (Directive (Ok h) ∷ ss)) (next_method (unless_fault (cond (full || not has || not fits) (Some faults.Range) (cond above None (Some faults.Label))) line (with_body h (body (line + 1) (before_first is_directive ss)))) (λ m. class_from p.rules (done ++ (m ∷ [])) (line + 1) ss))
 by_tests done p line h ss true has fits above a b w c k below =
     let count = k.count in

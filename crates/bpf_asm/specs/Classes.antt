@@ -68,9 +68,9 @@ abbrev pub next_method : Result ClassMethod AsmError → (ClassMethod → Result
 next_method (Err e) others = Err e
 next_method (Ok m) others = others m
 
--- The methods of lines in order, by a rule set: `line` is the number of the next, `done` the methods above it. A
--- method's lines reach to the next `.method`, and are read with it. Before the first one nothing
--- may stand.
+-- The methods of lines in order, by a rule set: `line` is the number of the next, `done` the
+-- methods above it. A method's lines reach to the next `.method`, and are read with it. Before the
+-- first one nothing may stand.
 unfoldable pub class_from : RuleSet → List ClassMethod → ℕ → List Statement → Result (List ClassMethod) AsmError
 class_from rules done line [] = if length done == 0 then Err (record { line = 1; fault = faults.Range }) else Ok done
 class_from rules done line (Directive header ∷ rest) =

@@ -80,8 +80,8 @@ HasFault lines n f = IsBare lines n f ⊎ LinesHaveFault lines [] 1 0 lines n f
 -- ---- the lines of a class
 
 -- where a line of a class stands: whether a `.rules` stands above it and the rule set that the last
--- one says, how many methods begin above it and the last one's name, all lines of that method, those
--- above the line, and the line's slot
+-- one says, how many methods begin above it and the last one's name, all lines of that method,
+-- those above the line, and the line's slot
 pub record Place : Type 0 where
   pub ruled : Bool
   pub rules : RuleSet

@@ -241,8 +241,8 @@ pub record IsRulesText (text : List ℕ) (rules : RuleSet) : Type 0 where
 abbrev pub AreFlags : List ℕ → ℕ → Type 0
 AreFlags text flags = (1 ≤ flags) × (flags ≤ 3) × (text ≡ flags_text flags)
 
--- `.method`, a name, flags, and the capacities of input and output, by the limits that all rule sets
--- have
+-- `.method`, a name, flags, and the capacities of input and output, by the limits that all rule
+-- sets have
 pub record IsDirectiveText (text : List ℕ) (header : MethodHeader) : Type 0 where
   pub behind_word : List ℕ
   pub behind_name : List ℕ

@@ -12,8 +12,8 @@ use crate::method::Method;
 use crate::rule_set::RuleSet;
 use std::marker::Model;
 
-/// A class: its rule set, and 1 to 32 methods within the limits and those of the rule set, by rising
-/// names. Contracts see a `Class`.
+/// A class: its rule set, and 1 to 32 methods within the limits and those of the rule set, by
+/// rising names. Contracts see a `Class`.
 pub struct ClassImage {
     rules: RuleSet,
     methods: Vec<Method>,

@@ -11,8 +11,8 @@ use thiserror::Error;
 pub enum DecodeError {
     /// A field passes the end; of code alone, the length is no multiple of 8.
     Truncated,
-    /// The first four bytes are none of `RCL1`, `RCL2` and `RCL3`, or the number after the count of methods
-    /// isn't 0.
+    /// The first four bytes are none of `RCL1`, `RCL2` and `RCL3`, or the number after the count of
+    /// methods isn't 0.
     Magic,
     /// No instruction has the opcode of that slot.
     Opcode(usize),

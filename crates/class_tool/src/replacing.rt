@@ -124,9 +124,9 @@ fn write_open<R: Files + AllocGlobal + Clock>(
     write_regular(rt, name, bytes, Some(found.permissions()))
 }
 
-/// Makes those bytes the whole of the file of that name. If it fails, a regular file is as it
-/// was, and there is no other. Of a symbolic link the target is written. A file that may not be
-/// written isn't replaced, nor is one in whose folder no file may be created. The file's mode stays.
+/// Makes those bytes the whole of the file of that name. If it fails, a regular file is as it was,
+/// and there is no other. Of a symbolic link the target is written. A file that may not be written
+/// isn't replaced, nor is one in whose folder no file may be created. The file's mode stays.
 pub(crate) fn write_whole<R: Files + AllocGlobal + Clock>(
     rt: &R,
     name: &str,

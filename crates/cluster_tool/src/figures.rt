@@ -96,8 +96,8 @@ impl Figures {
     }
 
     /// Notes that the first call begins, if none has begun: what was sent up to it isn't counted.
-    /// So that this is all that the groups' first maps take, it waits until workers have had nothing
-    /// to do for a while, and not without end.
+    /// So that this is all that the groups' first maps take, it waits until workers have had
+    /// nothing to do for a while, and not without end.
     pub fn begin<C: Clock>(&self, clock: &C) {
         if self.has_begun.load(Ordering::SeqCst) {
             return;
@@ -142,8 +142,8 @@ impl Figures {
             .store(now(clock).unwrap_or(u64::MAX), Ordering::SeqCst);
     }
 
-    /// The nanoseconds from the last map to the last answer; 0 if no answer came after it, or no map
-    /// was made.
+    /// The nanoseconds from the last map to the last answer; 0 if no answer came after it, or no
+    /// map was made.
     fn since_map(&self) -> u64 {
         let mapped = self.mapped.load(Ordering::SeqCst);
         self.answered.load(Ordering::SeqCst).saturating_sub(mapped)

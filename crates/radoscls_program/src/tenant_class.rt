@@ -70,8 +70,8 @@ fn next_class<'a>(
 }
 
 /// The classes that texts spell, in their order, after the built-in ones. Refused is the first text
-/// that has no `=`, or whose name is no word or is used before it; of more classes than there may be
-/// the last.
+/// that has no `=`, or whose name is no word or is used before it; of more classes than there may
+/// be the last.
 pub(crate) fn tenants_in<'a>(
     alloc: Global,
     texts: &[&'a str],

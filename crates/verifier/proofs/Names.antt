@@ -1,5 +1,5 @@
--- The links of a method's frame at a slot have no names of that slot or of later ones: what gives a name
--- is an instruction at a lower slot.
+-- The links of a method's frame at a slot have no names of that slot or of later ones: what gives a
+-- name is an instruction at a lower slot.
 use Rattle.std.proofs.Common.{◌≡◌, ℕ, zero, suc, ◌<◌, ◌≤◌, List, [], ◌∷◌, Option, Some, None, refl, inl, inr, sym, subst, arith, length, ⊎_elim}
 use Rattle.std.specs.Prelude.{◌==◌}
 use Rattle.std.proofs.lemmas.Bool.{cases_lt, cond_both}

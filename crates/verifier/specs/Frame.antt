@@ -25,7 +25,8 @@ known_slots One = 0
 known_slots Two = 64
 known_slots Three = 64
 
--- how many places frames may link: the eleven registers and the slots of the stack, in rule set 3 alone
+-- how many places frames may link: the eleven registers and the slots of the stack, in rule set 3
+-- alone
 abbrev pub known_links : RuleSet → ℕ
 known_links One = 0
 known_links Two = 0

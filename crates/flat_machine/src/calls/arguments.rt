@@ -71,8 +71,8 @@ pub fn one_text(s: &FlatState) -> Option<Range>
     range_at(s, false, 1)
 }
 
-/// The arguments of `getxattr`, `map_get`, `map_next` and `xattr_next`: the range of a name, and one
-/// for the bytes found.
+/// The arguments of `getxattr`, `map_get`, `map_next` and `xattr_next`: the range of a name, and
+/// one for the bytes found.
 pub fn text_and_room(s: &FlatState) -> Option<(Range, Range)>
     ensures given { option_map (λ r. with_text (bytes_in (flat_state s.now).memory r.0.place r.0.len) (with_room r.1.len r.1.place (nothing_given s.now.caller))) result ≡ arguments (caps_in s.now) (layout_in s.now) (flat_state s.now) (Argument.Readable ∷ Argument.Writable ∷ []) 1 }
     ensures inside { IfSome result (λ r. IfSome r.1.place (λ p. p.1 + r.1.len ≤ size (caps_in s.now) p.0)) }
