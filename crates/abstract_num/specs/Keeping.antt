@@ -39,7 +39,7 @@ NumbersFit = (x : Number) → Fits (view x)
 abbrev pub ConstantsFit : Type 0
 ConstantsFit = (n : ℕ) → n < 2 ^ 64 → Fits (constant n)
 
--- The number that is any one holds each n below 2 ^ 64, and a constant holds itself:
+-- `any` holds each n below 2 ^ 64, and a constant holds itself:
 abbrev pub AnyHolds : Type 0
 AnyHolds = (n : ℕ) → n < 2 ^ 64 → Holds any n
 

@@ -2,7 +2,7 @@
 use Rattle.std.specs.Prelude.{ℕ, ℤ, ◌%◌, ◌^◌}
 use Rattle.std.specs.Int.{w32, w64, cast_signed}
 
--- the number of 64 bits with a sign
+-- the number, read as a signed one of 64 bits
 abbrev pub signed : ℕ → ℤ
 signed n = cast_signed w64 n
 

@@ -20,7 +20,7 @@ less_all n = pos n -ℤ pos (2 ^ 64)
 abbrev pub plus_all : ℤ → ℕ
 plus_all z = natural (z +ℤ pos (2 ^ 64))
 
--- the unsigned range from a to b meets that of x, and the signed range from p to q does
+-- x with its unsigned range cut to what lies from a to b, and with its signed one from p to q:
 abbrev pub meet_unsigned : Plain → ℕ → ℕ → Plain
 meet_unsigned x a b = record x { low = max x.low a; high = min x.high b }
 

@@ -154,7 +154,7 @@ fn range_outside(
     let (begin, size) = (at.first.high, size as u64);
     if begin <= size {
         Advice::Length(LongRange {
-            // the length follows the pointer
+            // The length follows the pointer.
             register: register + 1,
             high: length.first.high,
             most: size - begin,

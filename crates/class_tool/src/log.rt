@@ -34,7 +34,7 @@ fn first_request(
 {
     let object = match ObjectName::new(alloc, "o") {
         Ok(object) => object,
-        // a name of one byte is refused for want of memory alone
+        // A name of one byte is refused for want of memory alone.
         Err(_) => return Err(AllocError),
     };
     let number = RequestNumber::new(1).unwrap();
