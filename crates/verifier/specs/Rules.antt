@@ -256,13 +256,13 @@ stored_pointer f (touches.Loads a) = false
 stored_pointer f (touches.Stores a (Immediate imm)) = false
 stored_pointer f (touches.Stores a (Register src)) = is_ptr (kind_at f src) && not (is_slot f a)
 
--- a load may touch a slot of the stack that is unset, or, if it isn't one whole slot, a pointer
+-- a load may touch a slot of the stack that is unset,
 abbrev pub loads_unset : Caps → PlainFrame → Touches → Bool
 loads_unset caps f touches.Nothing = false
 loads_unset caps f (touches.Loads a) = load_meets Nothing caps f (kind_at f a.base) (extended a.offset) a.bytes
 loads_unset caps f (touches.Stores a x) = false
 
--- the second of these alone
+-- a load that isn't one whole known slot may touch a pointer in the stack
 abbrev pub loads_pointer : Caps → PlainFrame → Touches → Bool
 loads_pointer caps f touches.Nothing = false
 loads_pointer caps f (touches.Loads a) = not (is_slot f a) && load_meets Pointer caps f (kind_at f a.base) (extended a.offset) a.bytes
