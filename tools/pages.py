@@ -401,7 +401,7 @@ def make_copies(work, program):
     (work / "bin/radoscls").symlink_to(program)
     shutil.copy(TOP / "HANDLES", work / "one")
     shutil.copytree(TOP / "crates/placement", work / "one/crates/placement", ignore=shutil.ignore_patterns("out"))
-    (work / "one/crates.txt").write_text("placement:\n")
+    (work / "one/crates.txt").write_text("placement: thiserror\n")
     kit = Path(subprocess.run(["rt", "doc"], capture_output=True, text=True).stdout.strip()).parent
     for tool in C_TOOLS:
         (work / "kit" / tool).symlink_to(kit / "toolchain/bin/clang")

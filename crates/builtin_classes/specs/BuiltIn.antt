@@ -1,12 +1,10 @@
 -- What a built-in class is to its text, and why one can't be had.
-use Rattle.std.specs.Prelude.{◌≡◌, ⊤, ℕ, List, [], ◌∷◌, None, Some, Err, codes}
+use Rattle.std.specs.Prelude.{◌≡◌, ⊤, ℕ, List, [], ◌∷◌, None, Some, Err}
 use Rattle.std.specs.List.{AllByRecursion}
 use Rattle.bpf_decode.specs.Class.{ClassMethod, Class}
 use Rattle.bpf_asm.specs.Classes.{read_class_text}
-use Rattle.bpf_asm.specs.Fault.{error_text}
 use Rattle.bpf_asm.specs.Grammar.{IsClassText}
 use Rattle.bpf_machine.specs.Safe.{IsSafe}
-use Rattle.verifier.specs.RuleNumber.{refusal_text}
 use Rattle.verifier.specs.Verdict.{class_verdict}
 use Rattle.verifier.specs.declared.refusal.Refusal.{Refusal}
 use Rattle.builtin_classes.specs.declared.failure.BuiltInFailure.{BuiltInFailure}
@@ -41,9 +39,3 @@ abbrev pub LoadFails : List ℕ → BuiltInFailure → Type 0
 LoadFails text NoMemory = ⊤
 LoadFails text (Text error) = read_class_text text ≡ Err error
 LoadFails text (Verdict refusal) = IsRefused text refusal
-
--- how it prints
-abbrev pub failure_text : BuiltInFailure → List ℕ
-failure_text NoMemory = codes "no memory"
-failure_text (Text error) = error_text error
-failure_text (Verdict refusal) = refusal_text refusal

@@ -5,38 +5,23 @@ ghost use Rattle.builtin_classes.specs.declared.failure.BuiltInFailure.TheVarian
 
 use bpf_asm::AsmError;
 use std::alloc::{AllocError, AllocFailed};
-use std::error::Error;
-use std::fmt;
+use thiserror::Error;
 use verifier::Refusal;
 
 /// Why a built-in class can't be had. A text that is no class and a class that is not safe are
 /// faults of this crate.
-#[derive(Clone, Copy, Debug, PartialEq, Eq)]
+#[derive(Clone, Copy, Debug, PartialEq, Eq, Error)]
 pub enum BuiltInFailure {
     /// Memory was refused.
+    #[error("no memory")]
     NoMemory,
     /// A text is no class.
+    #[error("{0}")]
     Text(AsmError),
     /// A method is not safe.
+    #[error("{0}")]
     Verdict(Refusal),
 }
-
-impl fmt::Display for BuiltInFailure {
-    ghost use Rattle.std.specs.Prelude.{Some};
-    ghost use Rattle.builtin_classes.specs.BuiltIn.{failure_text};
-
-    ghost output = { λ failure. Some (failure_text failure) };
-
-    fn fmt<W: fmt::Write>(&self, f: &mut fmt::Formatter<W>) -> fmt::Result {
-        match self {
-            BuiltInFailure::NoMemory => f.write_str("no memory"),
-            BuiltInFailure::Text(error) => write!(f, "{error}"),
-            BuiltInFailure::Verdict(refusal) => write!(f, "{refusal}"),
-        }
-    }
-}
-
-impl Error for BuiltInFailure {}
 
 impl From<AllocError> for BuiltInFailure {
     ghost from_gives = { λ _ e. e ≡ NoMemory };

@@ -22,14 +22,6 @@ abbrev pub table_error_number : TableError → ℕ
 table_error_number table.TooMany = 1
 table_error_number table.NoMemory = 2
 
-abbrev pub table_error_name : TableError → List ℕ
-table_error_name table.TooMany = codes "TooMany"
-table_error_name table.NoMemory = codes "NoMemory"
-
 -- number, space and name
 abbrev pub call_error_text : CallError → List ℕ
 call_error_text e = decimal (call_error_number e) ++ codes " " ++ call_error_name e
-
--- of a table of classes alike
-abbrev pub table_error_text : TableError → List ℕ
-table_error_text e = decimal (table_error_number e) ++ codes " " ++ table_error_name e

@@ -2,58 +2,36 @@ ghost use Rattle.std.specs.Prelude.{◌≡◌, ◌==◌, ◌≤◌, ◌++◌, �
 ghost use Rattle.std.specs.List.{AllByRecursion};
 ghost use Rattle.bpf_machine.specs.Safe.{IsSafe};
 ghost use Rattle.interp.specs.Plain.{given_class};
-ghost use Rattle.interp.specs.Refusal.{table_error_number, table_error_name};
+ghost use Rattle.interp.specs.Refusal.{table_error_number};
 
 use crate::limits::CLASS_LIMIT;
 use std::alloc::Global;
-use std::error::Error;
-use std::fmt;
 use std::marker::Model;
+use thiserror::Error;
 use verifier::VerifiedClass;
 
-/// Why a class can't be added.
-#[derive(Clone, Copy, Debug, PartialEq, Eq)]
+/// Why a class can't be added. It prints as number and name, as `1 TooMany`.
+#[derive(Clone, Copy, Debug, PartialEq, Eq, Error)]
 pub enum TableError {
     /// `CLASS_LIMIT` classes are loaded.
+    #[error("1 TooMany")]
     TooMany,
     /// Memory was refused.
+    #[error("2 NoMemory")]
     NoMemory,
 }
 
 impl TableError {
-    /// The table of refusals: number and name.
-    fn row(self) -> (u8, &'static str)
-        ensures number { result.0 ≡ table_error_number self }
-        ensures name { result.1.now ≡ table_error_name self }
-    {
-        match self {
-            TableError::TooMany => (1, "TooMany"),
-            TableError::NoMemory => (2, "NoMemory"),
-        }
-    }
-
     /// Its number, 1 or 2.
     pub fn number(self) -> u8
         ensures { result ≡ table_error_number self }
     {
-        self.row().0
+        match self {
+            TableError::TooMany => 1,
+            TableError::NoMemory => 2,
+        }
     }
 }
-
-impl fmt::Display for TableError {
-    ghost use Rattle.std.specs.Prelude.{Some};
-    ghost use Rattle.interp.specs.Refusal.{table_error_text};
-
-    ghost output = { λ e. Some (table_error_text e) };
-
-    /// Number and name, as `1 TooMany`.
-    fn fmt<W: fmt::Write>(&self, f: &mut fmt::Formatter<W>) -> fmt::Result {
-        let (number, name) = self.row();
-        write!(f, "{number} {name}")
-    }
-}
-
-impl Error for TableError {}
 
 /// The loaded classes, at most `CLASS_LIMIT`, by ids from 0. Contracts see the list of them.
 pub struct ClassTable {

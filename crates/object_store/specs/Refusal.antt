@@ -34,7 +34,3 @@ store_error_of of_data.NoMemory = store.NoMemory
 -- number, space and name
 abbrev pub store_error_text : StoreError → List ℕ
 store_error_text e = decimal (store_error_number e) ++ codes " " ++ store_error_name e
-
--- a refusal of data prints as the object's
-abbrev pub data_error_text : DataError → List ℕ
-data_error_text e = store_error_text (store_error_of e)

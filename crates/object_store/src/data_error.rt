@@ -3,15 +3,16 @@ ghost use Rattle.object_store.specs.Refusal.{store_error_number, store_error_of}
 
 use crate::store_error::StoreError;
 use std::alloc::AllocError;
-use std::error::Error;
-use std::fmt;
+use thiserror::Error;
 
 /// Why a change of data is refused. Numbers and names are those of `StoreError`.
-#[derive(Clone, Copy, Debug, PartialEq, Eq)]
+#[derive(Clone, Copy, Debug, PartialEq, Eq, Error)]
 pub enum DataError {
     /// The data would pass `DATA_LIMIT`.
+    #[error("4 TooBig")]
     TooBig,
     /// Memory was refused.
+    #[error("7 NoMemory")]
     NoMemory,
 }
 
@@ -23,20 +24,6 @@ impl DataError {
         StoreError::from(self).number()
     }
 }
-
-impl fmt::Display for DataError {
-    ghost use Rattle.std.specs.Prelude.{Some};
-    ghost use Rattle.object_store.specs.Refusal.{data_error_text};
-
-    ghost output = { λ e. Some (data_error_text e) };
-
-    /// Number and name, as `4 TooBig`.
-    fn fmt<W: fmt::Write>(&self, f: &mut fmt::Formatter<W>) -> fmt::Result {
-        write!(f, "{}", StoreError::from(*self))
-    }
-}
-
-impl Error for DataError {}
 
 impl From<AllocError> for DataError {
     ghost use Rattle.std.specs.Prelude.{◌≡◌};

@@ -1,6 +1,5 @@
 -- The place of a request in a list, and the reason why one can't be added.
 use Rattle.std.specs.Prelude.{◌≡◌, ℕ, suc, ◌<◌, ◌⊎◌, List, [], ◌∷◌, ◌++◌, Option, Some, None, Result, Ok, Err, Bool, false, if◌then◌else◌, ◌==◌, ◌&&◌, ◌||◌, nat_lt, nat_le, slice_get, length, take, ◌+◌, codes}
-use Rattle.std.specs.Fmt.{decimal}
 use Rattle.bpf_decode.specs.Class.{ClassMethod}
 use Rattle.interp.specs.Plain.{method_named}
 use Rattle.pg_log.specs.declared.group.TheConstants.{LOG_LIMIT}
@@ -25,10 +24,6 @@ name_of NoMemory = codes "NoMemory"
 name_of NoClass = codes "NoClass"
 name_of NoMethod = codes "NoMethod"
 name_of InputTooLong = codes "InputTooLong"
-
--- the text of a refusal: number, blank and name
-abbrev pub log_error_text : LogError → List ℕ
-log_error_text e = decimal (number_of e) ++ codes " " ++ name_of e
 
 -- the next place, if there is one
 abbrev pub one_later : Option ℕ → Option ℕ

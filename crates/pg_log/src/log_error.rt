@@ -3,25 +3,30 @@ ghost use Rattle.pg_log.specs.Refusals.{number_of, name_of};
 ghost use Rattle.pg_log.specs.declared.log_error.LogError.TheVariants.{NoMemory};
 
 use std::alloc::{AllocError, AllocFailed};
-use std::error::Error;
-use std::fmt;
+use thiserror::Error;
 use txn::NoMemory as NoRoom;
 
 /// The refusal of a request. It prints as number and name, as `2 StaleNumber`. If several apply, it
 /// is the first in the order 1, 2, 4, 5, 6, 3.
-#[derive(Clone, Copy, Debug, PartialEq, Eq)]
+#[derive(Clone, Copy, Debug, PartialEq, Eq, Error)]
 pub enum LogError {
     /// The log has 65,536 entries.
+    #[error("1 LogFull")]
     LogFull,
     /// A greater number of the client is logged.
+    #[error("2 StaleNumber")]
     StaleNumber,
     /// Memory was refused.
+    #[error("3 NoMemory")]
     NoMemory,
     /// No class of that id is loaded.
+    #[error("4 NoClass")]
     NoClass,
     /// The class has no method of that name.
+    #[error("5 NoMethod")]
     NoMethod,
     /// The input is longer than the method's in_cap.
+    #[error("6 InputTooLong")]
     InputTooLong,
 }
 
@@ -55,20 +60,6 @@ impl LogError {
         self.row().1
     }
 }
-
-impl fmt::Display for LogError {
-    ghost use Rattle.std.specs.Prelude.{Some};
-    ghost use Rattle.pg_log.specs.Refusals.{log_error_text};
-
-    ghost output = { λ e. Some (log_error_text e) };
-
-    fn fmt<W: fmt::Write>(&self, f: &mut fmt::Formatter<W>) -> fmt::Result {
-        let (number, name) = self.row();
-        write!(f, "{number} {name}")
-    }
-}
-
-impl Error for LogError {}
 
 impl From<AllocError> for LogError {
     ghost from_gives = { λ _ e. e ≡ NoMemory };

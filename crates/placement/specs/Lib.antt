@@ -1,4 +1,3 @@
--- A reader must believe Placement and Refusal. Laws has what is proved about Placement.
+-- A reader must believe Placement. Laws has what is proved about Placement.
 pub mod Placement
-pub mod Refusal
 pub mod Laws

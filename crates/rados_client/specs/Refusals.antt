@@ -11,8 +11,6 @@ use Rattle.rados_client.specs.declared.load_error.LoadError.{LoadError}
 use Rattle.rados_client.specs.declared.load_error.LoadError.TheVariants as load
 use Rattle.rados_client.specs.declared.open_error.OpenError.{OpenError}
 use Rattle.rados_client.specs.declared.open_error.OpenError.TheVariants as opening
-use Rattle.rados_client.specs.declared.run_error.RunError.{RunError}
-use Rattle.rados_client.specs.declared.run_error.RunError.TheVariants as run
 
 -- the table of a call's refusals: number and name
 abbrev pub exec_error_number : ExecError → ℕ
@@ -64,11 +62,6 @@ abbrev pub open_error_number : OpenError → ℕ
 open_error_number opening.TooMany = 1
 open_error_number opening.NoMemory = 2
 
--- and their texts, number and name
-abbrev pub open_error_text : OpenError → List ℕ
-open_error_text opening.TooMany = codes "1 TooMany"
-open_error_text opening.NoMemory = codes "2 NoMemory"
-
 -- the table of refusals of a new cluster
 abbrev pub config_error_number : ConfigError → ℕ
 config_error_number config.Limit = 1
@@ -86,16 +79,3 @@ load_error_number (load.Verdict r) = 2
 load_error_number load.TooMany = 3
 load_error_number load.NoMemory = 4
 load_error_number load.Started = 5
-
--- and their texts, number and name
-abbrev pub load_error_text : LoadError → List ℕ
-load_error_text (load.Image e) = codes "1 Image"
-load_error_text (load.Verdict r) = codes "2 Verdict"
-load_error_text load.TooMany = codes "3 TooMany"
-load_error_text load.NoMemory = codes "4 NoMemory"
-load_error_text load.Started = codes "5 Started"
-
--- the texts of the refusals of a cluster that is to run
-abbrev pub run_error_text : RunError → List ℕ
-run_error_text run.Started = codes "1 Started"
-run_error_text run.NoMemory = codes "2 NoMemory"

@@ -1,21 +1,25 @@
 use bpf_decode::ImageError;
-use std::error::Error;
-use std::fmt;
+use thiserror::Error;
 use verifier::Refusal;
 
 /// Why a class isn't loaded. It prints as number and name, as `3 TooMany`. Of several the first by
 /// number.
-#[derive(Clone, Copy, Debug, PartialEq, Eq, Drop)]
+#[derive(Clone, Copy, Debug, PartialEq, Eq, Drop, Error)]
 pub enum LoadError {
     /// The bytes are no image.
+    #[error("1 Image")]
     Image(ImageError),
     /// A method isn't safe.
+    #[error("2 Verdict")]
     Verdict(Refusal),
     /// 64 classes are loaded.
+    #[error("3 TooMany")]
     TooMany,
     /// Memory was refused.
+    #[error("4 NoMemory")]
     NoMemory,
     /// The cluster has run.
+    #[error("5 Started")]
     Started,
 }
 
@@ -36,22 +40,3 @@ impl LoadError {
         }
     }
 }
-
-impl fmt::Display for LoadError {
-    ghost use Rattle.std.specs.Prelude.{Some};
-    ghost use Rattle.rados_client.specs.Refusals.{load_error_text};
-
-    ghost output = { λ e. Some (load_error_text e) };
-
-    fn fmt<W: fmt::Write>(&self, f: &mut fmt::Formatter<W>) -> fmt::Result {
-        match self {
-            LoadError::Image(_) => write!(f, "1 Image"),
-            LoadError::Verdict(_) => write!(f, "2 Verdict"),
-            LoadError::TooMany => write!(f, "3 TooMany"),
-            LoadError::NoMemory => write!(f, "4 NoMemory"),
-            LoadError::Started => write!(f, "5 Started"),
-        }
-    }
-}
-
-impl Error for LoadError {}

@@ -1,15 +1,16 @@
 ghost use Rattle.std.specs.Prelude.{◌≡◌};
 ghost use Rattle.rados_client.specs.Refusals.{open_error_number};
 
-use std::error::Error;
-use std::fmt;
+use thiserror::Error;
 
 /// Why no session is opened. It prints as number and name, as `1 TooMany`.
-#[derive(Clone, Copy, Debug, PartialEq, Eq, Drop)]
+#[derive(Clone, Copy, Debug, PartialEq, Eq, Drop, Error)]
 pub enum OpenError {
     /// 64 sessions were opened before.
+    #[error("1 TooMany")]
     TooMany,
     /// Memory was refused.
+    #[error("2 NoMemory")]
     NoMemory,
 }
 
@@ -24,19 +25,3 @@ impl OpenError {
         }
     }
 }
-
-impl fmt::Display for OpenError {
-    ghost use Rattle.std.specs.Prelude.{Some};
-    ghost use Rattle.rados_client.specs.Refusals.{open_error_text};
-
-    ghost output = { λ e. Some (open_error_text e) };
-
-    fn fmt<W: fmt::Write>(&self, f: &mut fmt::Formatter<W>) -> fmt::Result {
-        match self {
-            OpenError::TooMany => write!(f, "1 TooMany"),
-            OpenError::NoMemory => write!(f, "2 NoMemory"),
-        }
-    }
-}
-
-impl Error for OpenError {}

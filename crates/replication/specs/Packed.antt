@@ -1,6 +1,5 @@
 -- A list whose beginning the receiver has.
-use Rattle.std.specs.Prelude.{◌≡◌, ℕ, ◌≤◌, List, ◌++◌, length, take, drop, min, codes}
-use Rattle.std.specs.Fmt.{decimal}
+use Rattle.std.specs.Prelude.{◌≡◌, ℕ, ◌≤◌, List, ◌++◌, length, take, drop, min}
 use mathlib.Core.List.{IsPrefix}
 use Rattle.pg_log.specs.Requests.{ClientRequest}
 use Rattle.replication.specs.declared.unpack_error.UnpackError.{UnpackError}
@@ -39,15 +38,7 @@ CommittedIsEnough =
     (local list : List ClientRequest) (committed reported : ℕ) → committed ≤ length local → reported ≤ committed →
     IsPrefix (take committed local) list → IsUnpacked local list reported
 
--- the table of refusals: number and name
+-- the numbers of refusals
 abbrev pub number_of : UnpackError → ℕ
 number_of TooShort = 1
 number_of NoMemory = 2
-
-abbrev pub name_of : UnpackError → List ℕ
-name_of TooShort = codes "TooShort"
-name_of NoMemory = codes "NoMemory"
-
--- what a refusal prints: number, blank and name
-abbrev pub unpack_error_text : UnpackError → List ℕ
-unpack_error_text e = decimal (number_of e) ++ codes " " ++ name_of e

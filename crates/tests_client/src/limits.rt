@@ -59,11 +59,17 @@ fn numbers_outside_their_limits(rt: HostRuntime) {
     }
 }
 
-/// The id that a class gets, or 1,000 and the number of the refusal.
-fn loaded(cluster: &mut Cluster, image: &[u8]) -> usize {
+/// True if a class isn't loaded, by a refusal that prints as this text.
+fn refuses<R: Abort>(
+    rt: &R,
+    alloc: Global,
+    cluster: &mut Cluster,
+    image: &[u8],
+    text: &str,
+) -> bool {
     match cluster.load_class(image) {
-        Ok(id) => id.get(),
-        Err(error) => 1_000 + usize::from(error.number()),
+        Ok(_) => false,
+        Err(error) => prints(rt, alloc, &error, text),
     }
 }
 
@@ -71,7 +77,10 @@ fn loaded(cluster: &mut Cluster, image: &[u8]) -> usize {
 fn load_many(cluster: &mut Cluster, end: usize) -> bool {
     let mut all = true;
     for id in 2..end {
-        all = all && loaded(cluster, &IMAGE) == id;
+        all = all
+            && cluster
+                .load_class(&IMAGE)
+                .is_ok_and(|found| found.get() == id);
     }
     all
 }
@@ -89,23 +98,28 @@ fn sixty_four_sessions_and_one_more(rt: HostRuntime) {
 
 #[test]
 fn classes_and_what_a_started_cluster_refuses(rt: HostRuntime) {
-    let mut cluster = Cluster::new(rt.alloc(), config(1, 1)).expect(&rt, "a cluster");
-    let refused = loaded(&mut cluster, b"RCL2") == 1_001 && loaded(&mut cluster, &UNSAFE) == 1_002;
+    let alloc = rt.alloc();
+    let mut cluster = Cluster::new(alloc, config(1, 1)).expect(&rt, "a cluster");
+    let refused = refuses(&rt, alloc, &mut cluster, b"RCL2", "1 Image")
+        && refuses(&rt, alloc, &mut cluster, &UNSAFE, "2 Verdict");
     let some = load_many(&mut cluster, 63);
-    let ran = run(rt, rt.alloc(), &mut cluster, &SESSIONS).is_ok();
-    let started = loaded(&mut cluster, &IMAGE) == 1_005 && loaded(&mut cluster, &UNSAFE) == 1_002;
-    let again = run(rt, rt.alloc(), &mut cluster, &SESSIONS).is_err_and(|e| e == RunError::Started);
+    let ran = run(rt, alloc, &mut cluster, &SESSIONS).is_ok();
+    let started = refuses(&rt, alloc, &mut cluster, &IMAGE, "5 Started")
+        && refuses(&rt, alloc, &mut cluster, &UNSAFE, "2 Verdict");
+    let again = run(rt, alloc, &mut cluster, &SESSIONS).is_err_and(|e| e == RunError::Started);
     drop(cluster);
     assert!(rt; refused && some && ran && started && again);
 }
 
 #[test]
 fn sixty_four_classes_and_one_more(rt: HostRuntime) {
-    let mut cluster = Cluster::new(rt.alloc(), config(1, 1)).expect(&rt, "a cluster");
+    let alloc = rt.alloc();
+    let mut cluster = Cluster::new(alloc, config(1, 1)).expect(&rt, "a cluster");
     let some = load_many(&mut cluster, 64);
-    let more = loaded(&mut cluster, &IMAGE) == 1_003 && loaded(&mut cluster, b"RCL2") == 1_001;
-    let ran = run(rt, rt.alloc(), &mut cluster, &SESSIONS).is_ok();
-    let full = loaded(&mut cluster, &IMAGE) == 1_003;
+    let more = refuses(&rt, alloc, &mut cluster, &IMAGE, "3 TooMany")
+        && refuses(&rt, alloc, &mut cluster, b"RCL2", "1 Image");
+    let ran = run(rt, alloc, &mut cluster, &SESSIONS).is_ok();
+    let full = refuses(&rt, alloc, &mut cluster, &IMAGE, "3 TooMany");
     drop(cluster);
     assert!(rt; some && more && ran && full);
 }
@@ -140,8 +154,9 @@ fn refusals_of_calls_print_number_and_name(rt: HostRuntime) {
 fn refusals_of_a_cluster_print_number_and_name(rt: HostRuntime) {
     assert!(rt; prints(&rt, rt.alloc(), &ConfigError::Limit, "1 Limit"));
     assert!(rt; prints(&rt, rt.alloc(), &ConfigError::NoMemory, "2 NoMemory"));
-    assert!(rt; prints(&rt, rt.alloc(), &LoadError::TooMany, "3 TooMany"));
-    assert!(rt; prints(&rt, rt.alloc(), &LoadError::Started, "5 Started"));
+    assert!(rt; prints(&rt, rt.alloc(), &LoadError::NoMemory, "4 NoMemory"));
     assert!(rt; prints(&rt, rt.alloc(), &OpenError::TooMany, "1 TooMany"));
+    assert!(rt; prints(&rt, rt.alloc(), &OpenError::NoMemory, "2 NoMemory"));
     assert!(rt; prints(&rt, rt.alloc(), &RunError::Started, "1 Started"));
+    assert!(rt; prints(&rt, rt.alloc(), &RunError::NoMemory, "2 NoMemory"));
 }

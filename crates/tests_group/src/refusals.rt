@@ -1,5 +1,6 @@
 //! The printed refusals of the group's crates, each by its number and its name; and their laws.
 use super::words::see;
+use bpf_asm::{AsmError, AsmFault};
 use builtin_classes::BuiltInFailure;
 use group_world::{
     Epoch, HandleError, MonitorError, agreement, event_crosses, kept_stays_activated, map_crosses,
@@ -14,6 +15,7 @@ use replication::{UnpackError, packed_lists};
 use std::alloc::Global;
 use std::fmt::Display;
 use std::process::Abort;
+use verifier::{Refusal, Rule};
 
 const OF_THE_LOG: [(LogError, &str); 6] = [
     (LogError::LogFull, "1 LogFull"),
@@ -55,7 +57,22 @@ const OF_UNPACKING: [(UnpackError, &str); 2] = [
 
 const OF_MEMORY: [(NoMemory, &str); 1] = [(NoMemory, "NoMemory")];
 
-const OF_CLASSES: [(BuiltInFailure, &str); 1] = [(BuiltInFailure::NoMemory, "no memory")];
+const NO_WORD: AsmError = AsmError {
+    line: 2,
+    fault: AsmFault::Word,
+};
+
+const UNSET: Refusal = Refusal {
+    method: 0,
+    slot: 12,
+    rule: Rule::UnsetRead,
+};
+
+const OF_CLASSES: [(BuiltInFailure, &str); 3] = [
+    (BuiltInFailure::NoMemory, "no memory"),
+    (BuiltInFailure::Text(NO_WORD), "line 2: 1 Word"),
+    (BuiltInFailure::Verdict(UNSET), "refused method 0 slot 12: 5 UnsetRead"),
+];
 
 /// Checks that each value prints as the text beside it.
 fn check<T: Display, R: Abort>(rt: &R, alloc: Global, rows: &[(T, &str)]) {
