@@ -1,12 +1,12 @@
 //! Two workers side by side: a call of one shard waits until a call of the other is answered.
 
 use crate::asking::{answer, comes, config, lock};
+use crate::pairs::Hold;
 use crate::play::{Play, played};
 use osd::{ClusterName, Gate, Running};
 use std::alloc::Global;
 use std::sync::Wait;
-use std::sync::atomic::{AtomicBool, AtomicU64, Ordering};
-use std::thread::yield_now;
+use std::sync::atomic::{AtomicU64, Ordering};
 
 /// The number of the request that is held, of whichever client.
 const FIRST: u32 = 1;
@@ -14,31 +14,16 @@ const FIRST: u32 = 1;
 /// The number of the other request.
 const SECOND: u32 = 2;
 
-/// The turns for which the first request is held at most.
-const HELD: u32 = 1_000_000;
-
 /// Holds the first request of that number until it is let go.
 #[derive(Drop)]
-struct Held {
-    came: AtomicBool,
-    is_free: AtomicBool,
-    /// It was let go by the end of its turns.
-    ran_out: AtomicBool,
-}
+struct Held(Hold);
 
 impl Gate for Held {
     fn before(&self, number: u64) {
         // The low 32 bits are the request's number, the high ones its client's.
-        if number % (1 << 32) != u64::from(FIRST) || self.came.swap(true, Ordering::SeqCst) {
-            return;
+        if number % (1 << 32) == u64::from(FIRST) {
+            self.0.pass();
         }
-        for _ in 0..HELD {
-            if self.is_free.load(Ordering::SeqCst) {
-                return;
-            }
-            yield_now();
-        }
-        self.ran_out.store(true, Ordering::SeqCst);
     }
 }
 
@@ -55,43 +40,34 @@ struct SideBySide {
 
 impl SideBySide {
     fn new(alloc: Global, place: usize) -> SideBySide {
-        let gate = Held {
-            came: AtomicBool::new(false),
-            is_free: AtomicBool::new(false),
-            ran_out: AtomicBool::new(false),
-        };
+        let hold = Hold::new();
+        hold.want();
         SideBySide {
             alloc,
-            gate,
+            gate: Held(hold),
             place,
             ended: AtomicU64::new(0),
         }
     }
 
     /// The call that is held, of an object of group 0.
-    fn first<N: ClusterName, R: Wait>(&self, running: &Running<N, R>) -> bool {
-        let Some(mut opened) = running.open() else {
-            return false;
-        };
-        let Some(request) = lock(self.alloc, opened.client, FIRST, "a") else {
-            return false;
-        };
-        answer(running, &mut opened, &request) == Some((self.place, 0))
+    fn first<N: ClusterName, R: Wait>(&self, running: &Running<N, R>) -> Option<bool> {
+        let mut opened = running.open()?;
+        let request = lock(self.alloc, opened.client, FIRST, "a")?;
+        Some(answer(running, &mut opened, &request)? == (self.place, 0))
     }
 
     /// The other call, of an object of another group if there are two. It is made once the first is
     /// held, and answered while it is.
-    fn second<N: ClusterName, R: Wait>(&self, running: &Running<N, R>) -> bool {
-        let Some(mut opened) = running.open() else {
-            return false;
-        };
-        let Some(request) = lock(self.alloc, opened.client, SECOND, "b") else {
-            return false;
-        };
-        let has_come = comes(&self.gate.came);
-        let is_answered = answer(running, &mut opened, &request) == Some((0, 0));
-        self.gate.is_free.store(is_answered, Ordering::SeqCst);
-        has_come && is_answered
+    fn second<N: ClusterName, R: Wait>(&self, running: &Running<N, R>) -> Option<bool> {
+        let mut opened = running.open()?;
+        let request = lock(self.alloc, opened.client, SECOND, "b")?;
+        let has_come = comes(&self.gate.0.came);
+        let is_answered = answer(running, &mut opened, &request)? == (0, 0);
+        if is_answered {
+            self.gate.0.free();
+        }
+        Some(has_come && is_answered)
     }
 
     /// Ends the workers after the second of the calls.
@@ -106,7 +82,7 @@ impl Play for SideBySide {
     fn part<N: ClusterName, R: Wait>(&self, running: &Running<N, R>, number: usize) -> bool {
         if number < 2 {
             running.serve(number, &self.gate);
-            return !self.gate.ran_out.load(Ordering::SeqCst);
+            return self.gate.0.was_in_time();
         }
         if number > 3 {
             return true;
@@ -117,7 +93,7 @@ impl Play for SideBySide {
             self.second(running)
         };
         self.end(running);
-        done
+        done == Some(true)
     }
 }
 

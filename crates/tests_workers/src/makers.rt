@@ -57,37 +57,28 @@ impl Makers {
         running: &Running<N, R>,
         opened: &mut OpenedSession<N>,
         number: u32,
-    ) -> bool {
-        let Some(request) = lock(self.alloc, opened.client, number, "a") else {
-            return false;
-        };
+    ) -> Option<bool> {
+        let request = lock(self.alloc, opened.client, number, "a")?;
         for _ in 0..ASKS {
-            if running.ask(&mut opened.sends, &request).is_err() {
-                return false;
-            }
+            running.ask(&mut opened.sends, &request).ok()?;
             if let Some(Some(_)) = reply_to(running, opened, &request) {
-                return true;
+                return Some(true);
             }
         }
-        false
+        Some(false)
     }
 
     /// Makes a map of node 0 in each round, and judges it.
-    fn first<N: ClusterName, R: Wait>(&self, running: &Running<N, R>) -> bool {
-        let Some(mut opened) = running.open() else {
-            return false;
-        };
+    fn first<N: ClusterName, R: Wait>(&self, running: &Running<N, R>) -> Option<bool> {
+        let mut opened = running.open()?;
         for round in 1..=ROUNDS {
             self.begun.store(round, Ordering::SeqCst);
-            let is_made = running.new_map(&[NodeId::new(0)]).is_ok();
-            if !is_made
-                || !self.waits(&self.ended, round)
-                || !self.is_answered(running, &mut opened, round)
-            {
-                return false;
+            running.new_map(&[NodeId::new(0)]).ok()?;
+            if !self.waits(&self.ended, round) || !self.is_answered(running, &mut opened, round)? {
+                return Some(false);
             }
         }
-        true
+        Some(true)
     }
 
     /// Makes a map of node 1 in each round.

@@ -18,16 +18,16 @@ const PAUSE: u32 = 2_000;
 
 /// Something that is held once, until it is let go.
 #[derive(Drop)]
-struct Hold {
+pub struct Hold {
     is_wanted: AtomicBool,
-    came: AtomicBool,
+    pub came: AtomicBool,
     is_free: AtomicBool,
     /// It was let go by the end of its turns.
     ran_out: AtomicBool,
 }
 
 impl Hold {
-    fn new() -> Hold {
+    pub fn new() -> Hold {
         Hold {
             is_wanted: AtomicBool::new(false),
             came: AtomicBool::new(false),
@@ -36,16 +36,16 @@ impl Hold {
         }
     }
 
-    fn want(&self) {
+    pub fn want(&self) {
         self.is_wanted.store(true, Ordering::SeqCst);
     }
 
-    fn free(&self) {
+    pub fn free(&self) {
         self.is_free.store(true, Ordering::SeqCst);
     }
 
     /// Who comes first once it is wanted is held here.
-    fn pass(&self) {
+    pub fn pass(&self) {
         if !self.is_wanted.swap(false, Ordering::SeqCst) {
             return;
         }
@@ -65,7 +65,7 @@ impl Hold {
     }
 
     /// Somebody was held, and let go by who was to.
-    fn was_in_time(&self) -> bool {
+    pub fn was_in_time(&self) -> bool {
         self.came.load(Ordering::SeqCst) && !self.ran_out.load(Ordering::SeqCst)
     }
 }
@@ -129,21 +129,17 @@ struct HeldAnswer {
 }
 
 impl HeldAnswer {
-    fn calls<N: ClusterName, R: Wait>(&self, running: &Running<N, R>) -> bool {
-        let Some(mut held) = client_in(running, self.alloc, 0) else {
-            return false;
-        };
-        let Some(mut other) = client_in(running, self.alloc, 1) else {
-            return false;
-        };
+    fn calls<N: ClusterName, R: Wait>(&self, running: &Running<N, R>) -> Option<bool> {
+        let mut held = client_in(running, self.alloc, 0)?;
+        let mut other = client_in(running, self.alloc, 1)?;
         if !held.calls_first(running) || !other.calls_first(running) {
-            return false;
+            return Some(false);
         }
         self.fate.want();
         let has_come = held.asks_second(running) && comes(&self.fate.came);
         let is_answered = other.calls_second(running);
         self.fate.free();
-        has_come && is_answered && held.has_second(running) && self.fate.was_in_time()
+        Some(has_come && is_answered && held.has_second(running) && self.fate.was_in_time())
     }
 }
 
@@ -206,10 +202,8 @@ impl Skipped {
     }
 
     /// True if the second request comes while the first is held.
-    fn calls<N: ClusterName, R: Wait>(&self, running: &Running<N, R>) -> bool {
-        let Some(mut client) = client_in(running, self.alloc, 0) else {
-            return false;
-        };
+    fn calls<N: ClusterName, R: Wait>(&self, running: &Running<N, R>) -> Option<bool> {
+        let mut client = client_in(running, self.alloc, 0)?;
         // The workers lose the first map.
         pause(PAUSE);
         self.first.want();
@@ -219,7 +213,7 @@ impl Skipped {
         self.map.free();
         let has_come = comes(&self.first.came) && comes(&self.second);
         self.first.free();
-        are_queued && has_come && self.map.was_in_time() && self.first.was_in_time()
+        Some(are_queued && has_come && self.map.was_in_time() && self.first.was_in_time())
     }
 }
 
@@ -268,15 +262,11 @@ impl Gate for Served {
 }
 
 impl Served {
-    fn calls<N: ClusterName, R: Wait>(&self, running: &Running<N, R>) -> bool {
-        let Some(mut held) = client_in(running, self.alloc, 0) else {
-            return false;
-        };
-        let Some(mut other) = client_in(running, self.alloc, 0) else {
-            return false;
-        };
+    fn calls<N: ClusterName, R: Wait>(&self, running: &Running<N, R>) -> Option<bool> {
+        let mut held = client_in(running, self.alloc, 0)?;
+        let mut other = client_in(running, self.alloc, 0)?;
         if !held.calls_first(running) {
-            return false;
+            return Some(false);
         }
         self.fate.want();
         let has_come = held.asks_second(running) && comes(&self.fate.came);
@@ -285,7 +275,7 @@ impl Served {
         pause(PAUSE);
         self.fate.free();
         let is_next = reply_to(running, &other.opened, &other.first) == Some(Some((2, -16)));
-        has_come && is_asked && is_next && !self.are_two.load(Ordering::SeqCst)
+        Some(has_come && is_asked && is_next && !self.are_two.load(Ordering::SeqCst))
     }
 }
 
@@ -337,10 +327,8 @@ impl Gate for Inside {
 impl Inside {
     /// True if the maps of the two nodes come one after the other, both the first ones and those
     /// that a nudge hands on.
-    fn calls<N: ClusterName, R: Wait>(&self, running: &Running<N, R>) -> bool {
-        let Some(mut client) = client_in(running, self.alloc, 0) else {
-            return false;
-        };
+    fn calls<N: ClusterName, R: Wait>(&self, running: &Running<N, R>) -> Option<bool> {
+        let mut client = client_in(running, self.alloc, 0)?;
         for _ in 0..TURNS {
             if self.came.load(Ordering::SeqCst) >= 4 {
                 break;
@@ -349,7 +337,7 @@ impl Inside {
             yield_now();
         }
         pause(PAUSE);
-        self.came.load(Ordering::SeqCst) >= 4 && !self.are_two.load(Ordering::SeqCst)
+        Some(self.came.load(Ordering::SeqCst) >= 4 && !self.are_two.load(Ordering::SeqCst))
     }
 }
 

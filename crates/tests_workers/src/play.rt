@@ -7,7 +7,10 @@ use osd::{ClusterName, ClusterParts, Config, Gate, Running, running_crosses};
 use std::alloc::Global;
 use std::marker::Brand;
 use std::sync::Wait;
-use std::thread::{Threads, join};
+use std::thread::{Threads, map_indices};
+
+/// The threads of a play.
+const PARTS: usize = 9;
 
 /// A play of nine threads with a cluster, each with its part. A part that a play doesn't need does
 /// nothing.
@@ -31,10 +34,11 @@ pub fn serves<N: ClusterName, R: Wait, G: Gate>(
     true
 }
 
-/// Ends the workers once all calls are made. Returns true if the calls went as they should.
-pub fn ends<N: ClusterName, R: Wait>(running: &Running<N, R>, done: bool) -> bool {
+/// Ends the workers once all calls are made. Returns true if the calls went as they should; None is
+/// for memory or a session that was refused.
+pub fn ends<N: ClusterName, R: Wait>(running: &Running<N, R>, done: Option<bool>) -> bool {
     running.finish();
-    done
+    done == Some(true)
 }
 
 /// The parts of a new cluster, and a table that has the class `lock`.
@@ -72,64 +76,13 @@ fn played_on<N: ClusterName + Send + Sync, P: Play + Sync, R: Threads + Wait + S
     requires config { parts.config ≡ N.config }
     requires table { table ≡ N.classes }
 {
+    // For the proof: threads may share what is running.
+    running_crosses::<N, R>();
     let running = Running::<N, R>::named(alloc, rt, parts, table).ok()?;
-    Some(play.begins(&running) && nine(&running, play))
-}
-
-/// Parts 0 to 8.
-fn nine<N: ClusterName + Send + Sync, P: Play + Sync, R: Threads + Wait + Sync>(
-    running: &Running<N, R>,
-    play: &P,
-) -> bool {
-    running_crosses::<N, R>();
-    let (eight, last) = join(
-        running.runtime(),
-        || eight(running, play),
-        || play.part(running, 8),
-    );
-    eight && last
-}
-
-/// Parts 0 to 7.
-fn eight<N: ClusterName + Send + Sync, P: Play + Sync, R: Threads + Wait + Sync>(
-    running: &Running<N, R>,
-    play: &P,
-) -> bool {
-    running_crosses::<N, R>();
-    let (low, high) = join(
-        running.runtime(),
-        || four(running, play, 0),
-        || four(running, play, 4),
-    );
-    low && high
-}
-
-/// Four parts from a number on.
-fn four<N: ClusterName + Send + Sync, P: Play + Sync, R: Threads + Wait + Sync>(
-    running: &Running<N, R>,
-    play: &P,
-    first: usize,
-) -> bool {
-    running_crosses::<N, R>();
-    let (low, high) = join(
-        running.runtime(),
-        || two(running, play, first),
-        || two(running, play, first.wrapping_add(2)),
-    );
-    low && high
-}
-
-/// Two parts.
-fn two<N: ClusterName + Send + Sync, P: Play + Sync, R: Threads + Wait + Sync>(
-    running: &Running<N, R>,
-    play: &P,
-    first: usize,
-) -> bool {
-    running_crosses::<N, R>();
-    let (low, high) = join(
-        running.runtime(),
-        || play.part(running, first),
-        || play.part(running, first.wrapping_add(1)),
-    );
-    low && high
+    if !play.begins(&running) {
+        return Some(false);
+    }
+    let part = |number: usize| -> bool { play.part(&running, number) };
+    let done = map_indices(running.runtime(), alloc, PARTS, &part).ok()?;
+    Some(done.iter().all(|done| *done))
 }

@@ -62,22 +62,18 @@ impl<H: Files + AllocGlobal + Clone + Drop> Asleep<H> {
         running: &Running<N, R>,
         opened: &mut OpenedSession<N>,
         number: u32,
-    ) -> bool {
-        match lock(self.host.alloc(), opened.client, number, "a") {
-            Some(request) => answer(running, opened, &request).is_some() && self.sleep(),
-            None => false,
-        }
+    ) -> Option<bool> {
+        let request = lock(self.host.alloc(), opened.client, number, "a")?;
+        Some(answer(running, opened, &request).is_some() && self.sleep())
     }
 
-    fn calls<N: ClusterName, R: Wait>(&self, running: &Running<N, R>) -> bool {
-        let Some(mut opened) = running.open() else {
-            return false;
-        };
+    fn calls<N: ClusterName, R: Wait>(&self, running: &Running<N, R>) -> Option<bool> {
+        let mut opened = running.open()?;
         let mut done = self.sleep();
         for number in 1..=CALLS {
-            done = done && self.sleep_after(running, &mut opened, number);
+            done = done && self.sleep_after(running, &mut opened, number)?;
         }
-        done
+        Some(done)
     }
 }
 

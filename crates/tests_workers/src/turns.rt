@@ -47,14 +47,10 @@ impl Rotation {
         running: &Running<N, R>,
         opened: &mut OpenedSession<N>,
         number: u32,
-    ) -> bool {
-        let Some(name) = name_in(running, self.alloc, number as usize % 4) else {
-            return false;
-        };
-        match lock(self.alloc, opened.client, number, name) {
-            Some(request) => running.ask(&mut opened.sends, &request).is_ok(),
-            None => false,
-        }
+    ) -> Option<bool> {
+        let name = name_in(running, self.alloc, number as usize % 4)?;
+        let request = lock(self.alloc, opened.client, number, name)?;
+        Some(running.ask(&mut opened.sends, &request).is_ok())
     }
 
     /// True if the worker takes the twelve in this order.
@@ -69,19 +65,17 @@ impl Rotation {
         self.gate.digits.load(Ordering::SeqCst) == order
     }
 
-    fn calls<N: ClusterName, R: Wait>(&self, running: &Running<N, R>) -> bool {
+    fn calls<N: ClusterName, R: Wait>(&self, running: &Running<N, R>) -> Option<bool> {
         drop(running.open());
-        let Some(mut opened) = running.open() else {
-            return false;
-        };
+        let mut opened = running.open()?;
         let mut done = true;
         for number in 1..13 {
-            done = done && self.is_queued(running, &mut opened, number);
+            done = done && self.is_queued(running, &mut opened, number)?;
         }
         // The last one is number 12 of client 2.
-        self.are_taken(0x1234_5678_9abc)
-            && done
-            && self.gate.last.load(Ordering::SeqCst) == 8_589_934_604
+        let are_taken = self.are_taken(0x1234_5678_9abc);
+        let last = self.gate.last.load(Ordering::SeqCst);
+        Some(are_taken && done && last == 8_589_934_604)
     }
 }
 

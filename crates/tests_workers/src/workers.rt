@@ -26,27 +26,21 @@ impl Woken {
         running: &Running<N, R>,
         opened: &mut OpenedSession<N>,
         number: u32,
-    ) -> bool {
-        let Some(request) = lock(self.alloc, opened.client, number, "a") else {
-            return false;
-        };
-        running.ask(&mut opened.sends, &request).is_ok()
-            && matches!(reply_to(running, opened, &request), Some(Some(_)))
+    ) -> Option<bool> {
+        let request = lock(self.alloc, opened.client, number, "a")?;
+        running.ask(&mut opened.sends, &request).ok()?;
+        Some(reply_to(running, opened, &request)?.is_some())
     }
 
-    fn calls<N: ClusterName, R: Wait>(&self, running: &Running<N, R>) -> bool {
-        let Some(mut opened) = running.open() else {
-            return false;
-        };
-        let Some(request) = lock(self.alloc, opened.client, 1, "a") else {
-            return false;
-        };
+    fn calls<N: ClusterName, R: Wait>(&self, running: &Running<N, R>) -> Option<bool> {
+        let mut opened = running.open()?;
+        let request = lock(self.alloc, opened.client, 1, "a")?;
         let mut done = answer(running, &mut opened, &request).is_some();
         for number in 2..=CALLS {
             pause(IDLE);
-            done = done && self.is_served(running, &mut opened, number);
+            done = done && self.is_served(running, &mut opened, number)?;
         }
-        done
+        Some(done)
     }
 }
 
@@ -76,7 +70,7 @@ impl Play for Idle {
             0..=2 => serves(running, number, &Open),
             3 => {
                 pause(IDLE);
-                ends(running, true)
+                ends(running, Some(true))
             }
             _ => true,
         }
@@ -97,18 +91,14 @@ struct Twice {
 }
 
 impl Twice {
-    fn calls<N: ClusterName, R: Wait>(&self, running: &Running<N, R>) -> bool {
-        let Some(mut opened) = running.open() else {
-            return false;
-        };
-        let Some(request) = lock(self.alloc, opened.client, 1, "a") else {
-            return false;
-        };
+    fn calls<N: ClusterName, R: Wait>(&self, running: &Running<N, R>) -> Option<bool> {
+        let mut opened = running.open()?;
+        let request = lock(self.alloc, opened.client, 1, "a")?;
         let done = answer(running, &mut opened, &request).is_some();
         // The worker is served, and these two would wait for the end that comes after them.
         running.serve(0, &Open);
         running.serve(1, &Open);
-        done
+        Some(done)
     }
 }
 
@@ -139,7 +129,7 @@ struct NoWorker {
 impl Play for NoWorker {
     fn part<N: ClusterName, R: Wait>(&self, running: &Running<N, R>, number: usize) -> bool {
         match number {
-            0 => ends(running, comes(&self.has_returned)),
+            0 => ends(running, Some(comes(&self.has_returned))),
             1 => {
                 running.serve(number, &Open);
                 self.has_returned.store(true, Ordering::SeqCst);
