@@ -42,7 +42,7 @@ METHODS = (
     {"count": 0},
 )
 # The run whose log grows to its limit.
-FULL = 4
+FULL = 0
 
 
 class Fault(Exception):

@@ -109,15 +109,15 @@ def plan_of(seed, number, is_full=False):
     grows to its limit."""
     it = random.Random(f"{seed} {number} {is_full}")
     is_many = number % 8 == 7
-    nodes, replicas, groups = it.randint(3, 6), it.randint(2, 3), it.choice([1, 2, 4, 8])
-    shards, workers = it.randint(1, 4), it.randint(1, 4)
+    nodes, replicas, groups = it.choice([3, 4, 5, 6, 9, 16]), it.randint(1, 3), it.choice([1, 2, 4, 8, 16, 64])
+    shards, workers = it.choice([1, 2, 3, 4, 16, 64]), it.choice([1, 2, 3, 4, 8, 16])
     tries = it.randint(20, 900) if it.randrange(8) == 0 else it.randint(2_000, 6_000)
     clients, objects = it.randint(9, 63) if is_many else it.randint(1, 8), it.randint(1, 8)
     calls, rounds = 8 if is_many else it.randint(8, 100), 1
     shares = [it.choice(of) for of in ((0, 8, 32, 96), (0, 8, 32, 128), (0, 8, 32, 128), (0, 0, 16, 64))]
     pause, events = it.choice([200, 1_000, 5_000, 20_000]), it.randint(20, 300)
     if is_full:
-        nodes, groups, shards, workers, tries, clients, objects = 3, 1, 1, 2, 20_000, 12, 8
+        nodes, replicas, groups, shards, workers, tries, clients, objects = 3, it.randint(2, 3), 1, 1, 2, 20_000, 12, 8
         shares = [it.randrange(2), it.randrange(4), it.randrange(2), 0]
         calls, rounds, pause, events = 64, 1_024, 100_000, 400
     lines = [f"cluster {nodes} {replicas} {groups} {shards} {workers} {tries}",

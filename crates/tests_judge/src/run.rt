@@ -18,7 +18,7 @@ use std::thread::{Threads, for_each_mut, join};
 use std::time::Clock;
 
 /// The workers and the callers of a run, at most.
-const WORKERS: usize = 4;
+const WORKERS: usize = 16;
 
 const CALLERS: usize = 63;
 
@@ -153,7 +153,7 @@ fn serve_all<N: ClusterName + Send + Sync, R: Threads + Wait + Sync>(
 ) {
     running_crosses::<N, R>();
     trouble_crosses();
-    let mut numbers = [0, 1, 2, 3];
+    let mut numbers = [0, 1, 2, 3, 4, 5, 6, 7, 8, 9, 10, 11, 12, 13, 14, 15];
     let workers = running.config().workers.min(WORKERS);
     let numbers = &mut numbers[..workers];
     for_each_mut(
