@@ -3,57 +3,10 @@
 ghost use Rattle.std.specs.Prelude.{◌≡◌};
 
 use crate::objects::named;
-use object_store::{Object, ObjectName, Objects, StoreError};
+use object_store::{ObjectName, Objects, StoreError};
 use std::alloc::Global;
 use std::process::Abort;
 use txn::{Change, Staged, apply, undo};
-
-/// True if the data from a place on begins with these bytes.
-fn reads(object: Option<&Object>, at: u64, want: [u8; 4]) -> bool {
-    let mut four = [0xee; 4];
-    match object {
-        None => false,
-        Some(object) => {
-            let count = object.read(at, &mut four);
-            count == 4 && four == want
-        }
-    }
-}
-
-/// The change that makes an object of four bytes at 4,094.
-fn made<R: Abort>(rt: &R, alloc: Global) -> Change {
-    let mut staged = Staged::over(None);
-    staged.write(alloc, 4_094, b"abcd").expect(rt, "memory");
-    staged.finish().expect(rt, "memory")
-}
-
-/// Cuts the data and extends it. True if the cut bytes are zeros then.
-fn is_cut<R: Abort>(rt: &R, alloc: Global, object: Option<&Object>) -> bool {
-    let mut staged = Staged::over(object);
-    staged.truncate(alloc, 4_095).expect(rt, "memory");
-    staged.truncate(alloc, 4_098).expect(rt, "memory");
-    let right = reads(staged.object(), 4_094, [b'a', 0, 0, 0]);
-    drop(staged);
-    right
-}
-
-/// True if the gap before the bytes is zeros, and a cut that is forgotten leaves them.
-fn has_gap<R: Abort>(rt: &R, alloc: Global, change: &Change) -> bool {
-    let object = change.after();
-    change.before().is_none()
-        && reads(object, 0, [0; 4])
-        && is_cut(rt, alloc, object)
-        && reads(object, 4_094, *b"abcd")
-}
-
-#[test]
-fn a_gap_and_a_cut_are_zero(rt: HostRuntime) {
-    let alloc = rt.alloc();
-    let change = made(&rt, alloc);
-    let right = has_gap(&rt, alloc, &change);
-    drop(change);
-    assert!(rt; right);
-}
 
 /// Stages an xattr and a key, each after another that is gone then.
 fn stage_names(alloc: Global, staged: &mut Staged, value: &[u8]) -> Result<(), StoreError>
@@ -95,12 +48,16 @@ fn step_on<R: Abort>(
 
 /// True if the object is there with four bytes, one xattr and one key, both of that value.
 fn is_made(objects: &Objects, name: &ObjectName, value: &[u8]) -> bool {
-    let object = objects.get(name);
-    let right = match object {
+    let mut four = [0xee; 4];
+    let right = match objects.get(name) {
         None => false,
-        Some(object) => object.xattr(b"n") == Some(value) && object.key(b"k") == Some(value),
+        Some(object) => {
+            object.read(0, &mut four) == 4
+                && object.xattr(b"n") == Some(value)
+                && object.key(b"k") == Some(value)
+        }
     };
-    right && reads(object, 0, *b"abcd") && objects.len() == 1
+    right && &four == b"abcd" && objects.len() == 1
 }
 
 /// Applies such a change and undoes a copy of it. True if the object was so in between.
