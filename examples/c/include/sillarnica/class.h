@@ -23,17 +23,17 @@ typedef long long s64;
 #endif
 
 /* METHOD(name, FLAGS, IN, OUT) { .. } is a method. FLAGS is r (reads), w or rw (may write), as words; IN and OUT, the most
-   bytes of input and output, are constant expressions of 0 to 4096 (65535 in rule set 3), as sizeof (struct request). It gets
+   bytes of input and output, are constant expressions of 0 to 65535 (4096 in rule sets 1 and 2), as sizeof (struct request). It gets
      in      IN bytes: the input followed by zeros, which can't be written
      in_len  how long the input is, at most IN
      out     OUT bytes, all zero; the output is as many of them as cls_out_len was told, none if it wasn't called
    and returns its code; a negative one is an error, and drops all that the method did. */
 #ifndef METHOD_MOST
-#define METHOD_MOST 4096
+#define METHOD_MOST 65535
 #endif
 #define METHOD(name, flags, in_cap, out_cap)                                                                              \
     _Static_assert((in_cap) >= 0 && (in_cap) <= METHOD_MOST && (out_cap) >= 0 && (out_cap) <= METHOD_MOST,                \
-                   "METHOD(" #name "): IN and OUT are 0 to 4096 bytes, in rule set 3 to 65535");                          \
+                   "METHOD(" #name "): IN and OUT are 0 to 65535 bytes, in rule sets 1 and 2 to 4096");                   \
     METHOD_IS(name, METHOD_FLAGS_##flags, in_cap, out_cap)                                                                \
     static s64 method_##name(const u8 *in, u64 in_len, u8 *out)
 #define METHOD_FLAGS_r 1
