@@ -3,8 +3,7 @@
 use bpf_asm::assemble;
 use bpf_decode::{
     Arithmetic, ByteOrder, Comparison, DecodeError, EndWidth, Insn, OpWidth, Operand, Register,
-    SignedMove, SignedWidth, Width, beginning, check, decode, encode, every_row, one_spelling,
-    round_trip,
+    SignedMove, SignedWidth, Width, check, decode, encode,
 };
 use std::alloc::Global;
 use std::process::Abort;
@@ -124,13 +123,4 @@ fn many_instructions(rt: HostRuntime) {
         .repeat(rt.alloc(), 10_000)
         .expect(&rt, "memory");
     assert!(rt; spelled_length(rt.alloc(), &insns) == Some(80_000));
-}
-
-/// The laws are called: they do nothing.
-#[test]
-fn laws(_rt: HostRuntime) {
-    one_spelling();
-    round_trip();
-    beginning();
-    every_row();
 }

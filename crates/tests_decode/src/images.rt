@@ -3,7 +3,7 @@
 use crate::code::register_of;
 use bpf_decode::{
     ClassImage, DecodeError, ImageError, Insn, Method, OpWidth, Operand, RuleSet, are_name_bytes,
-    name_text, one_class, read_image, write_image,
+    name_text, read_image, write_image,
 };
 use std::alloc::Global;
 use std::fmt::Display;
@@ -174,28 +174,25 @@ fn rule_sets(rt: HostRuntime) {
 /// 65 bytes.
 const LONG_NAME: &str = "b2345678901234567890123456789012345678901234567890123456789012345";
 
-/// Name, flags, in_cap and out_cap of a second method after `a`, and its refusal.
-const SECOND: [(&str, u8, u16, u16, Option<DecodeError>); 9] = [
-    ("", 1, 0, 0, Some(DecodeError::Name)),
-    (LONG_NAME, 1, 0, 0, Some(DecodeError::Name)),
-    ("B", 1, 0, 0, Some(DecodeError::Name)),
-    ("a", 1, 0, 0, Some(DecodeError::Order)),
-    ("b", 0, 0, 0, Some(DecodeError::Flags)),
-    ("b", 4, 0, 0, Some(DecodeError::Flags)),
-    ("b", 2, 4097, 0, Some(DecodeError::Limit)),
-    ("b", 2, 0, 4097, Some(DecodeError::Limit)),
-    ("b", 3, 4096, 4096, None),
-];
-
-/// A rule set, in_cap and out_cap of such a method, and its refusal.
-const WIDE: [(RuleSet, u16, u16, Option<DecodeError>); 7] = [
-    (RuleSet::Two, 4096, 4096, None),
-    (RuleSet::Two, 4097, 0, Some(DecodeError::Limit)),
-    (RuleSet::Two, 0, 4097, Some(DecodeError::Limit)),
-    (RuleSet::Three, 4097, 0, None),
-    (RuleSet::Three, 0, 4097, None),
-    (RuleSet::Three, 65535, 65535, None),
-    (RuleSet::One, 65535, 65535, Some(DecodeError::Limit)),
+/// A rule set; name, flags, in_cap and out_cap of a second method after `a`, and its refusal.
+#[rattlefmt::skip]
+const SECOND: [(RuleSet, &str, u8, u16, u16, Option<DecodeError>); 16] = [
+    (RuleSet::One, "", 1, 0, 0, Some(DecodeError::Name)),
+    (RuleSet::One, LONG_NAME, 1, 0, 0, Some(DecodeError::Name)),
+    (RuleSet::One, "B", 1, 0, 0, Some(DecodeError::Name)),
+    (RuleSet::One, "a", 1, 0, 0, Some(DecodeError::Order)),
+    (RuleSet::One, "b", 0, 0, 0, Some(DecodeError::Flags)),
+    (RuleSet::One, "b", 4, 0, 0, Some(DecodeError::Flags)),
+    (RuleSet::One, "b", 2, 4097, 0, Some(DecodeError::Limit)),
+    (RuleSet::One, "b", 2, 0, 4097, Some(DecodeError::Limit)),
+    (RuleSet::One, "b", 3, 4096, 4096, None),
+    (RuleSet::Two, "b", 1, 4096, 4096, None),
+    (RuleSet::Two, "b", 1, 4097, 0, Some(DecodeError::Limit)),
+    (RuleSet::Two, "b", 1, 0, 4097, Some(DecodeError::Limit)),
+    (RuleSet::Three, "b", 1, 4097, 0, None),
+    (RuleSet::Three, "b", 1, 0, 4097, None),
+    (RuleSet::Three, "b", 1, 65535, 65535, None),
+    (RuleSet::One, "b", 1, 65535, 65535, Some(DecodeError::Limit)),
 ];
 
 /// A method whose code is `exit`.
@@ -228,20 +225,14 @@ fn of_second(error: Option<DecodeError>) -> Option<ImageError> {
 
 #[test]
 fn classes_are_built(rt: HostRuntime) {
-    for (name, flags, in_cap, out_cap, error) in &SECOND {
+    for (rules, name, flags, in_cap, out_cap, error) in &SECOND {
         let second = method(&rt, rt.alloc(), *name, *flags, (*in_cap, *out_cap));
-        let found = refusal_of(&rt, rt.alloc(), second, RuleSet::One);
-        assert!(rt; found == of_second(*error));
-    }
-    for (rules, in_cap, out_cap, error) in &WIDE {
-        let second = method(&rt, rt.alloc(), "b", 1, (*in_cap, *out_cap));
         let found = refusal_of(&rt, rt.alloc(), second, *rules);
         assert!(rt; found == of_second(*error));
     }
     let (methods, error) = (0, DecodeError::Limit);
     let found = ClassImage::new(Vec::new(rt.alloc()), RuleSet::Two).err();
     assert!(rt; found == Some(ImageError { methods, error }));
-    one_class();
 }
 
 /// Refusals, and what they print.

@@ -3,7 +3,7 @@
 use crate::images::is_printed;
 use bpf_asm::{
     AsmError, AsmFault, assemble, assemble_class, disassemble, disassemble_class,
-    disassemble_with_slots, one_class_text, one_reading, one_slot_text, one_text,
+    disassemble_with_slots,
 };
 use std::alloc::Global;
 use std::process::Abort;
@@ -232,13 +232,4 @@ fn slots(rt: HostRuntime) {
     assert!(rt; is_text(with_slots(rt.alloc(), SLOTS), SLOTS));
     assert!(rt; is_text(with_slots(rt.alloc(), SLOTS_3), SLOTS_3));
     assert!(rt; is_printed(rt.alloc(), &LACK, "line 0: 5 NoMemory"));
-}
-
-/// The laws are called: they do nothing.
-#[test]
-fn laws(_rt: HostRuntime) {
-    one_text();
-    one_class_text();
-    one_slot_text();
-    one_reading();
 }

@@ -1,9 +1,6 @@
 //! The built-in classes as their texts declare them.
 use super::words::{is_number, next, see};
-use bpf_asm::{assemble_class, disassemble_class};
-use builtin_classes::{LOCK, OBJ, load_lock, load_obj};
-use std::alloc::Global;
-use std::process::Abort;
+use builtin_classes::{OBJ, load_lock, load_obj};
 use std::str::SplitWhitespace;
 use verifier::{VerifiedClass, VerifiedMethod};
 
@@ -59,47 +56,4 @@ fn loads_each_class(rt: HostRuntime) {
         "obj",
     );
     assert!(rt; OBJ.starts_with(".method getxattr r 64 4096\n"));
-}
-
-/// The first method of the class `lock` as it is disassembled, and the line after it: each label is
-/// a distance, and the name of the xattr, its four letters from the lowest byte on, is decimal.
-const LOCK_LISTED: &str = ".method lock rw 0 0
-call 15
-mov r6, r0
-stw [r10-4], 1801678700
-mov r1, r10
-add r1, -4
-mov r2, 4
-mov r3, r10
-add r3, -16
-mov r4, 8
-call 6
-jsge r0, 0, +9
-stxdw [r10-16], r6
-mov r1, r10
-add r1, -4
-mov r2, 4
-mov r3, r10
-add r3, -16
-mov r4, 8
-call 7
-exit
-ldxdw r1, [r10-16]
-mov r0, 0
-jeq r1, r6, +1
-mov r0, -16
-exit
-.method unlock rw 0 0
-";
-
-/// True if the class of a text disassembles to a text with this beginning.
-fn is_listed<R: Abort>(rt: &R, alloc: Global, text: &str, listed: &str) -> bool {
-    let image = assemble_class(alloc, text).expect(rt, "a class");
-    let plain = disassemble_class(alloc, &image).expect(rt, "memory");
-    plain.starts_with(listed)
-}
-
-#[test]
-fn lists_the_method_lock(rt: HostRuntime) {
-    assert!(rt; is_listed(&rt, rt.alloc(), LOCK, LOCK_LISTED));
 }

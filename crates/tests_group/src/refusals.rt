@@ -1,17 +1,11 @@
-//! The printed refusals of the group's crates, each by its number and its name; and their laws.
+//! The printed refusals of the group's crates, each by its number and its name.
 use super::words::see;
 use bpf_asm::{AsmError, AsmFault};
 use builtin_classes::BuiltInFailure;
-use group_world::{
-    Epoch, HandleError, MonitorError, agreement, event_crosses, kept_stays_activated, map_crosses,
-    message_crosses, nothing_is_cut, refusals_are_deserved, replies_are_committed, worked_runs,
-};
-use pg_log::{
-    LogError, NoMemory, adopting, classes_added, entry_crosses, folds, legal_lists,
-    objects_within_limits, pairs, refusals, replies, request_crosses, table_crosses, undoing,
-};
-use placement::{PlacementError, acting_sets, ranking};
-use replication::{UnpackError, packed_lists};
+use group_world::{HandleError, MonitorError};
+use pg_log::{LogError, NoMemory};
+use placement::PlacementError;
+use replication::UnpackError;
 use std::alloc::Global;
 use std::fmt::Display;
 use std::process::Abort;
@@ -71,7 +65,10 @@ const UNSET: Refusal = Refusal {
 const OF_CLASSES: [(BuiltInFailure, &str); 3] = [
     (BuiltInFailure::NoMemory, "no memory"),
     (BuiltInFailure::Text(NO_WORD), "line 2: 1 Word"),
-    (BuiltInFailure::Verdict(UNSET), "refused method 0 slot 12: 5 UnsetRead"),
+    (
+        BuiltInFailure::Verdict(UNSET),
+        "refused method 0 slot 12: 5 UnsetRead",
+    ),
 ];
 
 /// Checks that each value prints as the text beside it.
@@ -103,34 +100,4 @@ fn refusals_of_the_log(rt: HostRuntime) {
     assert!(rt; LogError::NoClass.number() == 4 && HandleError::NoClass.number() == 5);
     assert!(rt; MonitorError::NotNewest.number() == 2);
     assert!(rt; MonitorError::NotNewest.name() == "NotNewest");
-}
-
-#[test]
-fn laws_do_nothing(rt: HostRuntime) {
-    // The laws do nothing: they were proved when their crates were checked.
-    legal_lists();
-    folds();
-    replies();
-    pairs();
-    undoing();
-    classes_added();
-    adopting();
-    refusals();
-    objects_within_limits();
-    request_crosses();
-    entry_crosses();
-    table_crosses();
-    agreement();
-    nothing_is_cut();
-    worked_runs();
-    replies_are_committed();
-    refusals_are_deserved();
-    kept_stays_activated();
-    map_crosses();
-    message_crosses();
-    event_crosses();
-    ranking();
-    acting_sets();
-    packed_lists();
-    assert!(rt; Epoch::new(u32::MAX).get() == 4_294_967_295);
 }

@@ -10,8 +10,6 @@ mod cell;
 #[cfg(test)]
 mod full;
 #[cfg(test)]
-mod laws;
-#[cfg(test)]
 mod maps;
 #[cfg(test)]
 mod messages;

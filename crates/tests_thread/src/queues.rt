@@ -3,7 +3,7 @@
 ghost use Rattle.std.specs.Prelude.{◌≡◌, ◌<◌, length, IsTrue};
 ghost use Rattle.op_shards.specs.Passes.{Grew, WasSent};
 
-use op_shards::{Op, OpShards, SendPass, TakePass, queues_cross, sending_goes_on};
+use op_shards::{Op, OpShards, SendPass, TakePass, sending_goes_on};
 use std::alloc::Global;
 use std::marker::Brand;
 use std::process::Abort;
@@ -457,10 +457,4 @@ fn takers_put_together(rt: HostRuntime) {
     let other = takes.pop().expect(&rt, "a taker");
     let take = takes.pop().expect(&rt, "a taker");
     assert!(rt; take_one_each(&rt, &shards, send, take, other));
-}
-
-#[test]
-fn queues_and_passes_may_cross(_rt: HostRuntime) {
-    // The law does nothing: it was proved when the crate was checked.
-    queues_cross::<Job>();
 }
