@@ -13,43 +13,35 @@ mod spills;
 mod third;
 
 use crate::slots_as_numbers;
-use bpf_decode::{ClassImage, Method, RuleSet, decode};
+use bpf_asm::assemble;
+use bpf_decode::{ClassImage, Insn, Method, RuleSet};
 use std::alloc::Global;
 use std::process::Abort;
 use verifier::{Refusal, verify};
 
-/// The most bytes that the code of a row has.
-const CODE_ROOM: usize = 160;
+/// Words of a row, and the text that each stands for.
+#[rattlefmt::skip]
+const WORDS: [(&str, &str); 8] = [
+    ("GET", "stb [r10-8], 97; KEY; ROOM 64; call 6"),
+    ("KEY", "mov r1, r10; add r1, -8; mov r2, 1"),
+    ("ROOM", "mov r3, r10; add r3, -64; mov r4,"),
+    ("WRITE", "mov r1, 0; mov r2, r10; add r2, -64; mov r3,"),
+    ("USE", "add r7, r0; stb [r7+0], 1; mov r0, 0; exit"),
+    ("OUT", "add r3, r4; stb [r3+0], 1; exit"),
+    ("KEEP", "stxdw [r10-8], r3"),
+    ("BACK", "ldxdw r4, [r10-8]"),
+];
 
-/// The value of a hexadecimal digit; 0 of any other byte.
-fn digit(byte: u8) -> u8 {
-    match byte {
-        b'0'..=b'9' => byte - b'0',
-        b'a'..=b'f' => byte - b'a' + 10,
-        _ => 0,
-    }
-}
-
-/// The bytes of slots, which are read into a buffer of zeros: a slot is 16 hexadecimal digits.
-fn bytes<'a>(slots: &str, buffer: &'a mut [u8]) -> &'a [u8] {
-    let mut count = 0usize;
-    for letter in slots.bytes() {
-        if letter != b' ' {
-            if let Some(byte) = buffer.get_mut(count / 2) {
-                *byte = (*byte << 4) | digit(letter);
-            }
-            count = count.wrapping_add(1);
-        }
-    }
-    buffer.get(..count / 2).unwrap_or(&[])
-}
-
-/// The number of decimal digits; of others the greatest, which is none of flags, capacities, slots
-/// and rules.
+/// The number of decimal digits; of others the greatest, which is none of flags, slots and rules.
 fn number(text: &str) -> u16 {
-    match text.parse::<u16>() {
-        Ok(number) => number,
-        Err(_) => u16::MAX,
+    text.parse::<u16>().unwrap_or(u16::MAX)
+}
+
+/// The capacity of a word; if a star ends it, less by that much.
+fn cap(word: &str, less: u16) -> u16 {
+    match word.split_once('*') {
+        None => number(word),
+        Some((least, _)) => number(least).saturating_sub(less),
     }
 }
 
@@ -61,29 +53,12 @@ struct Declared {
     out_cap: u16,
 }
 
-/// A method of that name, by its code's bytes. None if they are no code, or memory ran out.
-fn method(alloc: Global, name: &str, code: &[u8], declared: Declared) -> Option<Method> {
-    let Ok(instructions) = decode(alloc, code) else {
-        return None;
-    };
-    let Ok(name) = String::from_str(alloc, name) else {
-        return None;
-    };
-    Some(Method::new(
-        name,
-        declared.flags,
-        declared.in_cap,
-        declared.out_cap,
-        instructions,
-    ))
-}
-
 /// The declaration that three words spell: flags, in_cap and out_cap.
-fn told_declared(text: &str) -> Declared {
+fn told_declared(text: &str, less: u16) -> Declared {
     let mut words = text.split_whitespace();
     let flags = number(words.next().unwrap_or(""));
-    let in_cap = number(words.next().unwrap_or(""));
-    let out_cap = number(words.next().unwrap_or(""));
+    let in_cap = cap(words.next().unwrap_or(""), less);
+    let out_cap = cap(words.next().unwrap_or(""), less);
     Declared {
         flags: (flags % 256) as u8,
         in_cap,
@@ -91,34 +66,39 @@ fn told_declared(text: &str) -> Declared {
     }
 }
 
-/// The method of a row: flags, in_cap, out_cap and a colon, the slots, a bar, and the method in
-/// words.
-fn method_of(alloc: Global, name: &str, row: &str) -> Option<Method> {
-    let Some((told, _)) = row.split_once('|') else {
-        return None;
-    };
-    let Some((numbers, slots)) = told.split_once(':') else {
-        return None;
-    };
-    let mut buffer = [0u8; CODE_ROOM];
-    let code = bytes(slots, &mut buffer);
-    method(alloc, name, code, told_declared(numbers))
-}
-
-/// Puts a method after others; whether it could be.
-fn put(methods: &mut Vec<Method>, method: Option<Method>) -> bool {
-    match method {
-        None => false,
-        Some(method) => methods.push(method).is_ok(),
+/// The instructions of lines, with a semicolon between two.
+fn code_of(alloc: Global, lines: &str) -> Option<Vec<Insn>> {
+    let mut text = String::from_str(alloc, lines).ok()?;
+    for (word, meaning) in &WORDS {
+        text = text.replace(alloc, *word, *meaning).ok()?;
     }
+    let text = text.replace(alloc, ';', "\n").ok()?;
+    assemble(alloc, &text).ok()
 }
 
-/// A class of that rule set and one method `f`, which a row spells.
-fn class(alloc: Global, rules: RuleSet, row: &str) -> Option<ClassImage> {
+/// A method of that name. None if memory ran out.
+fn method(alloc: Global, name: &str, code: Vec<Insn>, declared: Declared) -> Option<Method> {
+    let name = String::from_str(alloc, name).ok()?;
+    Some(Method::new(
+        name,
+        declared.flags,
+        declared.in_cap,
+        declared.out_cap,
+        code,
+    ))
+}
+
+/// The method of a row: flags, in_cap, out_cap, a colon, and its lines.
+fn method_of(alloc: Global, name: &str, row: &str, less: u16) -> Option<Method> {
+    let (numbers, lines) = row.split_once(": ")?;
+    let code = code_of(alloc, lines)?;
+    method(alloc, name, code, told_declared(numbers, less))
+}
+
+/// A class of that rule set and one method.
+fn class_of(alloc: Global, rules: RuleSet, method: Option<Method>) -> Option<ClassImage> {
     let mut methods = Vec::new(alloc);
-    if !put(&mut methods, method_of(alloc, "f", row)) {
-        return None;
-    }
+    methods.push(method?).ok()?;
     ClassImage::new(methods, rules).ok()
 }
 
@@ -142,46 +122,53 @@ fn is_judged(alloc: Global, class: &ClassImage, method: usize, told: &str) -> bo
     }
 }
 
-/// True if `verify` gives that verdict on a class of that rule set and the one method of a row;
-/// with `none`, if there is no such class.
-fn is_row_judged(alloc: Global, rules: RuleSet, row: &str, told: &str) -> bool {
-    match class(alloc, rules, row) {
-        None => told == "none",
+/// True if `verify` gives that verdict on a class of that rule set and one method; with `none`, if
+/// there is the method and no such class.
+fn is_method_judged(alloc: Global, rules: RuleSet, method: Option<Method>, told: &str) -> bool {
+    let is_none = method.is_some() && told == "none";
+    match class_of(alloc, rules, method) {
+        None => is_none,
         Some(class) => is_judged(alloc, &class, 0, told),
     }
 }
 
-/// Checks rows, one a line: a verdict (`ok`, or the slot and the rule's number), a method, a bar,
-/// and the method in words. A line whose first character is `#` says of what the rows after it are.
-/// There are that many rows.
-fn check<R: Abort>(rt: &R, alloc: Global, rows: &str, wanted: usize) {
-    let mut count = 0usize;
-    for row in rows.lines() {
-        if !row.starts_with('#') {
-            let (told, method) = row.split_once(' ').unwrap_or((row, ""));
-            assert!(rt; is_row_judged(alloc, RuleSet::One, method, told), "{row}");
-            count = count.wrapping_add(1);
-        }
+/// What a row has after that many words.
+fn after(row: &str, words: usize) -> &str {
+    let mut rest = row;
+    for _ in 0..words {
+        let (_, others) = rest.split_once(' ').unwrap_or((rest, ""));
+        rest = others;
     }
-    assert!(rt; count == wanted);
+    rest
 }
 
-/// Checks rows of two rule sets: of each line the first word is the verdict in the later set, the
-/// second that in the earlier one.
-fn check_both<R: Abort>(
-    rt: &R,
-    alloc: Global,
-    sets: (RuleSet, RuleSet),
-    rows: &str,
-    wanted: usize,
-) {
+/// Checks a row with a capacity that is less by that much, if it has one with a star. If it isn't
+/// less, the first set accepts the method.
+fn check_row<R: Abort>(rt: &R, alloc: Global, sets: &[RuleSet], row: &str, less: u16) {
+    let mut words = row.split_whitespace();
+    for (at, rules) in sets.iter().enumerate() {
+        let word = words.next().unwrap_or("");
+        let told = if less == 0 && at == 0 { "ok" } else { word };
+        let method = method_of(alloc, "f", after(row, sets.len()), less);
+        assert!(rt; is_method_judged(alloc, *rules, method, told), "{row}");
+    }
+}
+
+/// Checks rows, one a line: a verdict in each rule set (`ok`, `none` if it has no such class, or the
+/// slot and the rule's number), and a method. If a star ends a capacity, that is the least with
+/// which the first set accepts the method, and the verdicts are those with one less. A line whose
+/// first character is `#` says of what the rows after it are. There are that many rows; one with a
+/// star is two.
+fn check<R: Abort>(rt: &R, alloc: Global, sets: &[RuleSet], rows: &str, wanted: usize) {
     let mut count = 0usize;
     for row in rows.lines() {
-        if !row.starts_with('#') {
-            let (later, rest) = row.split_once(' ').unwrap_or((row, ""));
-            let (earlier, method) = rest.split_once(' ').unwrap_or((rest, ""));
-            assert!(rt; is_row_judged(alloc, sets.0, method, later), "{row}");
-            assert!(rt; is_row_judged(alloc, sets.1, method, earlier), "{row}");
+        if row.starts_with('#') {
+            continue;
+        }
+        check_row(rt, alloc, sets, row, 1);
+        count = count.wrapping_add(1);
+        if row.split_once('*').is_some() {
+            check_row(rt, alloc, sets, row, 0);
             count = count.wrapping_add(1);
         }
     }
@@ -191,28 +178,24 @@ fn check_both<R: Abort>(
 #[test]
 fn judges_spills(rt: HostRuntime) {
     slots_as_numbers();
-    check_both(
-        &rt,
-        rt.alloc(),
-        (RuleSet::Two, RuleSet::One),
-        spills::SPILLS,
-        69,
-    );
+    let sets = [RuleSet::Two, RuleSet::One];
+    check(&rt, rt.alloc(), &sets, spills::SPILLS, 69);
 }
 
 #[test]
 fn judges_by_the_third_set(rt: HostRuntime) {
-    let sets = (RuleSet::Three, RuleSet::Two);
-    check_both(&rt, rt.alloc(), sets, third::THIRD, 26);
-    check_both(&rt, rt.alloc(), sets, answers::ANSWERS, 42);
-    check_both(&rt, rt.alloc(), sets, copies::COPIES, 25);
+    let sets = [RuleSet::Three, RuleSet::Two];
+    check(&rt, rt.alloc(), &sets, third::THIRD, 26);
+    check(&rt, rt.alloc(), &sets, answers::ANSWERS, 42);
+    check(&rt, rt.alloc(), &sets, copies::COPIES, 25);
 }
 
 #[test]
 fn judges_rows(rt: HostRuntime) {
-    check(&rt, rt.alloc(), methods::METHODS, 46);
-    check(&rt, rt.alloc(), arithmetic::ARITHMETIC, 60);
-    check(&rt, rt.alloc(), branches::BRANCHES, 23);
-    check(&rt, rt.alloc(), ranges::RANGES, 50);
-    check(&rt, rt.alloc(), calls::CALLS, 71);
+    let one = [RuleSet::One];
+    check(&rt, rt.alloc(), &one, methods::METHODS, 46);
+    check(&rt, rt.alloc(), &one, arithmetic::ARITHMETIC, 60);
+    check(&rt, rt.alloc(), &one, branches::BRANCHES, 23);
+    check(&rt, rt.alloc(), &one, ranges::RANGES, 50);
+    check(&rt, rt.alloc(), &one, calls::CALLS, 71);
 }

@@ -59,17 +59,15 @@ const SHORT: [Row; 5] = [
     (Comparison::SharesBits, false, TO_TWENTY, 16, Some((0, 20, 0, 20, 0, ALL - 16))),
 ];
 
-fn first(both: Option<(Number, Number)>) -> Option<Number> {
-    match both {
-        Some(both) => Some(both.0),
-        None => None,
-    }
-}
+/// A comparison of two numbers, and whether it holds.
+type Edge = (OpWidth, Comparison, bool);
 
-fn second(both: Option<(Number, Number)>) -> Option<Number> {
-    match both {
-        Some(both) => Some(both.1),
-        None => None,
+/// What the edge leaves of the first number, and of the second.
+fn left(edge: Edge, x: Number, y: Number) -> (Option<Number>, Option<Number>) {
+    let (bits, comparison, taken) = edge;
+    match refine(Precision::Whole, bits, comparison, taken, x, y) {
+        Some((x, y)) => (Some(x), Some(y)),
+        None => (None, None),
     }
 }
 
@@ -77,10 +75,7 @@ fn second(both: Option<(Number, Number)>) -> Option<Number> {
 fn holds(bits: OpWidth, row: Row) -> bool {
     let (comparison, taken, six, by, want) = row;
     match number(six) {
-        Some(x) => gives(
-            first(refine(Precision::Whole, bits, comparison, taken, x, constant(by))),
-            want,
-        ),
+        Some(x) => gives(left((bits, comparison, taken), x, constant(by)).0, want),
         None => false,
     }
 }
@@ -105,52 +100,32 @@ fn of_32_bits(rt: HostRuntime) {
 /// Of a loaded byte no bit is known, so that it may share bit 8.
 #[test]
 fn bits_of_a_loaded_byte(rt: HostRuntime) {
-    let both = refine(
-        Precision::Whole,
-        OpWidth::Bits64,
-        Comparison::SharesBits,
-        true,
-        loaded(Precision::Whole, Width::Byte),
-        constant(256),
+    let edge = (OpWidth::Bits64, Comparison::SharesBits, true);
+    let byte = loaded(Precision::Whole, Width::Byte);
+    assert!(rt;
+        gives(
+            left(edge, byte, constant(256)).0,
+            Some((0, 255, 0, 255, 0, ALL))
+        )
     );
-    assert!(rt; gives(first(both), Some((0, 255, 0, 255, 0, ALL))));
 }
 
 /// Both numbers are refined: the second one by the first, and by a constant first one.
 #[test]
 fn second_numbers(rt: HostRuntime) {
-    let (x, y) = (
-        between(Precision::Whole, 0, 20),
-        between(Precision::Whole, 5, 30),
-    );
-    let above = refine(
-        Precision::Whole,
-        OpWidth::Bits64,
-        Comparison::Greater,
-        true,
-        x,
-        y,
-    );
-    let apart = refine(
-        Precision::Whole,
-        OpWidth::Bits64,
-        Comparison::NotEqual,
-        true,
+    let x = between(Precision::Whole, 0, 20);
+    let y = between(Precision::Whole, 5, 30);
+    let above = left((OpWidth::Bits64, Comparison::Greater, true), x, y);
+    let apart = left(
+        (OpWidth::Bits64, Comparison::NotEqual, true),
         constant(5),
         y,
     );
-    let same = refine(
-        Precision::Whole,
-        OpWidth::Bits32,
-        Comparison::Equal,
-        true,
-        x,
-        y,
-    );
+    let same = left((OpWidth::Bits32, Comparison::Equal, true), x, y);
     assert!(rt;
-        gives(first(above), Some((6, 20, 6, 20, 0, ALL)))
-            && gives(second(above), Some((5, 19, 5, 19, 0, ALL)))
-            && gives(second(apart), Some((6, 30, 6, 30, 0, ALL)))
-            && gives(second(same), Some((5, 20, 5, 20, 0, ALL)))
+        gives(above.0, Some((6, 20, 6, 20, 0, ALL)))
+            && gives(above.1, Some((5, 19, 5, 19, 0, ALL)))
+            && gives(apart.1, Some((6, 30, 6, 30, 0, ALL)))
+            && gives(same.1, Some((5, 20, 5, 20, 0, ALL)))
     );
 }

@@ -1,7 +1,7 @@
 //! Whole classes: which method is refused, and what a verified one keeps.
 
-use super::{class, is_judged, method_of, put};
-use bpf_decode::{ClassImage, Method, RuleSet};
+use super::{class_of, is_judged, method_of};
+use bpf_decode::{ClassImage, RuleSet};
 use bpf_machine::Caps;
 use bpf_ops::Op;
 use std::alloc::Global;
@@ -9,15 +9,14 @@ use std::fmt::Display;
 use verifier::{Refusal, Rule, VerifiedClass, VerifiedMethod, first_rule_set, one_table, verify};
 
 /// A safe method, and two that aren't.
-const SAFE: &str = "1 0 0: b700000000000000 9500000000000000 | mov r0, 0; exit";
+const SAFE: &str = "1 0 0: mov r0, 0; exit";
 
-const JUMP_AND_EXIT: &str = "1 0 0: 0500000000000000 9500000000000000 | ja +0; exit";
+const JUMP_AND_EXIT: &str = "1 0 0: ja +0; exit";
 
-const EXIT_ALONE: &str = "1 0 0: 9500000000000000 | exit";
+const EXIT_ALONE: &str = "1 0 0: exit";
 
 /// A method of flags 2, in_cap 3 and out_cap 4.
-const WRITER: &str =
-    "2 3 4: 0500000000000000 1800000007000000 0000000000000000 9500000000000000 | ja +0; lddw r0, 7; exit";
+const WRITER: &str = "2 3 4: ja +0; lddw r0, 7; exit";
 
 static RULES: [(Rule, &str); 17] = [
     (Rule::Backward, "1 Backward"),
@@ -70,41 +69,37 @@ fn prints_refusals(rt: HostRuntime) {
     );
 }
 
-/// Puts three methods, the first of them safe; true if all could be put.
-fn put_three(alloc: Global, methods: &mut Vec<Method>) -> bool {
-    put(methods, method_of(alloc, "f", SAFE))
-        && put(methods, method_of(alloc, "g", JUMP_AND_EXIT))
-        && put(methods, method_of(alloc, "h", EXIT_ALONE))
+/// A class of the methods that rows spell, of the names `a`, `b` and `c`.
+fn class_of_rows(alloc: Global, rules: RuleSet, rows: &[&str]) -> Option<ClassImage> {
+    let mut methods = Vec::new(alloc);
+    for (row, name) in rows.iter().zip(&["a", "b", "c"]) {
+        methods.push(method_of(alloc, *name, *row, 0)?).ok()?;
+    }
+    ClassImage::new(methods, rules).ok()
 }
 
-/// A class of three methods, the first of them safe.
-fn three(alloc: Global) -> Option<ClassImage> {
-    let mut methods = Vec::new(alloc);
-    if !put_three(alloc, &mut methods) {
-        return None;
+/// True if `verify` gives that verdict on a class of the methods that rows spell.
+fn are_judged(alloc: Global, rules: RuleSet, rows: &[&str], method: usize, told: &str) -> bool {
+    match class_of_rows(alloc, rules, rows) {
+        Some(class) => is_judged(alloc, &class, method, told),
+        None => false,
     }
-    ClassImage::new(methods, RuleSet::One).ok()
 }
 
 #[test]
 fn finds_the_first_method(rt: HostRuntime) {
-    let found = match three(rt.alloc()) {
-        Some(class) => is_judged(rt.alloc(), &class, 1, "1:5"),
-        None => false,
-    };
-    assert!(rt; found);
+    let rows = [SAFE, JUMP_AND_EXIT, EXIT_ALONE];
+    assert!(rt; are_judged(rt.alloc(), RuleSet::One, &rows, 1, "1:5"));
 }
 
 /// A method that spills a pointer, one that stores through what it loads from the same slot, and
 /// one that moves a pointer by it.
 const SPILLING: &str =
-    "1 0 1: 7b3af8ff00000000 b700000000000000 79a4f8ff00000000 7204000001000000 9500000000000000 | stxdw [r10-8], r3; mov r0, 0; ldxdw r4, [r10-8]; stb [r4+0], 1; exit";
+    "1 0 1: stxdw [r10-8], r3; mov r0, 0; ldxdw r4, [r10-8]; stb [r4+0], 1; exit";
 
-const STORING: &str =
-    "1 0 1: 79a4f8ff00000000 7204000001000000 b700000000000000 9500000000000000 | ldxdw r4, [r10-8]; stb [r4+0], 1; mov r0, 0; exit";
+const STORING: &str = "1 0 1: ldxdw r4, [r10-8]; stb [r4+0], 1; mov r0, 0; exit";
 
-const MOVING: &str =
-    "1 0 1: 79a4f8ff00000000 0f43000000000000 7203000001000000 b700000000000000 9500000000000000 | ldxdw r4, [r10-8]; add r3, r4; stb [r3+0], 1; mov r0, 0; exit";
+const MOVING: &str = "1 0 1: ldxdw r4, [r10-8]; add r3, r4; stb [r3+0], 1; mov r0, 0; exit";
 
 /// A rule set, two methods, and which of them is refused at which slot by which rule, or `ok`.
 type Two = (RuleSet, &'static str, &'static str, usize, &'static str);
@@ -120,27 +115,14 @@ const TWOS: [Two; 6] = [
     (RuleSet::One, SAFE, SPILLING, 1, "0:9"),
 ];
 
-/// Puts a row's two methods; whether both could be.
-fn put_two(alloc: Global, methods: &mut Vec<Method>, row: &Two) -> bool {
-    put(methods, method_of(alloc, "f", row.1)) && put(methods, method_of(alloc, "g", row.2))
-}
-
-/// True if `verify` gives the row's verdict on a class of its rule set and two methods.
-fn is_two_judged(alloc: Global, row: &Two) -> bool {
-    let mut methods = Vec::new(alloc);
-    if !put_two(alloc, &mut methods, row) {
-        return false;
-    }
-    match ClassImage::new(methods, row.0) {
-        Ok(class) => is_judged(alloc, &class, row.3, row.4),
-        Err(_) => false,
-    }
-}
-
 #[test]
 fn judges_each_method_by_itself(rt: HostRuntime) {
-    for row in &TWOS {
-        assert!(rt; is_two_judged(rt.alloc(), row), "{}", row.4);
+    for (rules, first, second, method, told) in &TWOS {
+        let rows = [*first, *second];
+        assert!(rt;
+            are_judged(rt.alloc(), *rules, &rows, *method, told),
+            "{told}"
+        );
     }
 }
 
@@ -154,25 +136,12 @@ fn is_declared(found: &VerifiedMethod) -> bool {
     found.name() == "f" && found.count() == 3 && found.caps() == caps
 }
 
-/// Which of the method's four slots holds that operation, from 1 on.
-fn place_of(op: &Op) -> usize {
-    match op {
-        Op::Jump(_) => 1,
-        Op::LoadWide(_, 7) => 2,
-        Op::Nothing => 3,
-        Op::Exit => 4,
-        _ => 0,
-    }
-}
-
 /// True if operations are those of the writer's four slots.
 fn are_writers(ops: &[Op]) -> bool {
-    match ops {
-        [jump, wide, half, exit] => {
-            place_of(jump) == 1 && place_of(wide) == 2 && place_of(half) == 3 && place_of(exit) == 4
-        }
-        _ => false,
-    }
+    matches!(
+        ops,
+        [Op::Jump(_), Op::LoadWide(_, 7), Op::Nothing, Op::Exit]
+    )
 }
 
 /// True if a class has one method, which is found by its name and is the writer.
@@ -195,7 +164,8 @@ fn keeps_writer(alloc: Global, class: &ClassImage) -> bool {
 fn keeps_what_is_declared(rt: HostRuntime) {
     one_table();
     first_rule_set();
-    let kept = match class(rt.alloc(), RuleSet::One, WRITER) {
+    let writer = method_of(rt.alloc(), "f", WRITER, 0);
+    let kept = match class_of(rt.alloc(), RuleSet::One, writer) {
         Some(class) => keeps_writer(rt.alloc(), &class),
         None => false,
     };

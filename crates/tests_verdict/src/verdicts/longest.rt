@@ -1,29 +1,25 @@
 //! The longest methods, the longest jumps, and the largest class.
 
-use super::{Declared, is_judged, method, put};
+use super::{Declared, class_of, code_of, is_judged, method};
 use abstract_regs::{Frame, Kind};
+use bpf_asm::assemble;
 use bpf_decode::{ClassImage, Insn, Method, Region, RuleSet};
-use std::alloc::{AllocError, Global};
+use std::alloc::Global;
+use std::fmt::Write;
 use std::process::Abort;
 use verifier::{RefusedSlot, Rule, refused_slot, verify};
 
-const MOV_R0_0: u64 = 0xb700000000000000;
+const MOV_R0_0: &str = "mov r0, 0";
 
-const MOV_R0_R1: u64 = 0xbf10000000000000;
+const MOV_R0_R1: &str = "mov r0, r1";
 
-const EXIT: u64 = 0x9500000000000000;
+const DIAMOND: &str = "jeq r2, 0, +1; mov r0, 0";
 
-/// `jeq r2, 0, +1`, `mov r0, 0`
-const DIAMOND: u128 = 0x1502010000000000_b700000000000000;
+const EMPTY_ARMS: &str = "jeq r2, 0, +0; jeq r2, 0, +0";
 
-/// `jeq r2, 0, +0`, twice
-const EMPTY_ARMS: u128 = 0x1502000000000000_1502000000000000;
+const SPILL: &str = "stxdw [r10-8], r0; ldxdw r0, [r10-8]";
 
-/// `stxdw [r10-8], r0`, `ldxdw r0, [r10-8]`
-const SPILL: u128 = 0x7b0af8ff00000000_79a0f8ff00000000;
-
-/// `jeq r2, 0, +1`, `stxdw [r10-8], r3`
-const SPILLING_ARM: u128 = 0x1502010000000000_7b3af8ff00000000;
+const SPILLING_ARM: &str = "jeq r2, 0, +1; KEEP";
 
 /// The names of 32 methods.
 const NAMES: &str = "m10 m11 m12 m13 m14 m15 m16 m17 m18 m19 m20 m21 m22 m23 m24 m25 \
@@ -36,51 +32,37 @@ const GREATEST: Declared = Declared {
     out_cap: 4096,
 };
 
-/// Writes 4,096 slots: a first one, those two 2,047 times, and `exit`.
-fn put_slots(code: &mut Vec<u8>, first: u64, pair: u128) -> Result<(), AllocError> {
-    code.extend_from_slice(&first.to_be_bytes())?;
-    for _ in 0..2047 {
-        code.extend_from_slice(&pair.to_be_bytes())?;
+/// Code, and after it those lines that many times, and `exit`.
+fn repeated(alloc: Global, mut code: Vec<Insn>, lines: &str, times: usize) -> Option<Vec<Insn>> {
+    let part = code_of(alloc, lines)?;
+    for _ in 0..times {
+        code.extend_from_slice(&part).ok()?;
     }
-    code.extend_from_slice(&EXIT.to_be_bytes())
+    code.push(Insn::Exit).ok()?;
+    Some(code)
 }
 
-/// A method of 4,096 slots with the greatest caps: a first slot, those two 2,047 times, and `exit`.
-fn longest(alloc: Global, name: &str, first: u64, pair: u128) -> Option<Method> {
-    let mut code = Vec::new(alloc);
-    if put_slots(&mut code, first, pair).is_err() {
-        return None;
-    }
-    method(alloc, name, &code, GREATEST)
-}
-
-/// Puts such a method for each name after others; whether all could be.
-fn put_longest(
+/// A class of that rule set, and for each name a method of 4,096 slots with the greatest caps: a
+/// first slot, those two 2,047 times, and `exit`.
+fn class(
     alloc: Global,
-    methods: &mut Vec<Method>,
+    rules: RuleSet,
     names: &str,
-    first: u64,
-    pair: u128,
-) -> bool {
-    let mut all = true;
-    for name in names.split_whitespace() {
-        all = all && put(methods, longest(alloc, name, first, pair));
-    }
-    all
-}
-
-/// A class of that rule set and such methods, one for each name.
-fn class(alloc: Global, rules: RuleSet, names: &str, first: u64, pair: u128) -> Option<ClassImage> {
+    first: &str,
+    pair: &str,
+) -> Option<ClassImage> {
+    let code = repeated(alloc, code_of(alloc, first)?, pair, 2047)?;
     let mut methods = Vec::new(alloc);
-    if !put_longest(alloc, &mut methods, names, first, pair) {
-        return None;
+    for name in names.split_whitespace() {
+        let code = Vec::from_slice(alloc, &code).ok()?;
+        methods.push(method(alloc, name, code, GREATEST)?).ok()?;
     }
     ClassImage::new(methods, rules).ok()
 }
 
 /// A rule set, a first slot and a pair, and the verdict on the method of them. In rule set 2 the
 /// frame that a branch keeps has the slots of the stack.
-type Row = (RuleSet, u64, u128, &'static str);
+type Row = (RuleSet, &'static str, &'static str, &'static str);
 
 #[rattlefmt::skip]
 const ROWS: [Row; 12] = [
@@ -119,80 +101,62 @@ fn takes_each_slot_once(rt: HostRuntime) {
 /// The number of branches of a method with long jumps.
 const BRANCHES: u16 = 2000;
 
-/// Puts `jeq r2, N` for each N below 2,000. With one target each goes to the slot after all of
-/// them, else each goes 2,000 slots ahead, to a slot of its own.
-fn put_branches(code: &mut Vec<u8>, has_one_target: bool) -> Result<(), AllocError> {
+/// A method of a first line, `jeq r2, N` for each N below 2,000, and `exit`. Without a landing each
+/// branch goes to the `exit`, else each goes 2,000 slots ahead, to a line of its own.
+fn far(alloc: Global, first: &str, landing: Option<&str>) -> Option<Method> {
+    let mut text = String::from_str(alloc, first).ok()?;
     for n in 0..BRANCHES {
-        let passed = if has_one_target { n } else { 0 };
-        let [d0, d1] = (BRANCHES - 1).wrapping_sub(passed).to_le_bytes();
-        let [n0, n1] = n.to_le_bytes();
-        code.extend_from_slice(&[0x15, 0x02, d0, d1, n0, n1, 0, 0])?;
+        let passed = if landing.is_some() { 0 } else { n };
+        let ahead = (BRANCHES - 1).saturating_sub(passed);
+        write!(text, "\njeq r2, {n}, +{ahead}").ok()?;
     }
-    Ok(())
+    let code = assemble(alloc, &text).ok()?;
+    let times = if landing.is_some() { BRANCHES } else { 0 };
+    let code = repeated(alloc, code, landing.unwrap_or("exit"), usize::from(times))?;
+    method(alloc, "f", code, GREATEST)
 }
 
-/// Writes a first slot, 2,000 branches, the slots to which they go, if they are told, and `exit`.
-fn put_far(code: &mut Vec<u8>, first: u64, landing: Option<u64>) -> Result<(), AllocError> {
-    code.extend_from_slice(&first.to_be_bytes())?;
-    put_branches(code, landing.is_none())?;
-    if let Some(landing) = landing {
-        for _ in 0..BRANCHES {
-            code.extend_from_slice(&landing.to_be_bytes())?;
-        }
-    }
-    code.extend_from_slice(&EXIT.to_be_bytes())
-}
+const ADD_R0_1: &str = "add r0, 1";
 
-/// A method with those slots and the greatest caps.
-fn far(alloc: Global, first: u64, landing: Option<u64>) -> Option<Method> {
-    let mut code = Vec::new(alloc);
-    if put_far(&mut code, first, landing).is_err() {
-        return None;
-    }
-    method(alloc, "f", &code, GREATEST)
-}
+const SPILL_R1: &str = "stxdw [r10-8], r1";
 
-const ADD_R0_1: u64 = 0x0700000001000000;
+const LOAD_R0: &str = "ldxdw r0, [r10-8]";
 
-/// `stxdw [r10-8], r1`
-const SPILL_R1: u64 = 0x7b1af8ff00000000;
-
-/// `ldxdw r0, [r10-8]`
-const LOAD_R0: u64 = 0x79a0f8ff00000000;
-
-/// A rule set, the first slot, and the slot that stands at each branch's target, or none if all go
+/// A rule set, the first line, and the line that stands at each branch's target, or none if all go
 /// to the `exit`; and the verdict.
-type Far = (RuleSet, u64, Option<u64>, &'static str);
+type Far = (RuleSet, &'static str, Option<&'static str>, &'static str);
 
 #[rattlefmt::skip]
-const TO_ONE_EXIT: [Far; 6] = [
+const TO_ONE_EXIT: [Far; 9] = [
     (RuleSet::One, MOV_R0_0, None, "ok"),
     (RuleSet::Two, MOV_R0_0, None, "ok"),
+    (RuleSet::Three, MOV_R0_0, None, "ok"),
     (RuleSet::One, MOV_R0_R1, None, "2001:15"),
     (RuleSet::Two, MOV_R0_R1, None, "2001:15"),
+    (RuleSet::Three, MOV_R0_R1, None, "2001:15"),
     (RuleSet::One, SPILL_R1, None, "0:9"),
     (RuleSet::Two, SPILL_R1, None, "2001:5"),
+    (RuleSet::Three, SPILL_R1, None, "2001:5"),
 ];
 
 #[rattlefmt::skip]
-const TO_TARGETS: [Far; 6] = [
+const TO_TARGETS: [Far; 9] = [
     (RuleSet::One, MOV_R0_0, Some(ADD_R0_1), "ok"),
     (RuleSet::Two, MOV_R0_0, Some(ADD_R0_1), "ok"),
+    (RuleSet::Three, MOV_R0_0, Some(ADD_R0_1), "ok"),
     (RuleSet::One, MOV_R0_R1, Some(ADD_R0_1), "4001:15"),
     (RuleSet::Two, MOV_R0_R1, Some(ADD_R0_1), "4001:15"),
+    (RuleSet::Three, MOV_R0_R1, Some(ADD_R0_1), "4001:15"),
     (RuleSet::One, SPILL_R1, Some(LOAD_R0), "0:9"),
     (RuleSet::Two, SPILL_R1, Some(LOAD_R0), "4001:15"),
+    (RuleSet::Three, SPILL_R1, Some(LOAD_R0), "4001:15"),
 ];
 
 /// True if `verify` gives the row's verdict on a class of its method.
 fn is_far_judged(alloc: Global, row: &Far) -> bool {
-    let mut methods = Vec::new(alloc);
-    if !put(&mut methods, far(alloc, row.1, row.2)) {
-        return false;
-    }
-    match ClassImage::new(methods, row.0) {
-        Ok(class) => is_judged(alloc, &class, 0, row.3),
-        Err(_) => false,
+    match class_of(alloc, row.0, far(alloc, row.1, row.2)) {
+        Some(class) => is_judged(alloc, &class, 0, row.3),
+        None => false,
     }
 }
 
@@ -211,7 +175,7 @@ fn meets_far_ahead(rt: HostRuntime) {
     assert_all(&rt, rt.alloc(), &TO_ONE_EXIT);
 }
 
-/// The same with 2,000 flows that wait for a slot each. By rule set 2 they know the stack too.
+/// The same with 2,000 flows that wait for a slot each. By rule sets 2 and 3 they know the stack too.
 #[test]
 fn goes_far_ahead(rt: HostRuntime) {
     assert_all(&rt, rt.alloc(), &TO_TARGETS);
@@ -279,7 +243,7 @@ fn count(alloc: Global, class: &ClassImage) -> usize {
 
 /// The number of methods that are accepted of a class of that rule set with 4,096 slots in each
 /// method, and an input and an output of at most 4,096 bytes; 0 if it is refused.
-fn largest(alloc: Global, rules: RuleSet, pair: u128) -> usize {
+fn largest(alloc: Global, rules: RuleSet, pair: &str) -> usize {
     match class(alloc, rules, NAMES, MOV_R0_0, pair) {
         Some(class) => count(alloc, &class),
         None => 0,

@@ -1,38 +1,38 @@
 //! Methods by which rule set 3 is told from rule set 2, or isn't.
 
-/// The verdict in rule set 3, that in rule set 2 (`none` if it has no such class), flags, in_cap,
-/// out_cap, the slots, and the method in words.
+/// Rows as `super::check` reads them, with verdicts in rule sets 3 and 2.
 pub const THIRD: &str = "\
 # the answer of a helper is a number of its range
-ok 13:10 2 0 0: 720af8ff61000000 bfa1000000000000 07010000f8ffffff b702000001000000 bfa3000000000000 07030000c0ffffff b704000040000000 8500000006000000 c500050000000000 b701000000000000 bfa2000000000000 07020000c0ffffff bf03000000000000 8500000003000000 9500000000000000 | stb [r10-8], 97; mov r1, r10; add r1, -8; mov r2, 1; mov r3, r10; add r3, -64; mov r4, 64; call 6; jslt r0, 0, +5; mov r1, 0; mov r2, r10; add r2, -64; mov r3, r0; call 3; exit
-12:10 12:10 2 0 0: 720af8ff61000000 bfa1000000000000 07010000f8ffffff b702000001000000 bfa3000000000000 07030000c0ffffff b704000040000000 8500000006000000 b701000000000000 bfa2000000000000 07020000c0ffffff bf03000000000000 8500000003000000 9500000000000000 | stb [r10-8], 97; mov r1, r10; add r1, -8; mov r2, 1; mov r3, r10; add r3, -64; mov r4, 64; call 6; mov r1, 0; mov r2, r10; add r2, -64; mov r3, r0; call 3; exit
-ok 6:13 1 0 256: b701000000000000 bf32000000000000 b703000000010000 8500000002000000 c500020000000000 bf01000000000000 850000000d000000 9500000000000000 | mov r1, 0; mov r2, r3; mov r3, 256; call 2; jslt r0, 0, +2; mov r1, r0; call 13; exit
+ok 13:10 2 0 0: GET; jslt r0, 0, +5; WRITE r0; call 3; exit
+12:10 12:10 2 0 0: GET; WRITE r0; call 3; exit
+ok 6:13 1 0 256: mov r1, 0; mov r2, r3; mov r3, 256; call 2; jslt r0, 0, +2; mov r1, r0; call 13; exit
 # but a copy of its low half isn't
-12:5 12:5 1 0 0: 720af8ff61000000 bfa1000000000000 07010000f8ffffff b702000001000000 bfa3000000000000 07030000c0ffffff b704000040000000 8500000006000000 bc06000000000000 2506020040000000 b700000000000000 9500000000000000 bf90000000000000 9500000000000000 | stb [r10-8], 97; mov r1, r10; add r1, -8; mov r2, 1; mov r3, r10; add r3, -64; mov r4, 64; call 6; mov32 r6, r0; jgt r6, 64, +2; mov r0, 0; exit; mov r0, r9; exit
+12:5 12:5 1 0 0: GET; mov32 r6, r0; jgt r6, 64, +2; mov r0, 0; exit; mov r0, r9; exit
 # helpers 16 to 18, and no other
-ok 6:12 1 0 0: bfa1000000000000 07010000f8ffffff b702000008000000 bfa3000000000000 07030000f0ffffff b704000008000000 8500000010000000 9500000000000000 | mov r1, r10; add r1, -8; mov r2, 8; mov r3, r10; add r3, -16; mov r4, 8; call 16; exit
-ok 6:12 1 0 0: bfa1000000000000 07010000f8ffffff b702000008000000 bfa3000000000000 07030000f0ffffff b704000008000000 8500000011000000 9500000000000000 | mov r1, r10; add r1, -8; mov r2, 8; mov r3, r10; add r3, -16; mov r4, 8; call 17; exit
-ok 3:12 1 0 8: bf31000000000000 b702000000000000 b704000008000000 8500000012000000 9500000000000000 | mov r1, r3; mov r2, 0; mov r4, 8; call 18; exit
-2:11 2:12 1 8 8: b702000008000000 b704000008000000 8500000011000000 9500000000000000 | mov r2, 8; mov r4, 8; call 17; exit
-8:5 7:12 1 0 8: 7b3af8ff00000000 bfa1000000000000 07010000f8ffffff b702000008000000 bfa3000000000000 07030000f0ffffff b704000008000000 8500000011000000 79a0f8ff00000000 9500000000000000 | stxdw [r10-8], r3; mov r1, r10; add r1, -8; mov r2, 8; mov r3, r10; add r3, -16; mov r4, 8; call 17; ldxdw r0, [r10-8]; exit
-7:17 7:12 1 0 8: 7b3af0ff00000000 bfa1000000000000 07010000f8ffffff b702000008000000 bfa3000000000000 07030000f0ffffff b704000008000000 8500000011000000 79a0f0ff00000000 9500000000000000 | stxdw [r10-16], r3; mov r1, r10; add r1, -8; mov r2, 8; mov r3, r10; add r3, -16; mov r4, 8; call 17; ldxdw r0, [r10-16]; exit
-0:12 0:12 1 0 0: 8500000013000000 9500000000000000 | call 19; exit
+ok 6:12 1 0 0: mov r1, r10; add r1, -8; mov r2, 8; mov r3, r10; add r3, -16; mov r4, 8; call 16; exit
+ok 6:12 1 0 0: mov r1, r10; add r1, -8; mov r2, 8; mov r3, r10; add r3, -16; mov r4, 8; call 17; exit
+ok 3:12 1 0 8: mov r1, r3; mov r2, 0; mov r4, 8; call 18; exit
+2:11 2:12 1 8 8: mov r2, 8; mov r4, 8; call 17; exit
+8:5 7:12 1 0 8: KEEP; mov r1, r10; add r1, -8; mov r2, 8; mov r3, r10; add r3, -16; mov r4, 8; call 17; \
+    ldxdw r0, [r10-8]; exit
+7:17 7:12 1 0 8: stxdw [r10-16], r3; mov r1, r10; add r1, -8; mov r2, 8; mov r3, r10; add r3, -16; mov r4, 8; \
+    call 17; ldxdw r0, [r10-16]; exit
+0:12 0:12 1 0 0: call 19; exit
 # capacities over 4,096 bytes
-ok none 1 65535 0: 07010000ff7f0000 7110ff7f00000000 9500000000000000 | add r1, 32767; ldxb r0, [r1+32767]; exit
-1:10 none 1 65534 0: 07010000ff7f0000 7110ff7f00000000 9500000000000000 | add r1, 32767; ldxb r0, [r1+32767]; exit
-ok ok 1 4096 4096: b700000000000000 9500000000000000 | mov r0, 0; exit
-ok none 1 4097 0: b700000000000000 9500000000000000 | mov r0, 0; exit
-ok none 1 0 4097: b700000000000000 9500000000000000 | mov r0, 0; exit
+1:10 none 1 65535* 0: add r1, 32767; ldxb r0, [r1+32767]; exit
+ok ok 1 4096 4096: mov r0, 0; exit
+ok none 1 4097 0: mov r0, 0; exit
+ok none 1 0 4097: mov r0, 0; exit
 # a comparison of the low half says nothing of the whole
-4:10 4:10 1 8 16: 7914000000000000 b700000000000000 260402000f000000 0f43000000000000 7203000001000000 9500000000000000 | ldxdw r4, [r1+0]; mov r0, 0; jgt32 r4, 15, +2; add r3, r4; stb [r3+0], 1; exit
-4:5 4:5 1 8 0: 6114000000000000 c604020000000000 b700000000000000 9500000000000000 bf90000000000000 9500000000000000 | ldxw r4, [r1+0]; jslt32 r4, 0, +2; mov r0, 0; exit; mov r0, r9; exit
-6:10 6:10 1 8 16: 7914000000000000 b700000000000000 6604040005000000 c6040300ffffffff bc44000000000000 0f43000000000000 7203000001000000 9500000000000000 | ldxdw r4, [r1+0]; mov r0, 0; jsgt32 r4, 5, +4; jslt32 r4, -1, +3; mov32 r4, r4; add r3, r4; stb [r3+0], 1; exit
-4:5 4:5 1 8 0: 7914000000000000 b700000000000000 c604020000000000 0704000001000000 bf90000000000000 9500000000000000 | ldxdw r4, [r1+0]; mov r0, 0; jslt32 r4, 0, +2; add r4, 1; mov r0, r9; exit
+4:10 4:10 1 8 16: ldxdw r4, [r1+0]; mov r0, 0; jgt32 r4, 15, +2; OUT
+4:5 4:5 1 8 0: ldxw r4, [r1+0]; jslt32 r4, 0, +2; mov r0, 0; exit; mov r0, r9; exit
+6:10 6:10 1 8 16: ldxdw r4, [r1+0]; mov r0, 0; jsgt32 r4, 5, +4; jslt32 r4, -1, +3; mov32 r4, r4; OUT
+4:5 4:5 1 8 0: ldxdw r4, [r1+0]; mov r0, 0; jslt32 r4, 0, +2; add r4, 1; mov r0, r9; exit
 # nor does one of another number say anything of what it was computed from
-7:10 7:10 1 8 16: 7914000000000000 b700000000000000 7b4af8ff00000000 720af8ffff000000 250403000f000000 79a4f8ff00000000 0f43000000000000 7203000001000000 9500000000000000 | ldxdw r4, [r1+0]; mov r0, 0; stxdw [r10-8], r4; stb [r10-8], 255; jgt r4, 15, +3; ldxdw r4, [r10-8]; add r3, r4; stb [r3+0], 1; exit
-6:10 6:10 1 8 16: 7914000000000000 b700000000000000 bf45000000000000 2705000002000000 250502000f000000 0f43000000000000 7203000001000000 9500000000000000 | ldxdw r4, [r1+0]; mov r0, 0; mov r5, r4; mul r5, 2; jgt r5, 15, +2; add r3, r4; stb [r3+0], 1; exit
-6:10 6:10 1 8 16: 7914000000000000 b700000000000000 bf45000000000000 0705000004000000 250502000f000000 0f43000000000000 7203000001000000 9500000000000000 | ldxdw r4, [r1+0]; mov r0, 0; mov r5, r4; add r5, 4; jgt r5, 15, +2; add r3, r4; stb [r3+0], 1; exit
-8:10 8:10 1 8 16: 7914000000000000 b700000000000000 1502020000000000 bf45000000000000 0500010000000000 bf45000000000000 250502000f000000 0f43000000000000 7203000001000000 9500000000000000 | ldxdw r4, [r1+0]; mov r0, 0; jeq r2, 0, +2; mov r5, r4; ja +1; mov r5, r4; jgt r5, 15, +2; add r3, r4; stb [r3+0], 1; exit
-8:10 8:10 1 8 16: 7914000000000000 b700000000000000 1502020000000000 bf45000000000000 0500010000000000 7115000000000000 250502000f000000 0f43000000000000 7203000001000000 9500000000000000 | ldxdw r4, [r1+0]; mov r0, 0; jeq r2, 0, +2; mov r5, r4; ja +1; ldxb r5, [r1+0]; jgt r5, 15, +2; add r3, r4; stb [r3+0], 1; exit
-6:10 6:10 1 8 16: 7910000000000000 bf06000000000000 bf37000000000000 850000000f000000 250002000f000000 0f67000000000000 7207000001000000 9500000000000000 | ldxdw r0, [r1+0]; mov r6, r0; mov r7, r3; call 15; jgt r0, 15, +2; add r7, r6; stb [r7+0], 1; exit
+7:10 7:10 1 8 16: ldxdw r4, [r1+0]; mov r0, 0; stxdw [r10-8], r4; stb [r10-8], 255; jgt r4, 15, +3; BACK; OUT
+6:10 6:10 1 8 16: ldxdw r4, [r1+0]; mov r0, 0; mov r5, r4; mul r5, 2; jgt r5, 15, +2; OUT
+6:10 6:10 1 8 16: ldxdw r4, [r1+0]; mov r0, 0; mov r5, r4; add r5, 4; jgt r5, 15, +2; OUT
+8:10 8:10 1 8 16: ldxdw r4, [r1+0]; mov r0, 0; jeq r2, 0, +2; mov r5, r4; ja +1; mov r5, r4; jgt r5, 15, +2; OUT
+8:10 8:10 1 8 16: ldxdw r4, [r1+0]; mov r0, 0; jeq r2, 0, +2; mov r5, r4; ja +1; ldxb r5, [r1+0]; jgt r5, 15, +2; OUT
+6:10 6:10 1 8 16: ldxdw r0, [r1+0]; mov r6, r0; mov r7, r3; call 15; jgt r0, 15, +2; add r7, r6; stb [r7+0], 1; exit
 ";
