@@ -30,7 +30,6 @@ use Rattle.bpf_decode.specs.Instruction.{byte_count, signed_byte_count, Fits, Op
 use Rattle.bpf_decode.specs.Jump.{branch_to}
 use Rattle.bpf_decode.specs.Values.{extended, moves_pointer, is_addition, alu_values, mov_values}
 use Rattle.abstract_num.specs.declared.precision.Precision.{Precision}
-use Rattle.abstract_num.specs.declared.precision.Precision.TheVariants.{Whole}
 use Rattle.abstract_num.specs.Plain.{Plain, Holds, constant}
 use Rattle.abstract_num.specs.Tighten.{tighten}
 use Rattle.abstract_num.specs.Transfer.{transferred, ranged, load_high}
@@ -287,9 +286,9 @@ module _ (law : Laws) (precision : Precision) where
   slot_or_number (Some x) number v whole other = whole x refl
 
   -- where an access through a pointer is
-  pub place_held : (k : Plain) (o distance : ℕ) → KindFits (Ptr Stack k) → distance < 2 ^ 64 → Holds k o → HeldIn (last_place k distance) ((o + distance) % 2 ^ 64)
+  pub place_held : (k : Plain) (o distance : ℕ) → KindFits (Ptr Stack k) → distance < 2 ^ 64 → Holds k o → HeldIn (last_place precision k distance) ((o + distance) % 2 ^ 64)
   place_held k o distance fit small h =
-      law.arithmetic Whole Bits64 Add k (constant distance) fit (law.constants_fit distance small) o distance h (law.constant distance small)
+      law.arithmetic precision Bits64 Add k (constant distance) fit (law.constants_fit distance small) o distance h (law.constant distance small)
 
   -- the slots that an access reaches, where it is in the stack
   pub reaches_some : (P : Option Plain) (at w : ℕ) → HeldIn P at → (j : ℕ) → Touched at w j → touches (access_span P w) j ≡ true
@@ -343,8 +342,8 @@ module _ (law : Laws) (precision : Precision) where
   is_output e = absurd cc
 
   load_left : (slots : List PlainKind) (vs : List (Option Value)) → length slots ≡ length vs → HoldsEach slots vs → (width : Width) (x : PlainKind) (distance : ℕ) (r : Region) (o : ℕ) (v : Value) → distance < 2 ^ 64 → KindFits x → HoldsKind x (Some (values.Ptr r o)) → Loads vs r ((o + distance) % 2 ^ 64) (byte_count width) v
-      → (is_ptr x ≡ true) × (meets Nothing (access_span (stack_place x distance) (byte_count width)) 0 slots ≡ false) × (slot_kind slots (whole_slot (stack_place x distance) (byte_count width)) ≡ None → meets Pointer (access_span (stack_place x distance) (byte_count width)) 0 slots ≡ false)
-      → Left (loaded_kind (slot_kind slots (whole_slot (stack_place x distance) (byte_count width))) (option_map Num (tighten precision (ranged 0 (load_high width))))) v
+      → (is_ptr x ≡ true) × (meets Nothing (access_span (stack_place precision x distance) (byte_count width)) 0 slots ≡ false) × (slot_kind slots (whole_slot (stack_place precision x distance) (byte_count width)) ≡ None → meets Pointer (access_span (stack_place precision x distance) (byte_count width)) 0 slots ≡ false)
+      → Left (loaded_kind (slot_kind slots (whole_slot (stack_place precision x distance) (byte_count width))) (option_map Num (tighten precision (ranged 0 (load_high width))))) v
   load_left slots vs long sl width Unset distance r o v small fit h loads ok = absurd cc
   load_left slots vs long sl width (Num k) distance r o v small fit h loads ok = absurd h
   load_left slots vs long sl width (Ptr Input k) distance r o v small fit h loads ok =
@@ -355,7 +354,7 @@ module _ (law : Laws) (precision : Precision) where
       subst (Left (option_map Num (tighten precision (ranged 0 (load_high width))))) (sym n.1) (left_num _ n.0 (law.loads precision width n.0 n.2))
   load_left slots vs long sl width (Ptr Stack k) distance r o v small fit h loads ok =
       let at = (o + distance) % 2 ^ 64 in
-      let P = last_place k distance in
+      let P = last_place precision k distance in
       let held = place_held k o distance fit small h.1 in
       slot_or_number (slot_kind slots (whole_slot P (byte_count width))) _ v
       (slot_value slots vs long sl P at (byte_count width) r v (sym h.0) held loads (whole_slot P (byte_count width)) refl)
@@ -367,7 +366,7 @@ module _ (law : Laws) (precision : Precision) where
   num_is m n e = cc
 
   signed_small : (slots : List PlainKind) (vs : List (Option Value)) → length slots ≡ length vs → HoldsEach slots vs → (w : ℕ) (x : PlainKind) (distance : ℕ) (r : Region) (o n : ℕ) → distance < 2 ^ 64 → KindFits x → HoldsKind x (Some (values.Ptr r o)) → Loads vs r ((o + distance) % 2 ^ 64) w (values.Num n)
-      → is_ptr x ≡ true → meets Nothing (access_span (stack_place x distance) w) 0 slots ≡ false → meets Pointer (access_span (stack_place x distance) w) 0 slots ≡ false → n < 256 ^ w
+      → is_ptr x ≡ true → meets Nothing (access_span (stack_place precision x distance) w) 0 slots ≡ false → meets Pointer (access_span (stack_place precision x distance) w) 0 slots ≡ false → n < 256 ^ w
   signed_small slots vs long sl w Unset distance r o n small fit h loads a b c = absurd cc
   signed_small slots vs long sl w (Num k) distance r o n small fit h loads a b c = absurd h
   signed_small slots vs long sl w (Ptr Input k) distance r o n small fit h loads a b c =
@@ -375,7 +374,7 @@ module _ (law : Laws) (precision : Precision) where
   signed_small slots vs long sl w (Ptr Output k) distance r o n small fit h loads a b c =
       let m = elsewhere slots vs long sl ((o + distance) % 2 ^ 64) w r Output (values.Num n) (sym h.0) is_output loads in omega (arith, m.2, num_is n m.0 m.1)
   signed_small slots vs long sl w (Ptr Stack k) distance r o n small fit h loads a b c =
-      let m = a_number slots vs long sl (last_place k distance) ((o + distance) % 2 ^ 64) w r (values.Num n) (place_held k o distance fit small h.1) loads b c in
+      let m = a_number slots vs long sl (last_place precision k distance) ((o + distance) % 2 ^ 64) w r (values.Num n) (place_held k o distance fit small h.1) loads b c in
       omega (arith, m.2, num_is n m.0 m.1)
 
   number_value : (y : PlainKind) (x : Value) → HoldsKind y (Some x) → is_unset y ≡ false → is_ptr y ≡ false → IsNumber (Some x)
@@ -391,14 +390,14 @@ module _ (law : Laws) (precision : Precision) where
       untouched slots vs long sl ws stores.long all (λ i n. subst IsNumber (sym (all i)) n)
 
   store_left : (slots : List PlainKind) (vs ws : List (Option Value)) → length slots ≡ length vs → HoldsEach slots vs → (w : ℕ) (b y : PlainKind) (distance : ℕ) (r : Region) (o : ℕ) (x : Value) → distance < 2 ^ 64 → KindFits b → HoldsKind b (Some (values.Ptr r o)) → HoldsKind y (Some x) → Stores vs r ((o + distance) % 2 ^ 64) w x ws
-      → (is_ptr b ≡ true) × (is_unset y ≡ false) × (slot_kind slots (whole_slot (stack_place b distance) w) ≡ None → is_ptr y ≡ false)
-      → HoldsEach (stored slots (whole_slot (stack_place b distance) w) (access_span (stack_place b distance) w) y) ws
+      → (is_ptr b ≡ true) × (is_unset y ≡ false) × (slot_kind slots (whole_slot (stack_place precision b distance) w) ≡ None → is_ptr y ≡ false)
+      → HoldsEach (stored slots (whole_slot (stack_place precision b distance) w) (access_span (stack_place precision b distance) w) y) ws
   store_left slots vs ws long sl w Unset y distance r o x small fit h k stores ok = absurd cc
   store_left slots vs ws long sl w (Num l) y distance r o x small fit h k stores ok = absurd h
   store_left slots vs ws long sl w (Ptr Input l) y distance r o x small fit h k stores ok = store_elsewhere slots vs ws long sl ((o + distance) % 2 ^ 64) w r Input x (sym h.0) is_input stores
   store_left slots vs ws long sl w (Ptr Output l) y distance r o x small fit h k stores ok = store_elsewhere slots vs ws long sl ((o + distance) % 2 ^ 64) w r Output x (sym h.0) is_output stores
   store_left slots vs ws long sl w (Ptr Stack l) y distance r o x small fit h k stores ok =
-      let P = last_place l distance in
+      let P = last_place precision l distance in
       store_slot slots vs long sl P ((o + distance) % 2 ^ 64) w r x y ws (sym h.0) (place_held l o distance fit small h.1) k stores (λ none. number_value y x k ok.1 (ok.2 none)) (whole_slot P w) refl
 
   -- what a helper's range leaves
@@ -423,7 +422,7 @@ module _ (law : Laws) (precision : Precision) where
   room_left f cs vs ws long h sl (Some k) ok over =
       range_left f.slots vs ws long sl (kind_at f k) (kind_at f (k + 1)) over.0 over.1 over.2 (held_at f.registers cs k _ h over.3) (held_at f.registers cs (k + 1) _ h over.4) ok.0 ok.1 over.5
 
-  pub edges_keep : (f : PlainFrame) → EachFits f.registers → length f.registers ≡ 11 → (room : Option ℕ) (answer : Plain) (i : Insn) (p : ℕ) → Fits i → Allows room i f → (cs ds vs ws : List (Option Value)) (q : ℕ) → length f.slots ≡ length vs → HoldsEach f.registers cs → HoldsEach f.slots vs → HoldsLinks f ds ws → Moves room answer i p cs vs q ds ws → Reaches (edges_of precision room answer i p f) q ds ws
+  pub edges_keep : (f : PlainFrame) → EachFits f.registers → length f.registers ≡ 11 → (room : Option ℕ) (answer : Plain) (i : Insn) (p : ℕ) → Fits i → Allows precision room i f → (cs ds vs ws : List (Option Value)) (q : ℕ) → length f.slots ≡ length vs → HoldsEach f.registers cs → HoldsEach f.slots vs → HoldsLinks f ds ws → Moves room answer i p cs vs q ds ws → Reaches (edges_of precision room answer i p f) q ds ws
   edges_keep f fits eleven room answer (Alu bits operation dst source) p fit allows cs ds vs ws q long h sl links m =
       arrives _ (p + 1) q f dst cs ds vs ws m.2 h sl links
       (alu_left bits operation (kind_at f dst) (operand_kind f source) m.0 m.1 m.2 (fits_at f.registers dst fits) (operand_fits f source fit.1 fits) (held_at f.registers cs dst m.0 h m.3) (operand_held f cs source m.1 fit.1 h m.4) m.5) m.6 m.7 m.8
@@ -444,7 +443,7 @@ module _ (law : Laws) (precision : Precision) where
       arrives _ (p + 1) q f dst cs ds vs ws _ h sl links
       (left_num _ _ (law.signed_loads precision width m.2 (signed_small f.slots vs long sl (signed_byte_count width) (kind_at f base) (extended offset) m.0 m.1 m.2 (extended_small16 offset fit.2) (fits_at f.registers base fits) (held_at f.registers cs base _ h m.3) m.4 allows.0.0 allows.0.1 allows.1))) m.5 m.6 m.7
   edges_keep f fits eleven room answer (Store width base offset source) p fit allows cs ds vs ws q long h sl links m =
-      stays (after_store f (kind_at f base) (extended offset) (byte_count width) (operand_kind f source)) (p + 1) q cs ds vs ws h
+      stays (after_store precision f (kind_at f base) (extended offset) (byte_count width) (operand_kind f source)) (p + 1) q cs ds vs ws h
       (store_left f.slots vs ws long sl (byte_count width) (kind_at f base) (operand_kind f source) (extended offset) m.0 m.1 m.2 (extended_small16 offset fit.1) (fits_at f.registers base fits) (held_at f.registers cs base _ h m.3) (operand_held f cs source m.2 fit.2 h m.4) m.5 allows) links m.6 m.7
   edges_keep f fits eleven room answer (Jump offset) p fit allows cs ds vs ws q long h sl links m = stays f (target p offset) q cs ds vs ws h (subst (HoldsEach f.slots) (sym m.2) sl) links m.0 m.1
   edges_keep f fits eleven room answer (JumpLong distance) p fit allows cs ds vs ws q long h sl links m = stays f (target p distance) q cs ds vs ws h (subst (HoldsEach f.slots) (sym m.2) sl) links m.0 m.1

@@ -55,20 +55,20 @@ module _ (law : Laws) where
       (j, record { region = region; width = place.0; place = place.1; inside = omega (arith, long, inside) })
 
   pub slots_known : SlotsAreKnown
-  slots_known f Unset distance w fit small t vs long r at h = absurd (false≢true t)
-  slots_known f (Num k) distance w fit small t vs long r at h = absurd (false≢true t)
-  slots_known f (Ptr Input k) distance w fit small t vs long r at h = absurd (false≢true t)
-  slots_known f (Ptr Output k) distance w fit small t vs long r at h = absurd (false≢true t)
-  slots_known f (Ptr Stack k) distance w fit small t vs long r at h =
-      slot_there f.slots vs long (last_place k distance) r ((at + distance) % 2 ^ 64) w (sym h.0) (place_held law Whole k at distance fit small h.1) (whole_slot (last_place k distance) w) refl (slot_kind f.slots (whole_slot (last_place k distance) w)) refl t
+  slots_known precision f Unset distance w fit small t vs long r at h = absurd (false≢true t)
+  slots_known precision f (Num k) distance w fit small t vs long r at h = absurd (false≢true t)
+  slots_known precision f (Ptr Input k) distance w fit small t vs long r at h = absurd (false≢true t)
+  slots_known precision f (Ptr Output k) distance w fit small t vs long r at h = absurd (false≢true t)
+  slots_known precision f (Ptr Stack k) distance w fit small t vs long r at h =
+      slot_there f.slots vs long (last_place precision k distance) r ((at + distance) % 2 ^ 64) w (sym h.0) (place_held law precision k at distance fit small h.1) (whole_slot (last_place precision k distance) w) refl (slot_kind f.slots (whole_slot (last_place precision k distance) w)) refl t
 
   pub loads_known : LoadsAreKnown
-  loads_known f Unset distance w fit small ok vs long sl r at h = absurd (false≢true ok.0)
-  loads_known f (Num k) distance w fit small ok vs long sl r at h = absurd h
-  loads_known f (Ptr Input k) distance w fit small ok vs long sl r at h = elsewhere vs r Input ((at + distance) % 2 ^ 64) w (sym h.0) (is_input law Whole)
-  loads_known f (Ptr Output k) distance w fit small ok vs long sl r at h = elsewhere vs r Output ((at + distance) % 2 ^ 64) w (sym h.0) (is_output law Whole)
-  loads_known f (Ptr Stack k) distance w fit small ok vs long sl r at h =
-      stack_load f.slots vs long sl (last_place k distance) r ((at + distance) % 2 ^ 64) w (sym h.0) (place_held law Whole k at distance fit small h.1) ok.1 ok.2 (whole_slot (last_place k distance) w) refl (slot_kind f.slots (whole_slot (last_place k distance) w)) refl
+  loads_known precision f Unset distance w fit small ok vs long sl r at h = absurd (false≢true ok.0)
+  loads_known precision f (Num k) distance w fit small ok vs long sl r at h = absurd h
+  loads_known precision f (Ptr Input k) distance w fit small ok vs long sl r at h = elsewhere vs r Input ((at + distance) % 2 ^ 64) w (sym h.0) (is_input law Whole)
+  loads_known precision f (Ptr Output k) distance w fit small ok vs long sl r at h = elsewhere vs r Output ((at + distance) % 2 ^ 64) w (sym h.0) (is_output law Whole)
+  loads_known precision f (Ptr Stack k) distance w fit small ok vs long sl r at h =
+      stack_load f.slots vs long sl (last_place precision k distance) r ((at + distance) % 2 ^ 64) w (sym h.0) (place_held law precision k at distance fit small h.1) ok.1 ok.2 (whole_slot (last_place precision k distance) w) refl (slot_kind f.slots (whole_slot (last_place precision k distance) w)) refl
 
 outside : (r q : Region) (at n j : ℕ) → r ≡ q → (q ≡ Stack → ⊥) → Reached r at n j → ⊥
 outside r q at n j same other reached = let region = reached.region in other (sym same ∙ region)

@@ -101,8 +101,8 @@ edges_same precision room answer (LoadWide d value) p q f g e = one (Same f) q (
 edges_same precision room answer (Load width d from offset) p q f g e = one (Same f) q (p + 1) g _ (each_computed f d _) e
 edges_same precision room answer (LoadSigned width d from offset) p q f g e = one (Same f) q (p + 1) g _ (each_computed f d _) e
 edges_same precision room answer (Store width to offset x) p q f g e =
-    let place = stack_place (kind_at f to) (extended offset) in
-    one (Same f) q (p + 1) g (Some (after_store f (kind_at f to) (extended offset) (byte_count width) (operand_kind f x)))
+    let place = stack_place precision (kind_at f to) (extended offset) in
+    one (Same f) q (p + 1) g (Some (after_store precision f (kind_at f to) (extended offset) (byte_count width) (operand_kind f x)))
     (record { slots = length_stored f.slots (whole_slot place (byte_count width)) (access_span place (byte_count width)) (operand_kind f x); links = refl }) e
 edges_same precision room answer (Jump offset) p q f g e = one (Same f) q (target p offset) g (Some f) (record { slots = refl; links = refl }) e
 edges_same precision room answer (JumpLong distance) p q f g e = one (Same f) q (target p distance) g (Some f) (record { slots = refl; links = refl }) e
@@ -115,10 +115,10 @@ edges_same precision room answer (CallLocal distance) p q f g e = absurd e
 edges_same precision room answer Exit p q f g e = absurd e
 
 pub flows_keep : FlowsKeepSlots
-flows_keep precision room answer i p q f g e = let same = edges_same precision room answer i p q (relinked room i p f) g e in same.slots
+flows_keep precision room answer i p q f g e = let same = edges_same precision room answer i p q (relinked precision room i p f) g e in same.slots
 
-pub flow_links : (precision : Precision) (room : Option ℕ) (answer : Plain) (i : Insn) (p q : ℕ) (f g : PlainFrame) → Among q g (flow precision room answer i p f) → g.links ≡ links_after room i p f
-flow_links precision room answer i p q f g e = let same = edges_same precision room answer i p q (relinked room i p f) g e in same.links
+pub flow_links : (precision : Precision) (room : Option ℕ) (answer : Plain) (i : Insn) (p q : ℕ) (f g : PlainFrame) → Among q g (flow precision room answer i p f) → g.links ≡ links_after precision room i p f
+flow_links precision room answer i p q f g e = let same = edges_same precision room answer i p q (relinked precision room i p f) g e in same.links
 
 length_join : (xs ys : List PlainKind) → length ys ≡ length xs → length (join_each xs ys) ≡ length xs
 length_join [] ys e = refl

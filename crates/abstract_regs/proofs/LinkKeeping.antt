@@ -90,22 +90,22 @@ module _ (law : Laws) (precision : Precision) where
           let lt = ltb-true i (length slots) (sym inside) in
           record { region = region; width = place.0; place = place.1 ∙ ap (λ x. 8 * x) same; inside = omega (arith, lt, long, same) }
 
-  known_is : (f : PlainFrame) (vs : List (Option Value)) → length f.slots ≡ length vs → (x : PlainKind) (distance : ℕ) (r : Region) (o w j : ℕ) → distance < 2 ^ 64 → KindFits x → HoldsKind x (Some (values.Ptr r o)) → is_ptr x ≡ true → accessed_slot f x distance w ≡ Some j → IsSlot vs r ((o + distance) % 2 ^ 64) w j
+  known_is : (f : PlainFrame) (vs : List (Option Value)) → length f.slots ≡ length vs → (x : PlainKind) (distance : ℕ) (r : Region) (o w j : ℕ) → distance < 2 ^ 64 → KindFits x → HoldsKind x (Some (values.Ptr r o)) → is_ptr x ≡ true → accessed_slot precision f x distance w ≡ Some j → IsSlot vs r ((o + distance) % 2 ^ 64) w j
   known_is f vs long Unset distance r o w j small fit h p e = absurd (false≢true p)
   known_is f vs long (Num k) distance r o w j small fit h p e = absurd h
   known_is f vs long (Ptr Input k) distance r o w j small fit h p e = absurd (none-some j e)
   known_is f vs long (Ptr Output k) distance r o w j small fit h p e = absurd (none-some j e)
   known_is f vs long (Ptr Stack k) distance r o w j small fit h p e =
-      found f.slots vs long (last_place k distance) r ((o + distance) % 2 ^ 64) w j (sym h.0) (place_held law precision k o distance fit small h.1) (whole_slot (last_place k distance) w) refl e
+      found f.slots vs long (last_place precision k distance) r ((o + distance) % 2 ^ 64) w j (sym h.0) (place_held law precision k o distance fit small h.1) (whole_slot (last_place precision k distance) w) refl e
 
   -- what an access doesn't touch, it doesn't reach
-  unreached : (x : PlainKind) (distance : ℕ) (r : Region) (o w j : ℕ) → distance < 2 ^ 64 → KindFits x → HoldsKind x (Some (values.Ptr r o)) → is_ptr x ≡ true → touches (access_span (stack_place x distance) w) j ≡ false → Reached r ((o + distance) % 2 ^ 64) w j → ⊥
+  unreached : (x : PlainKind) (distance : ℕ) (r : Region) (o w j : ℕ) → distance < 2 ^ 64 → KindFits x → HoldsKind x (Some (values.Ptr r o)) → is_ptr x ≡ true → touches (access_span (stack_place precision x distance) w) j ≡ false → Reached r ((o + distance) % 2 ^ 64) w j → ⊥
   unreached Unset distance r o w j small fit h p out reached = absurd (false≢true p)
   unreached (Num k) distance r o w j small fit h p out reached = absurd h
   unreached (Ptr Input k) distance r o w j small fit h p out reached = not_stack law precision r Input ((o + distance) % 2 ^ 64) w j (sym h.0) (is_input law precision) reached
   unreached (Ptr Output k) distance r o w j small fit h p out reached = not_stack law precision r Output ((o + distance) % 2 ^ 64) w j (sym h.0) (is_output law precision) reached
   unreached (Ptr Stack k) distance r o w j small fit h p out reached =
-      false≢true (sym out ∙ reaches_some law precision (last_place k distance) ((o + distance) % 2 ^ 64) w (place_held law precision k o distance fit small h.1) j reached.touched)
+      false≢true (sym out ∙ reaches_some law precision (last_place precision k distance) ((o + distance) % 2 ^ 64) w (place_held law precision k o distance fit small h.1) j reached.touched)
 
   module _ (f : PlainFrame) (fits : EachFits f.registers) (eleven : length f.registers ≡ 11) (p : ℕ) (below : NamesBelow p f) (cs vs : List (Option Value)) (long : length f.slots ≡ length vs) (h : HoldsEach f.registers cs) (sl : HoldsEach f.slots vs) (held : HoldsLinks f cs vs) where
     -- a register is among the values
@@ -176,7 +176,7 @@ module _ (law : Laws) (precision : Precision) where
         (t.numbers, set_slot t.numbers (slice_set f.links src l) cs vs ws j l x (relink_register t.numbers f.links cs vs src l x t.are fit at t.is) w.0 w.1 t.is)
 
     -- of a store
-    store_whole : (x : PlainKind) (distance w : ℕ) (r : Region) (o : ℕ) (v : Value) (ws : List (Option Value)) → distance < 2 ^ 64 → KindFits x → HoldsKind x (Some (values.Ptr r o)) → is_ptr x ≡ true → Stores vs r ((o + distance) % 2 ^ 64) w v ws → (j : ℕ) → accessed_slot f x distance w ≡ Some j → (value_at ws j ≡ Some v) × ((i : ℕ) → i ≢ j → value_at ws i ≡ value_at vs i)
+    store_whole : (x : PlainKind) (distance w : ℕ) (r : Region) (o : ℕ) (v : Value) (ws : List (Option Value)) → distance < 2 ^ 64 → KindFits x → HoldsKind x (Some (values.Ptr r o)) → is_ptr x ≡ true → Stores vs r ((o + distance) % 2 ^ 64) w v ws → (j : ℕ) → accessed_slot precision f x distance w ≡ Some j → (value_at ws j ≡ Some v) × ((i : ℕ) → i ≢ j → value_at ws i ≡ value_at vs i)
     store_whole x distance w r o v ws small fit k ptr stores j e =
         let slot = known_is f vs long x distance r o w j small fit k ptr e in
         let width = slot.width in
@@ -225,7 +225,7 @@ module _ (law : Laws) (precision : Precision) where
     as_is : (links : List Link) (xs ys ds ws : List (Option Value)) → Left links xs ys → ds ≡ xs → ws ≡ ys → Left links ds ws
     as_is links xs ys ds ws left a b = subst (λ (t : List (Option Value)). Left links t ws) (sym a) (subst (Left links xs) (sym b) left)
 
-    links_keep : (room : Option ℕ) (answer : Plain) (i : Insn) → Fits i → Allows room i f → (ds ws : List (Option Value)) (q : ℕ) → Moves room answer i p cs vs q ds ws → Left (links_after room i p f) ds ws
+    links_keep : (room : Option ℕ) (answer : Plain) (i : Insn) → Fits i → Allows precision room i f → (ds ws : List (Option Value)) (q : ℕ) → Moves room answer i p cs vs q ds ws → Left (links_after precision room i p f) ds ws
     links_keep room answer (Alu bits operation dst source) fit ok ds ws q m =
         let registers = held.1.registers in
         let l = link_in f.links dst in
@@ -240,7 +240,7 @@ module _ (law : Laws) (precision : Precision) where
         let x = kind_at f base in
         let loads = m.4 in
         as_is _ _ vs ds ws
-        (loaded (accessed_slot f x (extended offset) (byte_count width)) dst m.2 fit.0
+        (loaded (accessed_slot precision f x (extended offset) (byte_count width)) dst m.2 fit.0
         (λ j e. loads.whole j (known_is f vs long x (extended offset) m.0 m.1 (byte_count width) j (extended_small16 law precision offset fit.2) (fits_at f.registers base fits) (held_at f.registers cs base _ h m.3) ok.0 e))) m.6 m.7
     links_keep room answer (LoadSigned width dst base offset) fit ok ds ws q m = as_is _ _ vs ds ws (freed dst _ fit.0) m.6 m.7
     links_keep room answer (Store width base offset source) fit ok ds ws q m =
@@ -251,7 +251,7 @@ module _ (law : Laws) (precision : Precision) where
         let fit_base = fits_at f.registers base fits in
         let held_base = held_at f.registers cs base _ h m.3 in
         as_is _ cs ws ds ws
-        (stored_true (accessed_slot f x (extended offset) w) (access_span (stack_place x (extended offset)) w) source m.2 ws fit.2 m.4
+        (stored_true (accessed_slot precision f x (extended offset) w) (access_span (stack_place precision x (extended offset)) w) source m.2 ws fit.2 m.4
         (λ none j out. stores.others j (unreached x (extended offset) m.0 m.1 w j small fit_base held_base ok.0 out))
         (store_whole x (extended offset) w m.0 m.1 m.2 ws small fit_base held_base ok.0 stores)) m.7 refl
     links_keep room answer (Jump offset) fit ok ds ws q m = as_is f.links cs vs ds ws held m.1 m.2
@@ -262,7 +262,7 @@ module _ (law : Laws) (precision : Precision) where
     links_keep room answer Exit fit ok ds ws q m = absurd m
 
   -- links don't matter to what the rules leave
-  still_allowed : (room : Option ℕ) (i : Insn) (p : ℕ) (f : PlainFrame) → Allows room i f → Allows room i (relinked room i p f)
+  still_allowed : (room : Option ℕ) (i : Insn) (p : ℕ) (f : PlainFrame) → Allows precision room i f → Allows precision room i (relinked precision room i p f)
   still_allowed room (Alu bits operation dst source) p f ok = ok
   still_allowed room (Neg bits dst) p f ok = ok
   still_allowed room (Mov bits dst source) p f ok = ok
@@ -277,7 +277,7 @@ module _ (law : Laws) (precision : Precision) where
   still_allowed room (Branch bits comparison dst source offset) p f ok = ok
   still_allowed room (Call helper) p f ok = room_allowed room ok
     where
-      room_allowed : (o : Option ℕ) → AllowsRoom o f → AllowsRoom o (relinked room (Call helper) p f)
+      room_allowed : (o : Option ℕ) → AllowsRoom o f → AllowsRoom o (relinked precision room (Call helper) p f)
       room_allowed None ok = ok
       room_allowed (Some k) ok = ok
   still_allowed room (CallLocal distance) p f ok = ok
@@ -285,4 +285,4 @@ module _ (law : Laws) (precision : Precision) where
 
   pub keeps : (f : PlainFrame) → EachFits f.registers → length f.registers ≡ 11 → (room : Option ℕ) (answer : Plain) (i : Insn) (p : ℕ) → Keeps precision room answer i p f
   keeps f fits eleven room answer i p fit ok below cs ds vs ws q long h sl held m =
-      edges_keep law precision (relinked room i p f) fits eleven room answer i p fit (still_allowed room i p f ok) cs ds vs ws q long h sl (links_keep f fits eleven p below cs vs long h sl held room answer i fit ok ds ws q m) m
+      edges_keep law precision (relinked precision room i p f) fits eleven room answer i p fit (still_allowed room i p f ok) cs ds vs ws q long h sl (links_keep f fits eleven p below cs vs long h sl held room answer i fit ok ds ws q m) m

@@ -16,6 +16,7 @@ use Rattle.bpf_decode.specs.declared.operation.SignedMove.{SignedMove}
 use Rattle.bpf_decode.specs.declared.operation.SignedMove.TheVariants.{Byte64, Half64, Word64, Byte32, Half32}
 use Rattle.bpf_decode.specs.Instruction.{byte_count}
 use Rattle.bpf_decode.specs.Values.{extended}
+use Rattle.abstract_num.specs.declared.precision.Precision.{Precision}
 use Rattle.abstract_num.specs.Plain.{Plain}
 use Rattle.abstract_regs.specs.declared.link.Link.{Link}
 use Rattle.abstract_regs.specs.declared.link.Form.{Form}
@@ -62,26 +63,26 @@ stored_long None span source p f = length_unlinked (is_touched span) 0 f.links
 stored_long (Some j) span (Immediate imm) p f = length-set f.links (slot_place j) no_link
 stored_long (Some j) span (Register src) p f = copied_long p f.links src (kind_at f src) (slot_place j)
 
-after_long : (room : Option ℕ) (i : Insn) (p : ℕ) (f : PlainFrame) → length (links_after room i p f) ≡ length f.links
-after_long room (Alu bits operation d x) p f = length-set f.links d _
-after_long room (Neg bits d) p f = length-set f.links d no_link
-after_long room (Mov bits d x) p f = moved_long bits x p f d
-after_long room (MovSigned extension d src) p f = extended_long extension src p f d
-after_long room (End order width d) p f = length-set f.links d no_link
-after_long room (LoadWide d value) p f = length-set f.links d no_link
-after_long room (Load width d base offset) p f = loaded_long (accessed_slot f (kind_at f base) (extended offset) (byte_count width)) p f d
-after_long room (LoadSigned width d base offset) p f = length-set f.links d no_link
-after_long room (Store width base offset x) p f =
-    stored_long (accessed_slot f (kind_at f base) (extended offset) (byte_count width)) (access_span (stack_place (kind_at f base) (extended offset)) (byte_count width)) x p f
-after_long room (Jump offset) p f = refl
-after_long room (JumpLong distance) p f = refl
-after_long room (Branch bits comparison d x offset) p f = refl
-after_long room (Call helper) p f = length_unlinked (is_touched (room_span f room)) 0 (unlinked is_clobbered 0 f.links) ∙ length_unlinked is_clobbered 0 f.links
-after_long room (CallLocal distance) p f = refl
-after_long room Exit p f = refl
+after_long : (precision : Precision) (room : Option ℕ) (i : Insn) (p : ℕ) (f : PlainFrame) → length (links_after precision room i p f) ≡ length f.links
+after_long precision room (Alu bits operation d x) p f = length-set f.links d _
+after_long precision room (Neg bits d) p f = length-set f.links d no_link
+after_long precision room (Mov bits d x) p f = moved_long bits x p f d
+after_long precision room (MovSigned extension d src) p f = extended_long extension src p f d
+after_long precision room (End order width d) p f = length-set f.links d no_link
+after_long precision room (LoadWide d value) p f = length-set f.links d no_link
+after_long precision room (Load width d base offset) p f = loaded_long (accessed_slot precision f (kind_at f base) (extended offset) (byte_count width)) p f d
+after_long precision room (LoadSigned width d base offset) p f = length-set f.links d no_link
+after_long precision room (Store width base offset x) p f =
+    stored_long (accessed_slot precision f (kind_at f base) (extended offset) (byte_count width)) (access_span (stack_place precision (kind_at f base) (extended offset)) (byte_count width)) x p f
+after_long precision room (Jump offset) p f = refl
+after_long precision room (JumpLong distance) p f = refl
+after_long precision room (Branch bits comparison d x offset) p f = refl
+after_long precision room (Call helper) p f = length_unlinked (is_touched (room_span f room)) 0 (unlinked is_clobbered 0 f.links) ∙ length_unlinked is_clobbered 0 f.links
+after_long precision room (CallLocal distance) p f = refl
+after_long precision room Exit p f = refl
 
 pub flows_keep_links : FlowsKeepLinks
-flows_keep_links precision room answer i p q f g e = ap length (flow_links precision room answer i p q f g e) ∙ after_long room i p f
+flows_keep_links precision room answer i p q f g e = ap length (flow_links precision room answer i p q f g e) ∙ after_long precision room i p f
 
 -- ---- names
 
@@ -204,28 +205,28 @@ module _ (n : ℕ) where
     stored (Some j) span (Immediate imm) = freed (slot_place j)
     stored (Some j) span (Register src) = copied src (kind_at f src) (slot_place j)
 
-    after_below : (room : Option ℕ) (i : Insn) → AllBelow n (links_after room i p f)
-    after_below room (Alu bits operation d x) = set_below f.links d _ all (computed_below bits operation (kind_at f d) (operand_kind f x) (link_in f.links d) (all d))
-    after_below room (Neg bits d) = freed d
-    after_below room (Mov bits d x) = moved bits x d
-    after_below room (MovSigned extension d src) = extends extension src d
-    after_below room (End order width d) = freed d
-    after_below room (LoadWide d value) = freed d
-    after_below room (Load width d base offset) = loaded (accessed_slot f (kind_at f base) (extended offset) (byte_count width)) d
-    after_below room (LoadSigned width d base offset) = freed d
-    after_below room (Store width base offset x) =
-        stored (accessed_slot f (kind_at f base) (extended offset) (byte_count width)) (access_span (stack_place (kind_at f base) (extended offset)) (byte_count width)) x
-    after_below room (Jump offset) = all
-    after_below room (JumpLong distance) = all
-    after_below room (Branch bits comparison d x offset) = all
-    after_below room (Call helper) = unlink_below (is_touched (room_span f room)) (unlinked is_clobbered 0 f.links) (unlink_below is_clobbered f.links all)
-    after_below room (CallLocal distance) = all
-    after_below room Exit = all
+    after_below : (precision : Precision) (room : Option ℕ) (i : Insn) → AllBelow n (links_after precision room i p f)
+    after_below precision room (Alu bits operation d x) = set_below f.links d _ all (computed_below bits operation (kind_at f d) (operand_kind f x) (link_in f.links d) (all d))
+    after_below precision room (Neg bits d) = freed d
+    after_below precision room (Mov bits d x) = moved bits x d
+    after_below precision room (MovSigned extension d src) = extends extension src d
+    after_below precision room (End order width d) = freed d
+    after_below precision room (LoadWide d value) = freed d
+    after_below precision room (Load width d base offset) = loaded (accessed_slot precision f (kind_at f base) (extended offset) (byte_count width)) d
+    after_below precision room (LoadSigned width d base offset) = freed d
+    after_below precision room (Store width base offset x) =
+        stored (accessed_slot precision f (kind_at f base) (extended offset) (byte_count width)) (access_span (stack_place precision (kind_at f base) (extended offset)) (byte_count width)) x
+    after_below precision room (Jump offset) = all
+    after_below precision room (JumpLong distance) = all
+    after_below precision room (Branch bits comparison d x offset) = all
+    after_below precision room (Call helper) = unlink_below (is_touched (room_span f room)) (unlinked is_clobbered 0 f.links) (unlink_below is_clobbered f.links all)
+    after_below precision room (CallLocal distance) = all
+    after_below precision room Exit = all
 
 above : (p n : ℕ) (l : Link) → p < n → NameBelow p l → NameBelow n l
 above p n l lt h = ⊎_elim (λ (e : l.form ≡ Unlinked). inl e) (λ (less : l.name < p). inr (omega (arith, lt, less))) h
 
 pub flows_keep_names : FlowsKeepNames
 flows_keep_names precision room answer i p q f g below e n lt =
-    let all = after_below n p lt f (λ place. above p n (link_in f.links place) lt (below place)) room i in
+    let all = after_below n p lt f (λ place. above p n (link_in f.links place) lt (below place)) precision room i in
     subst (AllBelow n) (sym (flow_links precision room answer i p q f g e)) all

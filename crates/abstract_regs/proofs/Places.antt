@@ -6,7 +6,6 @@ use Rattle.bpf_decode.specs.declared.operation.OpWidth.TheVariants.{Bits64}
 use Rattle.bpf_decode.specs.declared.operation.Arithmetic.TheVariants.{Add}
 use Rattle.bpf_decode.specs.declared.value.Value.{Value}
 use Rattle.bpf_decode.specs.declared.value.Value.TheVariants as values
-use Rattle.abstract_num.specs.declared.precision.Precision.TheVariants.{Whole}
 use Rattle.abstract_num.specs.Plain.{Plain, constant}
 use Rattle.abstract_num.specs.Tighten.{tighten}
 use Rattle.abstract_num.specs.Transfer.{ranged}
@@ -49,9 +48,9 @@ fits_at None at w size h e = absurd h
 fits_at (Some place) at w size h e = let le = leb-true (place.high + w) size e in omega (arith, le, h.below)
 
 pub accesses_fit : ConstantHolds → ConstantsFit → ArithmeticKeeps → AccessesFit
-accesses_fit constants fit sums k f distance w size small e at h =
-    fits_at (last_place k distance) ((at + distance) % 2 ^ 64) w size
-    (sums Whole Bits64 Add k (constant distance) f (fit distance small) at distance h (constants distance small)) e
+accesses_fit constants fit sums precision k f distance w size small e at h =
+    fits_at (last_place precision k distance) ((at + distance) % 2 ^ 64) w size
+    (sums precision Bits64 Add k (constant distance) f (fit distance small) at distance h (constants distance small)) e
 
 pub ranges_fit : RangesFit
 ranges_fit k l size e at n h g = let le = leb-true (k.high + l.high) size e in omega (arith, le, h.below, g.below)

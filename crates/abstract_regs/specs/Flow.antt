@@ -66,9 +66,9 @@ edges_of precision room answer (Mov bits dst source) p f = computed (p + 1) f ds
 edges_of precision room answer (MovSigned extension dst src) p f = computed (p + 1) f dst (signed_move_kind precision extension (kind_at f src))
 edges_of precision room answer (End order width dst) p f = computed (p + 1) f dst (end_kind precision order width (kind_at f dst))
 edges_of precision room answer (LoadWide dst value) p f = computed (p + 2) f dst (Some (Num (constant value)))
-edges_of precision room answer (Load width dst base offset) p f = computed (p + 1) f dst (loaded_kind (kept_kind f (kind_at f base) (extended offset) (byte_count width)) (option_map Num (tighten precision (ranged 0 (load_high width)))))
+edges_of precision room answer (Load width dst base offset) p f = computed (p + 1) f dst (loaded_kind (kept_kind precision f (kind_at f base) (extended offset) (byte_count width)) (option_map Num (tighten precision (ranged 0 (load_high width)))))
 edges_of precision room answer (LoadSigned width dst base offset) p f = computed (p + 1) f dst (option_map Num (tighten precision (signed_ranged (signed_low width) (signed_high width))))
-edges_of precision room answer (Store width base offset source) p f = (p + 1, after_store f (kind_at f base) (extended offset) (byte_count width) (operand_kind f source)) ∷ []
+edges_of precision room answer (Store width base offset source) p f = (p + 1, after_store precision f (kind_at f base) (extended offset) (byte_count width) (operand_kind f source)) ∷ []
 edges_of precision room answer (Jump offset) p f = (target p offset, f) ∷ []
 edges_of precision room answer (JumpLong distance) p f = (target p distance, f) ∷ []
 edges_of precision room answer (Branch bits comparison dst source offset) p f =
@@ -79,4 +79,4 @@ edges_of precision room answer Exit p f = []
 
 -- the edges of an instruction, with the links that it leaves
 abbrev pub flow : Precision → Option ℕ → Plain → Insn → ℕ → PlainFrame → List (ℕ × PlainFrame)
-flow precision room answer i p f = edges_of precision room answer i p (relinked room i p f)
+flow precision room answer i p f = edges_of precision room answer i p (relinked precision room i p f)

@@ -94,12 +94,14 @@ compared_kind bits f (Immediate imm) = Num (constant (mov_value bits (extended i
 compared_kind bits f (Register r) = kind_at f r
 
 -- what a load of w bytes gives if it is a slot
-abbrev pub kept_kind : PlainFrame → PlainKind → ℕ → ℕ → Option PlainKind
-kept_kind f x distance w = slot_kind f.slots (whole_slot (stack_place x distance) w)
+abbrev pub kept_kind : Precision → PlainFrame → PlainKind → ℕ → ℕ → Option PlainKind
+kept_kind precision f x distance w = slot_kind f.slots (whole_slot (stack_place precision x distance) w)
 
 -- after a store of w bytes
-abbrev pub after_store : PlainFrame → PlainKind → ℕ → ℕ → PlainKind → PlainFrame
-after_store f x distance w y = with_slots f (stored f.slots (whole_slot (stack_place x distance) w) (access_span (stack_place x distance) w) y)
+abbrev pub after_store : Precision → PlainFrame → PlainKind → ℕ → ℕ → PlainKind → PlainFrame
+after_store precision f x distance w y =
+    let place = stack_place precision x distance in
+    with_slots f (stored f.slots (whole_slot place w) (access_span place w) y)
 
 -- registers of which kinds are true
 abbrev pub HoldsEach : List PlainKind → List (Option Value) → Type 0

@@ -15,7 +15,6 @@ use Rattle.bpf_decode.specs.declared.operation.ByteOrder.{ByteOrder}
 use Rattle.bpf_decode.specs.declared.operation.EndWidth.{EndWidth}
 use Rattle.bpf_decode.specs.declared.operation.Comparison.{Comparison}
 use Rattle.abstract_num.specs.declared.precision.Precision.{Precision}
-use Rattle.abstract_num.specs.declared.precision.Precision.TheVariants.{Whole}
 use Rattle.abstract_num.specs.Plain.{Plain, Holds, constant, join}
 use Rattle.abstract_num.specs.Tighten.{tighten}
 use Rattle.abstract_num.specs.Transfer.{transferred, copied, sign_extended, ordered}
@@ -129,19 +128,20 @@ along_kinds precision bits comparison taken same (Num k) Unset = Some (Num k, Un
 along_kinds precision bits comparison taken same (Num k) (Ptr q l) = Some (Num k, Ptr q l)
 along_kinds precision bits comparison taken same (Ptr r k) y = Some (Ptr r k, y)
 
--- The last place of an access at a distance from an offset: the upper bound of their sum, of whose
--- low half nothing is asked; none if no place is left.
-abbrev pub last_place : Plain → ℕ → Option Plain
-last_place k distance = transferred Whole Bits64 Add k (constant distance)
+-- The last place of an access at a distance from an offset: the upper bound of their sum; none if
+-- no place is left.
+abbrev pub last_place : Precision → Plain → ℕ → Option Plain
+last_place precision k distance = transferred precision Bits64 Add k (constant distance)
 
 -- all of the w bytes at those places are among the first `size`
 abbrev pub places_fit : Option Plain → ℕ → ℕ → Bool
 places_fit None w size = true
 places_fit (Some place) w size = nat_le (place.high + w) size
 
--- such an access is among the first `size`
-abbrev pub access_fits : Plain → ℕ → ℕ → ℕ → Bool
-access_fits k distance w size = places_fit (last_place k distance) w size
+-- The last place of an access at a distance from an offset: the upper bound of their sum; none if
+-- no place is left.
+abbrev pub access_fits : Precision → Plain → ℕ → ℕ → ℕ → Bool
+access_fits precision k distance w size = places_fit (last_place precision k distance) w size
 
 -- a range of a length from an offset on is within the first `size` bytes
 abbrev pub range_fits : Plain → Plain → ℕ → Bool

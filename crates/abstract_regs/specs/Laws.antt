@@ -101,7 +101,7 @@ EntryHolds = (precision : Precision) (in_cap stack count places n : ℕ) → in_
 -- offset holds.
 abbrev pub AccessesFit : Type 0
 AccessesFit =
-    (k : Plain) → Fits k → (distance w size : ℕ) → distance < 2 ^ 64 → access_fits k distance w size ≡ true →
+    (precision : Precision) (k : Plain) → Fits k → (distance w size : ℕ) → distance < 2 ^ 64 → access_fits precision k distance w size ≡ true →
     (at : ℕ) → Holds k at → (at + distance) % 2 ^ 64 + w ≤ size
 
 -- A range that fits from an offset on stays within the first `size` bytes, from every place that
@@ -140,7 +140,7 @@ JoinsKeepNames = (f g : PlainFrame) (p : ℕ) → NamesBelow p f → NamesBelow 
 -- Of a load that the rules leave, what it reads is known, wherever it is.
 abbrev pub LoadsAreKnown : Type 0
 LoadsAreKnown =
-    (f : PlainFrame) (x : PlainKind) (distance w : ℕ) → KindFits x → distance < 2 ^ 64 → AllowsLoad f x distance w →
+    (precision : Precision) (f : PlainFrame) (x : PlainKind) (distance w : ℕ) → KindFits x → distance < 2 ^ 64 → AllowsLoad precision f x distance w →
     (vs : List (Option Value)) → length f.slots ≡ length vs → HoldsEach f.slots vs →
     (r : Region) (at : ℕ) → HoldsKind x (Some (values.Ptr r at)) → LoadIsKnown vs r ((at + distance) % 2 ^ 64) w
 
@@ -155,6 +155,6 @@ RangesAreKnown =
 -- If the kind of an access's slot is known, the access is that slot.
 abbrev pub SlotsAreKnown : Type 0
 SlotsAreKnown =
-    (f : PlainFrame) (x : PlainKind) (distance w : ℕ) → KindFits x → distance < 2 ^ 64 → is_some (kept_kind f x distance w) ≡ true →
+    (precision : Precision) (f : PlainFrame) (x : PlainKind) (distance w : ℕ) → KindFits x → distance < 2 ^ 64 → is_some (kept_kind precision f x distance w) ≡ true →
     (vs : List (Option Value)) → length f.slots ≡ length vs →
     (r : Region) (at : ℕ) → HoldsKind x (Some (values.Ptr r at)) → (j : ℕ) × IsSlot vs r ((at + distance) % 2 ^ 64) w j

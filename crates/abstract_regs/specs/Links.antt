@@ -50,8 +50,8 @@ known_slot slots None = None
 known_slot slots (Some j) = if nat_lt j (length slots) then Some j else None
 
 -- the known slot that an access of w bytes through a kind is
-abbrev pub accessed_slot : PlainFrame → PlainKind → ℕ → ℕ → Option ℕ
-accessed_slot f x distance w = known_slot f.slots (whole_slot (stack_place x distance) w)
+abbrev pub accessed_slot : Precision → PlainFrame → PlainKind → ℕ → ℕ → Option ℕ
+accessed_slot precision f x distance w = known_slot f.slots (whole_slot (stack_place precision x distance) w)
 
 -- the kind of a slot
 abbrev pub slot_at : PlainFrame → ℕ → PlainKind
@@ -150,29 +150,29 @@ computed_link bits operation (Ptr r k) y l = no_link
 -- ---- the links after each instruction, at slot p
 
 -- the links that an instruction leaves at slot p
-abbrev pub links_after : Option ℕ → Insn → ℕ → PlainFrame → List Link
-links_after room (Alu bits operation dst source) p f =
+abbrev pub links_after : Precision → Option ℕ → Insn → ℕ → PlainFrame → List Link
+links_after precision room (Alu bits operation dst source) p f =
     slice_set f.links dst (computed_link bits operation (kind_at f dst) (operand_kind f source) (link_in f.links dst))
-links_after room (Neg bits dst) p f = slice_set f.links dst no_link
-links_after room (Mov bits dst source) p f = moved_links bits source p f dst
-links_after room (MovSigned extension dst src) p f = extended_links extension src p f dst
-links_after room (End order width dst) p f = slice_set f.links dst no_link
-links_after room (LoadWide dst value) p f = slice_set f.links dst no_link
-links_after room (Load width dst base offset) p f =
-    loaded_links (accessed_slot f (kind_at f base) (extended offset) (byte_count width)) p f dst
-links_after room (LoadSigned width dst base offset) p f = slice_set f.links dst no_link
-links_after room (Store width base offset source) p f =
-    stored_links (accessed_slot f (kind_at f base) (extended offset) (byte_count width)) (access_span (stack_place (kind_at f base) (extended offset)) (byte_count width)) source p f
-links_after room (Jump offset) p f = f.links
-links_after room (JumpLong distance) p f = f.links
-links_after room (Branch bits comparison dst source offset) p f = f.links
-links_after room (Call helper) p f = unlinked (is_touched (room_span f room)) 0 (unlinked is_clobbered 0 f.links)
-links_after room (CallLocal distance) p f = f.links
-links_after room Exit p f = f.links
+links_after precision room (Neg bits dst) p f = slice_set f.links dst no_link
+links_after precision room (Mov bits dst source) p f = moved_links bits source p f dst
+links_after precision room (MovSigned extension dst src) p f = extended_links extension src p f dst
+links_after precision room (End order width dst) p f = slice_set f.links dst no_link
+links_after precision room (LoadWide dst value) p f = slice_set f.links dst no_link
+links_after precision room (Load width dst base offset) p f =
+    loaded_links (accessed_slot precision f (kind_at f base) (extended offset) (byte_count width)) p f dst
+links_after precision room (LoadSigned width dst base offset) p f = slice_set f.links dst no_link
+links_after precision room (Store width base offset source) p f =
+    stored_links (accessed_slot precision f (kind_at f base) (extended offset) (byte_count width)) (access_span (stack_place precision (kind_at f base) (extended offset)) (byte_count width)) source p f
+links_after precision room (Jump offset) p f = f.links
+links_after precision room (JumpLong distance) p f = f.links
+links_after precision room (Branch bits comparison dst source offset) p f = f.links
+links_after precision room (Call helper) p f = unlinked (is_touched (room_span f room)) 0 (unlinked is_clobbered 0 f.links)
+links_after precision room (CallLocal distance) p f = f.links
+links_after precision room Exit p f = f.links
 
 -- the frame with those links
-abbrev pub relinked : Option ℕ → Insn → ℕ → PlainFrame → PlainFrame
-relinked room i p f = with_links f (links_after room i p f)
+abbrev pub relinked : Precision → Option ℕ → Insn → ℕ → PlainFrame → PlainFrame
+relinked precision room i p f = with_links f (links_after precision room i p f)
 
 -- ---- what a place tells of another
 

@@ -167,9 +167,9 @@ EachFits (x ∷ xs) = KindFits x × EachFits xs
 -- What the rules leave of the stack: a load meets no slot that is unset, nor a part of a place; a
 -- store is through a pointer, of a number or of a slot; a helper's range has a pointer and a
 -- length.
-abbrev pub AllowsLoad : PlainFrame → PlainKind → ℕ → ℕ → Type 0
-AllowsLoad f x distance w =
-    (is_ptr x ≡ true) × (meets Nothing (access_span (stack_place x distance) w) 0 f.slots ≡ false) × (kept_kind f x distance w ≡ None → meets Pointer (access_span (stack_place x distance) w) 0 f.slots ≡ false)
+abbrev pub AllowsLoad : Precision → PlainFrame → PlainKind → ℕ → ℕ → Type 0
+AllowsLoad precision f x distance w =
+    (is_ptr x ≡ true) × (meets Nothing (access_span (stack_place precision x distance) w) 0 f.slots ≡ false) × (kept_kind precision f x distance w ≡ None → meets Pointer (access_span (stack_place precision x distance) w) 0 f.slots ≡ false)
 
 -- a helper's range is given by a pointer and a length
 abbrev pub AllowsRoom : Option ℕ → PlainFrame → Type 0
@@ -177,20 +177,20 @@ AllowsRoom None f = Unit {0}
 AllowsRoom (Some k) f = (is_ptr (kind_at f k) ≡ true) × (is_num (kind_at f (k + 1)) ≡ true)
 
 -- so of each instruction
-abbrev pub Allows : Option ℕ → Insn → PlainFrame → Type 0
-Allows room (Load width dst base offset) f = AllowsLoad f (kind_at f base) (extended offset) (byte_count width)
-Allows room (LoadSigned width dst base offset) f =
-    AllowsLoad f (kind_at f base) (extended offset) (signed_byte_count width) × (meets Pointer (access_span (stack_place (kind_at f base) (extended offset)) (signed_byte_count width)) 0 f.slots ≡ false)
-Allows room (Store width base offset source) f =
-    (is_ptr (kind_at f base) ≡ true) × (is_unset (operand_kind f source) ≡ false) × (kept_kind f (kind_at f base) (extended offset) (byte_count width) ≡ None → is_ptr (operand_kind f source) ≡ false)
-Allows room (Call helper) f = AllowsRoom room f
-Allows room i f = Unit {0}
+abbrev pub Allows : Precision → Option ℕ → Insn → PlainFrame → Type 0
+Allows precision room (Load width dst base offset) f = AllowsLoad precision f (kind_at f base) (extended offset) (byte_count width)
+Allows precision room (LoadSigned width dst base offset) f =
+    AllowsLoad precision f (kind_at f base) (extended offset) (signed_byte_count width) × (meets Pointer (access_span (stack_place precision (kind_at f base) (extended offset)) (signed_byte_count width)) 0 f.slots ≡ false)
+Allows precision room (Store width base offset source) f =
+    (is_ptr (kind_at f base) ≡ true) × (is_unset (operand_kind f source) ≡ false) × (kept_kind precision f (kind_at f base) (extended offset) (byte_count width) ≡ None → is_ptr (operand_kind f source) ≡ false)
+Allows precision room (Call helper) f = AllowsRoom room f
+Allows precision room i f = Unit {0}
 
 -- What a frame held before an instruction, a frame along an edge holds after it. The frame's links
 -- have no names that the instruction gives.
 abbrev pub Keeps : Precision → Option ℕ → Plain → Insn → ℕ → PlainFrame → Type 0
 Keeps precision room answer i p f =
-    Fits i → Allows room i f → NamesBelow p f → (cs ds vs ws : List (Option Value)) (q : ℕ) → length f.slots ≡ length vs → HoldsEach f.registers cs → HoldsEach f.slots vs → HoldsLinks f cs vs → Moves room answer i p cs vs q ds ws → Reaches (flow precision room answer i p f) q ds ws
+    Fits i → Allows precision room i f → NamesBelow p f → (cs ds vs ws : List (Option Value)) (q : ℕ) → length f.slots ≡ length vs → HoldsEach f.registers cs → HoldsEach f.slots vs → HoldsLinks f cs vs → Moves room answer i p cs vs q ds ws → Reaches (flow precision room answer i p f) q ds ws
 
 -- Each slot that w bytes reach is a number, or they are a slot that has a value.
 abbrev pub LoadIsKnown : List (Option Value) → Region → ℕ → ℕ → Type 0

@@ -1,6 +1,7 @@
 -- What is known of the stack's slots of eight bytes: a kind for each, in a list by slot. In rule
 -- set 1 the list is empty, so that what is said here of slots says nothing there.
 use Rattle.std.specs.Prelude.{ℕ, ◌+◌, ◌*◌, ◌/◌, ◌%◌, ◌==◌, ◌&&◌, nat_lt, List, [], ◌∷◌, Option, Some, None, Bool, true, false, if◌then◌else◌, slice_get, slice_set}
+use Rattle.abstract_num.specs.declared.precision.Precision.{Precision}
 use Rattle.abstract_num.specs.Plain.{Plain, any}
 use Rattle.abstract_regs.specs.declared.content.Content.{Content}
 use Rattle.abstract_regs.specs.declared.content.Content.TheVariants as contents
@@ -21,12 +22,12 @@ touches (Some s) j = nat_lt (8 * j) s.high && nat_lt s.low (8 * j + 8)
 -- ---- accesses
 
 -- where an access through a kind may be in the stack
-abbrev pub stack_place : PlainKind → ℕ → Option Plain
-stack_place (Ptr Stack k) distance = last_place k distance
-stack_place (Ptr Input k) distance = None
-stack_place (Ptr Output k) distance = None
-stack_place (Num k) distance = None
-stack_place Unset distance = None
+abbrev pub stack_place : Precision → PlainKind → ℕ → Option Plain
+stack_place precision (Ptr Stack k) distance = last_place precision k distance
+stack_place precision (Ptr Input k) distance = None
+stack_place precision (Ptr Output k) distance = None
+stack_place precision (Num k) distance = None
+stack_place precision Unset distance = None
 
 -- the w bytes of an access at a place; none, if no place is left
 abbrev pub access_span : Option Plain → ℕ → Option Span

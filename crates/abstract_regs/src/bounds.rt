@@ -9,10 +9,10 @@ use abstract_num::{Number, Precision, highest, offset_by};
 /// True if all of the bytes at that distance from an offset are among the first `size`, by the
 /// upper bound of the sum, or if the sum has no number left.
 #[inline(always)]
-pub fn access_fits(at: Number, distance: u64, bytes: u64, size: u64) -> bool
-    ensures { result ≡ access_fits (view at) distance bytes size }
+pub fn access_fits(precision: Precision, at: Number, distance: u64, bytes: u64, size: u64) -> bool
+    ensures { result ≡ access_fits precision (view at) distance bytes size }
 {
-    match offset_by(Precision::Whole, &at, distance) {
+    match offset_by(precision, &at, distance) {
         // No number is left, so no run reaches the access: the rule of bounds doesn't refuse it,
         // and the edge after it stays live.
         None => true,

@@ -58,7 +58,7 @@ impl Frame {
         // For the proof: the tables of numbers keep what is held, and the frame's numbers fit.
         keeping_laws();
         self.fits();
-        self.relink(room, insn, slot as u32);
+        self.relink(precision, room, insn, slot as u32);
         self.flow_on(precision, room, answer, insn, slot, fallen)
     }
 
@@ -80,7 +80,7 @@ impl Frame {
             Insn::Load { width, dst, base, offset } => self.keep(dst, self.loaded(precision, width, base, offset)),
             Insn::LoadSigned { width, dst, .. } => self.keep(dst, Kind::Num(loaded_signed(precision, width))),
             Insn::Store { width, base, offset, source } => {
-                self.store(base, i64::from(offset).cast_unsigned(), width.bytes(), source);
+                self.store(precision, base, i64::from(offset).cast_unsigned(), width.bytes(), source);
                 Edges::Falls
             }
             Insn::Jump { offset } => Edges::Jumps(jump_target(slot, i64::from(offset))),
@@ -166,9 +166,10 @@ impl Frame {
     /// that many bytes.
     #[inline(always)]
     fn loaded(&self, precision: Precision, width: Width, base: Register, offset: i16) -> Kind
-        ensures { Some (seen result) ≡ loaded_kind (kept_kind self.now (kind_at self.now base) (extended offset) (byte_count width)) (option_map plain.Num (tighten precision (ranged 0 (load_high width)))) }
+        ensures { Some (seen result) ≡ loaded_kind (kept_kind precision self.now (kind_at self.now base) (extended offset) (byte_count width)) (option_map plain.Num (tighten precision (ranged 0 (load_high width)))) }
     {
         match self.slot(
+            precision,
             self.peek(base),
             i64::from(offset).cast_unsigned(),
             width.bytes(),

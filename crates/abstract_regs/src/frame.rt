@@ -187,13 +187,19 @@ impl Frame {
     /// The kind of the slot that an access covers, at a distance from where `base` points, if it is
     /// one whole slot that is known.
     #[inline(always)]
-    pub fn slot(&self, base: &Kind, distance: u64, bytes: usize) -> Option<Kind>
-        ensures { option_map seen result ≡ kept_kind self.now (seen base.now) distance bytes }
+    pub fn slot(
+        &self,
+        precision: Precision,
+        base: &Kind,
+        distance: u64,
+        bytes: usize,
+    ) -> Option<Kind>
+        ensures { option_map seen result ≡ kept_kind precision self.now (seen base.now) distance bytes }
     {
         if self.slots.is_empty() {
             None
         } else {
-            match whole_slot(stack_place(base, distance), bytes) {
+            match whole_slot(stack_place(precision, base, distance), bytes) {
                 None => None,
                 Some(slot) => self.slots.get(slot).copied(),
             }
@@ -202,14 +208,21 @@ impl Frame {
 
     /// True if a slot that the bytes of an access may touch has that content.
     #[inline(always)]
-    pub fn access_meets(&self, content: Content, base: &Kind, distance: u64, bytes: usize) -> bool
-        ensures { result ≡ meets content (access_span (stack_place (seen base.now) distance) bytes) 0 self.now.slots }
+    pub fn access_meets(
+        &self,
+        precision: Precision,
+        content: Content,
+        base: &Kind,
+        distance: u64,
+        bytes: usize,
+    ) -> bool
+        ensures { result ≡ meets content (access_span (stack_place precision (seen base.now) distance) bytes) 0 self.now.slots }
     {
         !self.slots.is_empty()
             && meets(
                 content,
                 &self.slots,
-                access_span(stack_place(base, distance), bytes),
+                access_span(stack_place(precision, base, distance), bytes),
             )
     }
 
@@ -222,11 +235,18 @@ impl Frame {
     }
 
     /// After a store of an operand through a register.
-    pub(crate) fn store(&mut self, base: Register, distance: u64, bytes: usize, source: Operand)
-        ensures { self.new ≡ after_store self.old (kind_at self.old base) distance bytes (operand_kind self.old source) }
+    pub(crate) fn store(
+        &mut self,
+        precision: Precision,
+        base: Register,
+        distance: u64,
+        bytes: usize,
+        source: Operand,
+    )
+        ensures { self.new ≡ after_store precision self.old (kind_at self.old base) distance bytes (operand_kind self.old source) }
     {
         if !self.slots.is_empty() {
-            let place = stack_place(self.peek(base), distance);
+            let place = stack_place(precision, self.peek(base), distance);
             match whole_slot(place, bytes) {
                 None => spoil(&mut self.slots, access_span(place, bytes)),
                 Some(slot) => {

@@ -14,7 +14,7 @@ use crate::kind::Kind;
 use crate::link::{Form, Link, is_ones};
 use crate::links::{link_in, unlink};
 use crate::stack_span::{StackSpan, access_span, stack_place, whole_slot};
-use abstract_num::Number;
+use abstract_num::{Number, Precision};
 use bpf_decode::arithmetic::copied;
 use bpf_decode::{Arithmetic, Insn, OpWidth, Operand, Register, SignedMove};
 
@@ -128,18 +128,18 @@ impl Frame {
     /// Changes the links to those after the instruction at a slot, and leaves the kinds as they
     /// are.
     #[inline(always)]
-    pub(crate) fn relink(&mut self, room: Option<u8>, insn: &Insn, slot: u32)
-        ensures { self.new ≡ relinked room insn.now slot self.old }
+    pub(crate) fn relink(&mut self, precision: Precision, room: Option<u8>, insn: &Insn, slot: u32)
+        ensures { self.new ≡ relinked precision room insn.now slot self.old }
     {
         // Rule sets 1 and 2 follow no links: there is nothing to change.
         if !self.links.is_empty() {
-            self.relink_after(room, insn, slot);
+            self.relink_after(precision, room, insn, slot);
         }
     }
 
     #[rattlefmt::skip]
-    fn relink_after(&mut self, room: Option<u8>, insn: &Insn, slot: u32)
-        ensures { self.new ≡ relinked room insn.now slot self.old }
+    fn relink_after(&mut self, precision: Precision, room: Option<u8>, insn: &Insn, slot: u32)
+        ensures { self.new ≡ relinked precision room insn.now slot self.old }
     {
         match *insn {
             Insn::Alu { bits, operation, dst, source } => self.link_computed(bits, operation, dst, &source),
@@ -149,11 +149,11 @@ impl Frame {
             Insn::End { order: _, width: _, dst } => self.free(dst),
             Insn::LoadWide { dst, value: _ } => self.free(dst),
             Insn::Load { width, dst, base, offset } => {
-                self.link_loaded(base, i64::from(offset).cast_unsigned(), width.bytes(), slot, dst)
+                self.link_loaded(precision, base, i64::from(offset).cast_unsigned(), width.bytes(), slot, dst)
             }
             Insn::LoadSigned { width: _, dst, base: _, offset: _ } => self.free(dst),
             Insn::Store { width, base, offset, source } => {
-                self.link_stored(base, i64::from(offset).cast_unsigned(), width.bytes(), &source, slot)
+                self.link_stored(precision, base, i64::from(offset).cast_unsigned(), width.bytes(), &source, slot)
             }
             Insn::Call { .. } => self.free_called(room),
             Insn::Jump { .. } | Insn::JumpLong { .. } | Insn::Branch { .. } => {}
@@ -263,12 +263,18 @@ impl Frame {
     }
 
     /// The slot that an access is, if it is known.
-    fn accessed(&self, base: Register, distance: u64, bytes: usize) -> Option<usize>
-        ensures slot { result ≡ accessed_slot self.now (kind_at self.now base) distance bytes }
+    fn accessed(
+        &self,
+        precision: Precision,
+        base: Register,
+        distance: u64,
+        bytes: usize,
+    ) -> Option<usize>
+        ensures slot { result ≡ accessed_slot precision self.now (kind_at self.now base) distance bytes }
         ensures known { IfSome result (λ j. j < length self.now.slots) }
         ensures small { IfSome result (λ j. j < 2 ^ 61) }
     {
-        match whole_slot(stack_place(self.peek(base), distance), bytes) {
+        match whole_slot(stack_place(precision, self.peek(base), distance), bytes) {
             None => None,
             Some(slot) => {
                 if slot < self.slots.len() {
@@ -280,10 +286,18 @@ impl Frame {
         }
     }
 
-    fn link_loaded(&mut self, base: Register, distance: u64, bytes: usize, slot: u32, dst: Register)
-        ensures { self.new ≡ with_links self.old (loaded_links (accessed_slot self.old (kind_at self.old base) distance bytes) slot self.old dst) }
+    fn link_loaded(
+        &mut self,
+        precision: Precision,
+        base: Register,
+        distance: u64,
+        bytes: usize,
+        slot: u32,
+        dst: Register,
+    )
+        ensures { self.new ≡ with_links self.old (loaded_links (accessed_slot precision self.old (kind_at self.old base) distance bytes) slot self.old dst) }
     {
-        match self.accessed(base, distance, bytes) {
+        match self.accessed(precision, base, distance, bytes) {
             None => self.free(dst),
             Some(j) => {
                 let kind = self.slots[j];
@@ -294,17 +308,18 @@ impl Frame {
 
     fn link_stored(
         &mut self,
+        precision: Precision,
         base: Register,
         distance: u64,
         bytes: usize,
         source: &Operand,
         slot: u32,
     )
-        ensures { self.new ≡ with_links self.old (stored_links (accessed_slot self.old (kind_at self.old base) distance bytes) (access_span (stack_place (kind_at self.old base) distance) bytes) source.now slot self.old) }
+        ensures { self.new ≡ with_links self.old (stored_links (accessed_slot precision self.old (kind_at self.old base) distance bytes) (access_span (stack_place precision (kind_at self.old base) distance) bytes) source.now slot self.old) }
     {
-        match self.accessed(base, distance, bytes) {
+        match self.accessed(precision, base, distance, bytes) {
             None => {
-                let span = access_span(stack_place(self.peek(base), distance), bytes);
+                let span = access_span(stack_place(precision, self.peek(base), distance), bytes);
                 self.free_span(span)
             }
             Some(j) => match *source {

@@ -50,11 +50,11 @@ impl StackSpan {
 
 /// The places in the stack of an access at a distance from where a kind points.
 #[inline(always)]
-pub(crate) fn stack_place(kind: &Kind, distance: u64) -> Option<Number>
-    ensures { option_map view result ≡ stack_place (seen kind.now) distance }
+pub(crate) fn stack_place(precision: Precision, kind: &Kind, distance: u64) -> Option<Number>
+    ensures { option_map view result ≡ stack_place precision (seen kind.now) distance }
 {
     match kind {
-        Kind::Ptr(Region::Stack, at) => offset_by(Precision::Whole, at, distance),
+        Kind::Ptr(Region::Stack, at) => offset_by(precision, at, distance),
         Kind::Ptr(Region::Input | Region::Output, _) => None,
         Kind::Unset | Kind::Num(_) => None,
     }

@@ -2,6 +2,7 @@
 -- that is known before the instruction.
 use Rattle.std.specs.Prelude.{ℕ, ◌+◌, ◌-◌, ◌==◌, ◌&&◌, ◌||◌, not, nat_le, Bool, List, [], ◌∷◌, Option, Some, None, if◌then◌else◌}
 use Rattle.std.specs.Option.{option_map}
+use Rattle.abstract_num.specs.declared.precision.Precision.{Precision}
 use Rattle.abstract_num.specs.Plain.{Plain}
 use Rattle.abstract_regs.specs.Frame.{PlainFrame, kind_at}
 use Rattle.abstract_regs.specs.Kind.{PlainKind, Unset, Num, Ptr, is_num, is_ptr, last_place, range_fits}
@@ -19,6 +20,7 @@ use Rattle.helpers.specs.Effect.{Takes}
 use Rattle.helpers.specs.Table.{signature_of}
 use Rattle.helpers.specs.declared.argument.Argument.{Argument}
 use Rattle.helpers.specs.declared.argument.Argument.TheVariants.{Number, OutputLength, Readable, Writable}
+use Rattle.verifier.specs.Frame.{precision_of}
 use Rattle.verifier.specs.Kind.{range_is_read_only}
 use Rattle.verifier.specs.Rules.{register_count}
 use Rattle.verifier.specs.declared.rule.Rule.{Rule}
@@ -65,11 +67,11 @@ abbrev pub moves : Plain → Bool
 moves at = not (at.low == at.high)
 
 -- on an access of w bytes at a distance from register r
-abbrev pub access_advice : Caps → ℕ → PlainKind → ℕ → ℕ → Option Advice
-access_advice caps r Unset distance w = None
-access_advice caps r (Num n) distance w = Some (advice.NoPlace r)
-access_advice caps r (Ptr region at) distance w =
-    option_map (λ place. advice.Outside (record { register = r; is_moved = moves at; region = region; at = place.high; bytes = w; size = size caps region })) (last_place at distance)
+abbrev pub access_advice : Precision → Caps → ℕ → PlainKind → ℕ → ℕ → Option Advice
+access_advice precision caps r Unset distance w = None
+access_advice precision caps r (Num n) distance w = Some (advice.NoPlace r)
+access_advice precision caps r (Ptr region at) distance w =
+    option_map (λ place. advice.Outside (record { register = r; is_moved = moves at; region = region; at = place.high; bytes = w; size = size caps region })) (last_place precision at distance)
 
 -- a range that begins within the region is too long; another one begins too late
 abbrev pub range_outside : ℕ → Region → Plain → Plain → ℕ → Advice
@@ -144,12 +146,12 @@ call_advice why caps f (Some takes) = arguments_advice why caps f takes.argument
 -- ---- by the instruction
 
 -- the advice of an instruction by rule 10, and by rule 11
-abbrev pub bounds_of : Caps → PlainFrame → Insn → Option Advice
-bounds_of caps f (Load width dst base offset) = access_advice caps base (kind_at f base) (extended offset) (byte_count width)
-bounds_of caps f (LoadSigned width dst base offset) = access_advice caps base (kind_at f base) (extended offset) (signed_byte_count width)
-bounds_of caps f (Store width base offset source) = access_advice caps base (kind_at f base) (extended offset) (byte_count width)
-bounds_of caps f (Call helper) = call_advice rule.Bounds caps f (signature_of helper)
-bounds_of caps f i = None
+abbrev pub bounds_of : Precision → Caps → PlainFrame → Insn → Option Advice
+bounds_of precision caps f (Load width dst base offset) = access_advice precision caps base (kind_at f base) (extended offset) (byte_count width)
+bounds_of precision caps f (LoadSigned width dst base offset) = access_advice precision caps base (kind_at f base) (extended offset) (signed_byte_count width)
+bounds_of precision caps f (Store width base offset source) = access_advice precision caps base (kind_at f base) (extended offset) (byte_count width)
+bounds_of precision caps f (Call helper) = call_advice rule.Bounds caps f (signature_of helper)
+bounds_of precision caps f i = None
 
 abbrev pub read_only_of : Caps → PlainFrame → Insn → Option Advice
 read_only_of caps f (Store width base offset source) = Some (advice.ReadOnlyStore base)
@@ -184,7 +186,7 @@ known_advice rules rule.WritesR10 is slot caps f i = Some advice.CopyOfR10
 known_advice rules rule.PointerArithmetic is slot caps f i = option_map advice.NumbersFirst (first_read content.Pointer i f 0 11)
 known_advice rules rule.PointerCompare is slot caps f i = option_map advice.NeverNull (first_read content.Pointer i f 0 11)
 known_advice rules rule.PointerStored is slot caps f i = Some (stored_by rules)
-known_advice rules rule.Bounds is slot caps f i = bounds_of caps f i
+known_advice rules rule.Bounds is slot caps f i = bounds_of (precision_of rules) caps f i
 known_advice rules rule.ReadOnlyRegion is slot caps f i = read_only_of caps f i
 known_advice rules rule.UnknownHelper is slot caps f i = Some (advice.HelpersOnly rules)
 known_advice rules rule.HelperArgument is slot caps f i = wrong_kind_of caps f (helper_in i)

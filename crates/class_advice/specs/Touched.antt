@@ -1,6 +1,7 @@
 -- The slots of the stack that an instruction may touch, and their lines.
 use Rattle.std.specs.Prelude.{ℕ, zero, suc, ◌+◌, ◌-◌, ◌*◌, ◌||◌, Bool, false, true, List, [], ◌∷◌, ◌++◌, Option, Some, None, codes, if◌then◌else◌}
 use Rattle.std.specs.Fmt.{decimal}
+use Rattle.abstract_num.specs.declared.precision.Precision.{Precision}
 use Rattle.abstract_num.specs.Plain.{constant}
 use Rattle.abstract_regs.specs.Frame.{PlainFrame, kind_at, kept_kind}
 use Rattle.abstract_regs.specs.Kind.{PlainKind, Ptr}
@@ -14,6 +15,7 @@ use Rattle.helpers.specs.Table.{signature_of}
 use Rattle.helpers.specs.declared.argument.Argument.{Argument}
 use Rattle.helpers.specs.declared.argument.Argument.TheVariants.{Number, OutputLength, Readable, Writable}
 use Rattle.verifier.specs.Facets.{touches_of, callee_of}
+use Rattle.verifier.specs.Frame.{precision_of}
 use Rattle.verifier.specs.Rules.{register_count}
 use Rattle.verifier.specs.declared.facets.Callee.{Callee}
 use Rattle.verifier.specs.declared.facets.Callee.TheVariants as callee
@@ -24,8 +26,8 @@ use Rattle.verifier.specs.declared.rule.Rule.TheVariants.{UnsetRead, PointerStor
 use Rattle.class_advice.specs.Known.{kind_text}
 
 -- an access of w bytes may touch slot j
-abbrev pub access_touches : PlainKind → ℕ → ℕ → ℕ → Bool
-access_touches x distance w j = touches (access_span (stack_place x distance) w) j
+abbrev pub access_touches : Precision → PlainKind → ℕ → ℕ → ℕ → Bool
+access_touches precision x distance w j = touches (access_span (stack_place precision x distance) w) j
 
 -- a range that arguments take from register k on may touch slot j
 abbrev pub argument_touches : PlainFrame → Argument → ℕ → ℕ → Bool
@@ -44,10 +46,10 @@ abbrev pub call_touches : PlainFrame → Option Takes → ℕ → Bool
 call_touches f None j = false
 call_touches f (Some takes) j = arguments_touch f takes.arguments 1 j
 
-abbrev pub memory_touches : PlainFrame → Touches → ℕ → Bool
-memory_touches f memory.Nothing j = false
-memory_touches f (memory.Loads a) j = access_touches (kind_at f a.base) (extended a.offset) a.bytes j
-memory_touches f (memory.Stores a x) j = access_touches (kind_at f a.base) (extended a.offset) a.bytes j
+abbrev pub memory_touches : RuleSet → PlainFrame → Touches → ℕ → Bool
+memory_touches rules f memory.Nothing j = false
+memory_touches rules f (memory.Loads a) j = access_touches (precision_of rules) (kind_at f a.base) (extended a.offset) a.bytes j
+memory_touches rules f (memory.Stores a x) j = access_touches (precision_of rules) (kind_at f a.base) (extended a.offset) a.bytes j
 
 abbrev pub helper_touches : PlainFrame → Callee → ℕ → Bool
 helper_touches f callee.Nothing j = false
@@ -55,8 +57,8 @@ helper_touches f (callee.Helper helper) j = call_touches f (signature_of helper)
 helper_touches f callee.Local j = false
 
 -- the instruction may touch slot j
-abbrev pub insn_touches : PlainFrame → Insn → ℕ → Bool
-insn_touches f i j = memory_touches f (touches_of i) j || helper_touches f (callee_of i) j
+abbrev pub insn_touches : RuleSet → PlainFrame → Insn → ℕ → Bool
+insn_touches rules f i j = memory_touches rules f (touches_of i) j || helper_touches f (callee_of i) j
 
 -- a slot by its distance below register 10, and its known kind; nothing in rule set 1
 abbrev pub slot_line : RuleSet → ℕ → Option PlainKind → List ℕ
@@ -65,7 +67,7 @@ slot_line rules j (Some x) = codes "  [r10-" ++ decimal (512 - 8 * j) ++ codes "
 
 -- the line of slot j, if the instruction may touch it
 unfoldable pub line_if_touched : RuleSet → Insn → PlainFrame → ℕ → List ℕ
-line_if_touched rules i f j = if insn_touches f i j then slot_line rules j (kept_kind f (Ptr Stack (constant (8 * j))) 0 8) else []
+line_if_touched rules i f j = if insn_touches rules f i j then slot_line rules j (kept_kind (precision_of rules) f (Ptr Stack (constant (8 * j))) 0 8) else []
 
 -- the lines of the n slots from j on
 abbrev pub slots_text : RuleSet → Insn → PlainFrame → ℕ → ℕ → List ℕ

@@ -19,7 +19,7 @@ use bpf_decode::{Arithmetic, Insn, Method, OpWidth, Region, RuleSet, width};
 use bpf_machine::Caps;
 use helpers::{Argument, signature};
 use std::alloc::{AllocError, Global};
-use verifier::{RefusedSlot, Rule};
+use verifier::{RefusedSlot, Rule, precision};
 
 /// As a method begins, 1 to 3 and 10 are set.
 fn is_set_first(register: usize) -> bool
@@ -109,20 +109,21 @@ fn moves(at: &Number) -> bool
 
 /// Of an access of bytes at a distance from what a register was known to be.
 fn access_advice(
+    precision: Precision,
     caps: &Caps,
     register: usize,
     kind: Kind,
     distance: u64,
     bytes: usize,
 ) -> Option<Advice>
-    ensures { result ≡ access_advice caps.now register (seen kind) distance bytes }
+    ensures { result ≡ access_advice precision caps.now register (seen kind) distance bytes }
 {
     match kind {
         Kind::Unset => None,
         Kind::Num(_) => Some(Advice::NoPlace(register)),
         Kind::Ptr(region, at) => {
             let place = arithmetic(
-                Precision::Whole,
+                precision,
                 OpWidth::Bits64,
                 Arithmetic::Add,
                 at,
@@ -343,18 +344,18 @@ fn call_advice(rule: Rule, caps: &Caps, frame: &Frame, helper: u32) -> Option<Ad
 }
 
 #[rattlefmt::skip]
-fn bounds_of(caps: &Caps, frame: &Frame, insn: &Insn) -> Option<Advice>
-    ensures { result ≡ bounds_of caps.now frame.now insn.now }
+fn bounds_of(precision: Precision, caps: &Caps, frame: &Frame, insn: &Insn) -> Option<Advice>
+    ensures { result ≡ bounds_of precision caps.now frame.now insn.now }
 {
     match *insn {
         Insn::Load { width, base, offset, .. } => {
-            access_advice(caps, usize::from(base.number()), frame.at(base), i64::from(offset).cast_unsigned(), width.bytes())
+            access_advice(precision, caps, usize::from(base.number()), frame.at(base), i64::from(offset).cast_unsigned(), width.bytes())
         }
         Insn::LoadSigned { width, base, offset, .. } => {
-            access_advice(caps, usize::from(base.number()), frame.at(base), i64::from(offset).cast_unsigned(), width.bytes())
+            access_advice(precision, caps, usize::from(base.number()), frame.at(base), i64::from(offset).cast_unsigned(), width.bytes())
         }
         Insn::Store { width, base, offset, .. } => {
-            access_advice(caps, usize::from(base.number()), frame.at(base), i64::from(offset).cast_unsigned(), width.bytes())
+            access_advice(precision, caps, usize::from(base.number()), frame.at(base), i64::from(offset).cast_unsigned(), width.bytes())
         }
         Insn::Call { helper } => call_advice(Rule::Bounds, caps, frame, helper),
         Insn::Alu { .. } | Insn::Neg { .. } | Insn::Mov { .. } | Insn::MovSigned { .. } | Insn::End { .. } => None,
@@ -461,7 +462,7 @@ fn known_advice(alloc: Global, rules: RuleSet, method: &Method, refused: &Refuse
         Rule::PointerArithmetic => numbers_first(insn, frame),
         Rule::PointerCompare => never_null(insn, frame),
         Rule::PointerStored => Some(stored_by(rules)),
-        Rule::Bounds => bounds_of(&caps, frame, insn),
+        Rule::Bounds => bounds_of(precision(rules), &caps, frame, insn),
         Rule::ReadOnlyRegion => read_only_of(&caps, frame, insn),
         Rule::UnknownHelper => Some(Advice::HelpersOnly(rules)),
         Rule::HelperArgument => wrong_kind_of(&caps, frame, helper_of(insn)),

@@ -8,6 +8,7 @@ ghost use Rattle.abstract_regs.specs.Seen.{seen};
 ghost use Rattle.abstract_regs.specs.Slots.{stack_range, touches};
 ghost use Rattle.class_advice.specs.Touched.{access_touches, argument_touches, arguments_touch, call_touches, helper_touches, insn_touches, is_of_slots, line_if_touched, memory_touches, slot_line, slots_text, touched_text};
 ghost use Rattle.helpers.specs.Table.{signature_of};
+ghost use Rattle.verifier.specs.Frame.{precision_of};
 
 use crate::known::push_kind;
 use crate::read::count_registers;
@@ -16,7 +17,7 @@ use abstract_regs::{Frame, Kind};
 use bpf_decode::{Arithmetic, Insn, OpWidth, Region, RuleSet};
 use helpers::{Argument, signature};
 use std::alloc::AllocError;
-use verifier::{Callee, Rule, Touches, callee_of, touches_of};
+use verifier::{Callee, Rule, Touches, callee_of, precision, touches_of};
 
 /// True if `bytes` bytes from a place between `low` and `high` on may be in a slot.
 fn are_in(low: u64, high: u64, bytes: u64, slot: u64) -> bool
@@ -27,14 +28,14 @@ fn are_in(low: u64, high: u64, bytes: u64, slot: u64) -> bool
 }
 
 /// True if an access of bytes at a distance from what a kind points to may touch a slot.
-fn access_touches(kind: Kind, distance: u64, bytes: usize, slot: u64) -> bool
+fn access_touches(precision: Precision, kind: Kind, distance: u64, bytes: usize, slot: u64) -> bool
     requires { slot < 64 }
-    ensures { result ≡ access_touches (seen kind) distance bytes slot }
+    ensures { result ≡ access_touches precision (seen kind) distance bytes slot }
 {
     match kind {
         Kind::Ptr(Region::Stack, at) => {
             match arithmetic(
-                Precision::Whole,
+                precision,
                 OpWidth::Bits64,
                 Arithmetic::Add,
                 at,
@@ -110,21 +111,28 @@ fn call_touches(frame: &Frame, helper: u32, slot: u64) -> bool
 }
 
 /// True if an instruction may touch a slot.
-fn insn_touches(frame: &Frame, insn: &Insn, slot: u64) -> bool
+fn insn_touches(rules: RuleSet, frame: &Frame, insn: &Insn, slot: u64) -> bool
     requires { slot < 64 }
-    ensures { result ≡ insn_touches frame.now insn.now slot }
+    ensures { result ≡ insn_touches rules frame.now insn.now slot }
 {
-    memory_touches(frame, touches_of(insn), slot) || helper_touches(frame, callee_of(insn), slot)
+    memory_touches(rules, frame, touches_of(insn), slot)
+        || helper_touches(frame, callee_of(insn), slot)
 }
 
-fn memory_touches(frame: &Frame, touches: Touches, slot: u64) -> bool
+fn memory_touches(rules: RuleSet, frame: &Frame, touches: Touches, slot: u64) -> bool
     requires { slot < 64 }
-    ensures { result ≡ memory_touches frame.now touches slot }
+    ensures { result ≡ memory_touches rules frame.now touches slot }
 {
     match touches {
         Touches::Loads(access) | Touches::Stores(access, _) => {
             let distance = i64::from(access.offset).cast_unsigned();
-            access_touches(frame.at(access.base), distance, access.bytes, slot)
+            access_touches(
+                precision(rules),
+                frame.at(access.base),
+                distance,
+                access.bytes,
+                slot,
+            )
         }
         Touches::Nothing => false,
     }
@@ -161,11 +169,12 @@ fn push_slot(
 }
 
 /// The kind of a slot of the stack, if slots are known.
-fn slot_at(frame: &Frame, slot: u64) -> Option<Kind>
+fn slot_at(rules: RuleSet, frame: &Frame, slot: u64) -> Option<Kind>
     requires { slot < 64 }
-    ensures { option_map seen result ≡ kept_kind frame.now (APtr Region.Stack (constant (8 * slot))) 0 8 }
+    ensures { option_map seen result ≡ kept_kind (precision_of rules) frame.now (APtr Region.Stack (constant (8 * slot))) 0 8 }
 {
-    frame.slot(&Kind::Ptr(Region::Stack, constant(8 * slot)), 0, 8)
+    let first = Kind::Ptr(Region::Stack, constant(8 * slot));
+    frame.slot(precision(rules), &first, 0, 8)
 }
 
 /// Adds the line of a slot, if an instruction may touch it.
@@ -180,8 +189,8 @@ fn push_if_touched(
     requires { slot < 64 }
     ensures { OnOk result (string_bytes out.new ≡ string_bytes out.old ++ line_if_touched rules insn.now frame.now slot) }
 {
-    if insn_touches(frame, insn, slot) {
-        push_slot(out, rules, slot, slot_at(frame, slot))
+    if insn_touches(rules, frame, insn, slot) {
+        push_slot(out, rules, slot, slot_at(rules, frame, slot))
     } else {
         Ok(())
     }

@@ -185,7 +185,7 @@ fn judges_spills(rt: HostRuntime) {
 #[test]
 fn judges_by_the_third_set(rt: HostRuntime) {
     let sets = [RuleSet::Three, RuleSet::Two];
-    check(&rt, rt.alloc(), &sets, third::THIRD, 26);
+    check(&rt, rt.alloc(), &sets, third::THIRD, 31);
     check(&rt, rt.alloc(), &sets, answers::ANSWERS, 42);
     check(&rt, rt.alloc(), &sets, copies::COPIES, 25);
 }

@@ -33,7 +33,8 @@ use Rattle.abstract_regs.specs.Frame.{PlainFrame, kind_at, operand_kind, kept_ki
 use Rattle.abstract_regs.specs.Moves.{value_at, Reached, IsNumber, IsSlot, LoadIsKnown, Moves, KindFits, EachFits}
 use Rattle.abstract_regs.specs.Laws.{AccessesFit}
 use Rattle.verifier.specs.Kind.{stays, is_read_only}
-use Rattle.verifier.specs.Frame.{IsWithin, Holds}
+use Rattle.abstract_num.specs.declared.precision.Precision.{Precision}
+use Rattle.verifier.specs.Frame.{IsWithin, Holds, precision_of}
 use Rattle.verifier.specs.Rules.{operand_is_unset, room_of}
 use Rattle.verifier.specs.Answers.{answer_of}
 use Rattle.verifier.proofs.Allowed.{when_left, allowed}
@@ -62,12 +63,12 @@ record Found (caps : Caps) (x : PlainKind) (v : Value) (distance w : ℕ) : Type
   writable : is_read_only x ≡ false → may_store region ≡ true
   holds : HoldsValue x (values.Ptr region offset)
 
-found : AccessesFit → (caps : Caps) (x : PlainKind) (v : Value) (distance w : ℕ) → distance < 2 ^ 64 → KindFits x → HoldsValue x v → stays caps x distance w ≡ true → Found caps x v distance w
-found law caps Unset v distance w small fit h b = absurd (false≢true b)
-found law caps (Num k) v distance w small fit h b = absurd (false≢true b)
-found law caps (Ptr r k) (values.Num n) distance w small fit h b = absurd h
-found law caps (Ptr r k) (values.Ptr q at) distance w small fit h b =
-    let le = law k fit distance w (size caps r) small b at h.1 in
+found : AccessesFit → (precision : Precision) (caps : Caps) (x : PlainKind) (v : Value) (distance w : ℕ) → distance < 2 ^ 64 → KindFits x → HoldsValue x v → stays precision caps x distance w ≡ true → Found caps x v distance w
+found law precision caps Unset v distance w small fit h b = absurd (false≢true b)
+found law precision caps (Num k) v distance w small fit h b = absurd (false≢true b)
+found law precision caps (Ptr r k) (values.Num n) distance w small fit h b = absurd h
+found law precision caps (Ptr r k) (values.Ptr q at) distance w small fit h b =
+    let le = law precision k fit distance w (size caps r) small b at h.1 in
     let same_size : size caps r ≡ size caps q = ap (size caps) h.0 in
     let fits : (at + distance) % 2 ^ 64 + w ≤ size caps q = omega (arith, le, same_size) in
     record { region = q; offset = at; points = refl; is = cond-true _ _ _ (le-leb _ _ fits); inside = fits; writable = λ e. ap may_store (sym h.0) ∙ not_false _ e; holds = h }
@@ -159,8 +160,8 @@ module _ (laws : Laws) (rules : RuleSet) (caps : Caps) (code : List (Option Insn
       let w = byte_count width in
       let small = extended_small16 offset fit.2 in
       let v = read f s base h ok.unset in
-      let at = found laws.accesses caps x v.value (extended offset) w small (fits_in f.registers base fits) v.holds (not_false _ ok.bounds) in
-      let reads = laws.loads f x (extended offset) w (fits_in f.registers base fits) small (allowed rules caps code p f (Load width d base offset) ok) vs long_vs h.slots at.region at.offset at.holds in
+      let at = found laws.accesses (precision_of rules) caps x v.value (extended offset) w small (fits_in f.registers base fits) v.holds (not_false _ ok.bounds) in
+      let reads = laws.loads (precision_of rules) f x (extended offset) w (fits_in f.registers base fits) small (allowed rules caps code p f (Load width d base offset) ok) vs long_vs h.slots at.region at.offset at.holds in
       let l = loaded laws.slots caps known few s.memory (h.within).memory (placed at.region ((at.offset + extended offset) % 2 ^ 64)) w at.inside reads in
       computed_step (Load width d base offset) d l.value (s.slot + 1)
       (one_more _ _ _ _ v.there (ap (typed_after s) (one_more _ _ _ _ at.is (one_more _ _ _ _ l.is (set_to s d l.value fit.0 ok.r10)))))
@@ -180,9 +181,9 @@ module _ (laws : Laws) (rules : RuleSet) (caps : Caps) (code : List (Option Insn
       let w = signed_byte_count width in
       let small = extended_small16 offset fit.2 in
       let v = read f s base h ok.unset in
-      let at = found laws.accesses caps x v.value (extended offset) w small (fits_in f.registers base fits) v.holds (not_false _ ok.bounds) in
+      let at = found laws.accesses (precision_of rules) caps x v.value (extended offset) w small (fits_in f.registers base fits) v.holds (not_false _ ok.bounds) in
       let allows = allowed rules caps code p f (LoadSigned width d base offset) ok in
-      let reads = laws.loads f x (extended offset) w (fits_in f.registers base fits) small allows.0 vs long_vs h.slots at.region at.offset at.holds in
+      let reads = laws.loads (precision_of rules) f x (extended offset) w (fits_in f.registers base fits) small allows.0 vs long_vs h.slots at.region at.offset at.holds in
       let place = (at.offset + extended offset) % 2 ^ 64 in
       let b = reads_bytes laws.slots caps known few s.memory (h.within).memory at.region place w at.inside (numbers_of width at.region place reads) in
       let n = le_value b.bytes in
@@ -213,7 +214,7 @@ module _ (laws : Laws) (rules : RuleSet) (caps : Caps) (code : List (Option Insn
         value = v.value;
         read = v.there;
         stored = stored_value (kind_at f o) v.value (placed r ((at + extended offset) % 2 ^ 64)) (byte_count width) v.holds set inside (λ pointer.
-            laws.places f (kind_at f base) (extended offset) (byte_count width) (fits_in f.registers base fits) (extended_small16 offset fit.1) (kept_if (is_ptr (kind_at f o)) (kept_kind f (kind_at f base) (extended offset) (byte_count width)) ok.stored pointer) vs long_vs r at holds);
+            laws.places (precision_of rules) f (kind_at f base) (extended offset) (byte_count width) (fits_in f.registers base fits) (extended_small16 offset fit.1) (kept_if (is_ptr (kind_at f o)) (kept_kind (precision_of rules) f (kind_at f base) (extended offset) (byte_count width)) ok.stored pointer) vs long_vs r at holds);
       }
 
   store_steps : (width : Width) (base : ℕ) (offset : ℤ) (x : Operand) → Fits (Store width base offset x) → Passed rules caps code p (Store width base offset x) f → Steps rules known caps f (Store width base offset x) s
@@ -221,7 +222,7 @@ module _ (laws : Laws) (rules : RuleSet) (caps : Caps) (code : List (Option Insn
       let unset = neither (is_unset (kind_at f base)) (operand_is_unset f x) ok.unset in
       let v = read f s base h unset.0 in
       let w = byte_count width in
-      let at = found laws.accesses caps (kind_at f base) v.value (extended offset) w (extended_small16 offset fit.1) (fits_in f.registers base fits) v.holds (not_false _ ok.bounds) in
+      let at = found laws.accesses (precision_of rules) caps (kind_at f base) v.value (extended offset) w (extended_small16 offset fit.1) (fits_in f.registers base fits) v.holds (not_false _ ok.bounds) in
       let y = storing width base offset x fit ok unset.1 at.region at.offset at.holds at.inside in
       let kept = y.stored in
       let t : Typed = record s { memory = kept.to } in

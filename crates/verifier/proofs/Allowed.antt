@@ -18,11 +18,13 @@ use Rattle.helpers.specs.Table.{signature_of}
 use Rattle.abstract_regs.specs.declared.content.Content.{Content}
 use Rattle.abstract_regs.specs.declared.content.Content.TheVariants.{Nothing, Pointer}
 use Rattle.abstract_regs.specs.Kind.{PlainKind, Unset, Num, Ptr, is_unset, is_num, is_ptr}
+use Rattle.abstract_num.specs.declared.precision.Precision.{Precision}
 use Rattle.abstract_num.specs.Plain.{Plain}
 use Rattle.abstract_regs.specs.Slots.{stack_place, access_span, meets, slot_kind, whole_slot}
 use Rattle.abstract_regs.specs.Frame.{PlainFrame, kind_at, kept_kind}
 use Rattle.abstract_regs.specs.Moves.{AllowsRoom, Allows}
 use Rattle.verifier.specs.declared.fault.Fault.TheVariants.{WrongKind}
+use Rattle.verifier.specs.Frame.{precision_of}
 use Rattle.verifier.specs.Kind.{stays}
 use Rattle.verifier.specs.Rules.{has_fault, some_fault, taken_fault, load_meets, last_helper, takes_of, room_in, room_of_takes, room_of}
 use Rattle.verifier.proofs.Holding.{not_false}
@@ -45,10 +47,10 @@ known_takes false o e = absurd (false≢true (sym e))
 pub takes_known : (rules : RuleSet) (helper : ℕ) → not (is_some (takes_of rules helper)) ≡ false → takes_of rules helper ≡ signature_of helper
 takes_known rules helper e = known_takes (nat_le helper (last_helper rules)) (signature_of helper) e
 
-pub stays_by_pointer : (caps : Caps) (x : PlainKind) (distance w : ℕ) → stays caps x distance w ≡ true → is_ptr x ≡ true
-stays_by_pointer caps Unset distance w e = e
-stays_by_pointer caps (Num k) distance w e = e
-stays_by_pointer caps (Ptr r k) distance w e = refl
+pub stays_by_pointer : (precision : Precision) (caps : Caps) (x : PlainKind) (distance w : ℕ) → stays precision caps x distance w ≡ true → is_ptr x ≡ true
+stays_by_pointer precision caps Unset distance w e = e
+stays_by_pointer precision caps (Num k) distance w e = e
+stays_by_pointer precision caps (Ptr r k) distance w e = refl
 
 none_kept : {A : Type 0} (o : Option A) (b : Bool) → (not (is_some o) && b) ≡ false → o ≡ None → b ≡ false
 none_kept None b e f = e
@@ -67,7 +69,7 @@ never_whole signed.Word slots (Some place) = refl
 
 module _ (rules : RuleSet) (caps : Caps) (code : List (Option Insn)) (p : ℕ) (f : PlainFrame) where
   -- a load's bytes meet nothing that isn't to be read
-  unmet : (content : Content) (x : PlainKind) (distance w : ℕ) → stays caps x distance w ≡ true → load_meets content caps f x distance w ≡ false → meets content (access_span (stack_place x distance) w) 0 f.slots ≡ false
+  unmet : (content : Content) (x : PlainKind) (distance w : ℕ) → stays (precision_of rules) caps x distance w ≡ true → load_meets rules content caps f x distance w ≡ false → meets content (access_span (stack_place (precision_of rules) x distance) w) 0 f.slots ≡ false
   unmet content x distance w inside e = when_right _ _ e inside
 
   room_kinds : (arguments : List Argument) (k : ℕ) → some_fault caps f WrongKind arguments k ≡ false → AllowsRoom (room_in arguments k) f
@@ -84,7 +86,7 @@ module _ (rules : RuleSet) (caps : Caps) (code : List (Option Insn)) (p : ℕ) (
   room_allowed None e = tt
   room_allowed (Some takes) e = room_kinds takes.arguments 1 e
 
-  pub allowed : (i : Insn) → Passed rules caps code p i f → Allows (room_of i) i f
+  pub allowed : (i : Insn) → Passed rules caps code p i f → Allows (precision_of rules) (room_of i) i f
   allowed (Alu bits operation d x) ok = tt
   allowed (Neg bits d) ok = tt
   allowed (Mov bits d x) ok = tt
@@ -94,23 +96,23 @@ module _ (rules : RuleSet) (caps : Caps) (code : List (Option Insn)) (p : ℕ) (
   allowed (Load width d base offset) ok =
       let x = kind_at f base in
       let inside = not_false _ ok.bounds in (
-        stays_by_pointer caps x (extended offset) (byte_count width) inside,
+        stays_by_pointer (precision_of rules) caps x (extended offset) (byte_count width) inside,
         unmet Nothing x (extended offset) (byte_count width) inside ok.loads_set,
-        (λ none. unmet Pointer x (extended offset) (byte_count width) inside (none_kept (kept_kind f x (extended offset) (byte_count width)) _ ok.parts none)),
+        (λ none. unmet Pointer x (extended offset) (byte_count width) inside (none_kept (kept_kind (precision_of rules) f x (extended offset) (byte_count width)) _ ok.parts none)),
       )
   allowed (LoadSigned width d base offset) ok =
       let x = kind_at f base in
       let inside = not_false _ ok.bounds in
-      let kept = kept_kind f x (extended offset) (signed_byte_count width) in
-      let parts = unmet Pointer x (extended offset) (signed_byte_count width) inside (none_kept kept _ ok.parts (never_whole width f.slots (stack_place x (extended offset)))) in
-      ((stays_by_pointer caps x (extended offset) (signed_byte_count width) inside, unmet Nothing x (extended offset) (signed_byte_count width) inside ok.loads_set, (λ none. parts)), parts)
+      let kept = kept_kind (precision_of rules) f x (extended offset) (signed_byte_count width) in
+      let parts = unmet Pointer x (extended offset) (signed_byte_count width) inside (none_kept kept _ ok.parts (never_whole width f.slots (stack_place (precision_of rules) x (extended offset)))) in
+      ((stays_by_pointer (precision_of rules) caps x (extended offset) (signed_byte_count width) inside, unmet Nothing x (extended offset) (signed_byte_count width) inside ok.loads_set, (λ none. parts)), parts)
   allowed (Store width base offset (Immediate imm)) ok =
-      (stays_by_pointer caps (kind_at f base) (extended offset) (byte_count width) (not_false _ ok.bounds), refl, (λ none. refl))
+      (stays_by_pointer (precision_of rules) caps (kind_at f base) (extended offset) (byte_count width) (not_false _ ok.bounds), refl, (λ none. refl))
   allowed (Store width base offset (Register r)) ok =
       let unset = neither (is_unset (kind_at f base)) (is_unset (kind_at f r)) ok.unset in (
-        stays_by_pointer caps (kind_at f base) (extended offset) (byte_count width) (not_false _ ok.bounds),
+        stays_by_pointer (precision_of rules) caps (kind_at f base) (extended offset) (byte_count width) (not_false _ ok.bounds),
         unset.1,
-        (λ none. stored_if_kept (is_ptr (kind_at f r)) (kept_kind f (kind_at f base) (extended offset) (byte_count width)) ok.stored none),
+        (λ none. stored_if_kept (is_ptr (kind_at f r)) (kept_kind (precision_of rules) f (kind_at f base) (extended offset) (byte_count width)) ok.stored none),
       )
   allowed (Jump offset) ok = tt
   allowed (JumpLong distance) ok = tt

@@ -23,7 +23,7 @@ use Rattle.abstract_regs.specs.declared.content.Content.TheVariants.{Pointer}
 use Rattle.abstract_regs.specs.Laws.{FlowsKeepSlots, JoinsKeepSlots}
 use Rattle.verifier.specs.declared.fault.Fault.TheVariants.{HasPointer}
 use Rattle.verifier.specs.declared.rule.Rule.TheVariants.{PointerBytes}
-use Rattle.verifier.specs.Frame.{entry, known_slots}
+use Rattle.verifier.specs.Frame.{entry, known_slots, precision_of}
 use Rattle.verifier.specs.Kind.{range_leaves, stays}
 use Rattle.verifier.specs.Rules.{breaks, has_fault, load_meets, range_meets, reads_pointer, register_count, some_fault, taken_fault, takes_of}
 use Rattle.verifier.specs.Verdict.{FirstSetHasFewerRules, frame_at, whole_table}
@@ -54,9 +54,9 @@ module _ (rules : RuleSet) (caps : Caps) (f : PlainFrame) (none : f.slots ≡ []
   range_none : (content : Content) (x y : PlainKind) → range_meets content caps f x y ≡ false
   range_none content x y = first_false (meets content (stack_range x y) 0 f.slots) (not (range_leaves caps x y)) (meets_none content (stack_range x y) 0 f.slots none)
 
-  load_none : (content : Content) (x : PlainKind) (distance w : ℕ) → load_meets content caps f x distance w ≡ false
+  load_none : (content : Content) (x : PlainKind) (distance w : ℕ) → load_meets rules content caps f x distance w ≡ false
   load_none content x distance w =
-      first_false (meets content (access_span (stack_place x distance) w) 0 f.slots) (stays caps x distance w) (meets_none content (access_span (stack_place x distance) w) 0 f.slots none)
+      first_false (meets content (access_span (stack_place (precision_of rules) x distance) w) 0 f.slots) (stays (precision_of rules) caps x distance w) (meets_none content (access_span (stack_place (precision_of rules) x distance) w) 0 f.slots none)
 
   no_fault : (a : Argument) (k : ℕ) → has_fault caps f HasPointer a k ≡ false
   no_fault Number k = refl
@@ -74,9 +74,9 @@ module _ (rules : RuleSet) (caps : Caps) (f : PlainFrame) (none : f.slots ≡ []
   none_taken None = refl
   none_taken (Some takes) = none_of takes.arguments 1
 
-  load_reads_none : (x : PlainKind) (at w : ℕ) → ((not (is_some (kept_kind f x at w)) && load_meets Pointer caps f x at w) || false) ≡ false
+  load_reads_none : (x : PlainKind) (at w : ℕ) → ((not (is_some (kept_kind (precision_of rules) f x at w)) && load_meets rules Pointer caps f x at w) || false) ≡ false
   load_reads_none x at w =
-      both_false (not (is_some (kept_kind f x at w)) && load_meets Pointer caps f x at w) false (second_false (not (is_some (kept_kind f x at w))) (load_meets Pointer caps f x at w) (load_none Pointer x at w)) refl
+      both_false (not (is_some (kept_kind (precision_of rules) f x at w)) && load_meets rules Pointer caps f x at w) false (second_false (not (is_some (kept_kind (precision_of rules) f x at w))) (load_meets rules Pointer caps f x at w) (load_none Pointer x at w)) refl
 
   reads_none : (i : Insn) → reads_pointer rules caps f i ≡ false
   reads_none (Alu bits operation dst source) = refl

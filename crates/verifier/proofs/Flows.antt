@@ -162,7 +162,7 @@ module _ (rules : RuleSet) (caps : Caps) (code : List (Option Insn)) where
   edge_of p q answer (LoadWide d value) f h g small fit ok e = next_computed p q (p + 2) g h d (Some (Num (constant value))) (omega arith) (not_false _ ok.falls) e
   edge_of p q answer (Load width d from offset) f h g small fit ok e = next_computed p q (p + 1) g h d _ (omega arith) (not_false _ ok.falls) e
   edge_of p q answer (LoadSigned width d from offset) f h g small fit ok e = next_computed p q (p + 1) g h d _ (omega arith) (not_false _ ok.falls) e
-  edge_of p q answer (Store width to offset x) f h g small fit ok e = next p q (p + 1) g (Some (after_store h (kind_at h to) (extended offset) (byte_count width) (operand_kind h x))) (omega arith) (not_false _ ok.falls) e
+  edge_of p q answer (Store width to offset x) f h g small fit ok e = next p q (p + 1) g (Some (after_store (precision_of rules) h (kind_at h to) (extended offset) (byte_count width) (operand_kind h x))) (omega arith) (not_false _ ok.falls) e
   edge_of p q answer (Call helper) f h g small fit ok e = next p q (p + 1) g (Some (after_call (room_of (Call helper)) answer h)) (omega arith) (not_false _ ok.falls) e
   edge_of p q answer (Jump offset) f h g small fit ok e = jump p q offset g _ small (near16 offset fit) ok.backward (not_false _ ok.target) e
   edge_of p q answer (JumpLong distance) f h g small fit ok e = jump p q distance g _ small fit.sfits ok.backward (not_false _ ok.target) e
@@ -174,4 +174,4 @@ module _ (rules : RuleSet) (caps : Caps) (code : List (Option Insn)) where
   edge_of p q answer Exit f h g small fit ok e = absurd e
 
   pub edge : (p q : ℕ) (answer : Plain) (i : Insn) (f g : PlainFrame) → p < 2 ^ 62 → Fits i → Passed rules caps code p i f → Among q g (flow (precision_of rules) (room_of i) answer i p f) → Edge p q
-  edge p q answer i f g small fit ok e = edge_of p q answer i f (relinked (room_of i) i p f) g small fit ok e
+  edge p q answer i f g small fit ok e = edge_of p q answer i f (relinked (precision_of rules) (room_of i) i p f) g small fit ok e

@@ -71,13 +71,13 @@ pub record Passed (rules : RuleSet) (caps : Caps) (code : List (Option Insn)) (p
   pub falls : falls_off code p i ≡ false
   pub local : is_local_call i ≡ false
   pub unset : unset_among f (reads_of i) ≡ false
-  pub loads_set : loads_unset caps f (touches_of i) ≡ false
+  pub loads_set : loads_unset rules caps f (touches_of i) ≡ false
   pub asks_set : asks rules caps f NotSet (callee_of i) ≡ false
   pub r10 : writes_r10 i ≡ false
   pub computed : computes_with_pointer f i ≡ false
   pub compared : compares_pointer f i ≡ false
-  pub stored : stores_pointer f i ≡ false
-  pub bounds : leaves caps f (touches_of i) ≡ false
+  pub stored : stores_pointer rules f i ≡ false
+  pub bounds : leaves rules caps f (touches_of i) ≡ false
   pub asks_bounds : asks rules caps f OutOfRegion (callee_of i) ≡ false
   pub read_only : stores_read_only f (touches_of i) ≡ false
   pub asks_read_only : asks rules caps f ReadOnly (callee_of i) ≡ false
@@ -85,7 +85,7 @@ pub record Passed (rules : RuleSet) (caps : Caps) (code : List (Option Insn)) (p
   pub kinds : passes_wrong_kind rules caps f i ≡ false
   pub writes : writes_in_reader rules caps i ≡ false
   pub returns : returns_pointer f i ≡ false
-  pub parts : loads_pointer caps f (touches_of i) ≡ false
+  pub parts : loads_pointer rules caps f (touches_of i) ≡ false
   pub asks_parts : asks rules caps f HasPointer (callee_of i) ≡ false
 
 neither_rule : (o : Option Rule) (f : PlainFrame) (rule_of : PlainFrame → Option Rule) → else_under o (Some f) rule_of ≡ None → (o ≡ None) × (rule_of f ≡ None)
@@ -98,11 +98,11 @@ passed rules caps code p i f h =
     let a = all_false (breaks_shape code p i) shape_rules both.0 in
     let b = all_false (breaks_frame rules caps f i) frame_rules both.1 in
     let c = b.1.1.1.1 in
-    let set = neither (unset_among f (reads_of i)) (loads_unset caps f (touches_of i) || asks rules caps f NotSet (callee_of i)) b.0 in
-    let later = neither (loads_unset caps f (touches_of i)) (asks rules caps f NotSet (callee_of i)) set.1 in
-    let bounds = neither (leaves caps f (touches_of i)) (asks rules caps f OutOfRegion (callee_of i)) c.1.0 in
+    let set = neither (unset_among f (reads_of i)) (loads_unset rules caps f (touches_of i) || asks rules caps f NotSet (callee_of i)) b.0 in
+    let later = neither (loads_unset rules caps f (touches_of i)) (asks rules caps f NotSet (callee_of i)) set.1 in
+    let bounds = neither (leaves rules caps f (touches_of i)) (asks rules caps f OutOfRegion (callee_of i)) c.1.0 in
     let read_only = neither (stores_read_only f (touches_of i)) (asks rules caps f ReadOnly (callee_of i)) c.1.1.0 in
-    let parts = neither (loads_pointer caps f (touches_of i)) (asks rules caps f HasPointer (callee_of i)) c.1.1.1.1.1.1.1.0 in
+    let parts = neither (loads_pointer rules caps f (touches_of i)) (asks rules caps f HasPointer (callee_of i)) c.1.1.1.1.1.1.1.0 in
     record {
       backward = a.0;
       target = a.1.0;

@@ -6,6 +6,7 @@ use Rattle.bpf_decode.specs.declared.operation.Arithmetic.{Arithmetic}
 use Rattle.bpf_decode.specs.Values.{may_store, moves_pointer, is_addition}
 use Rattle.bpf_machine.specs.declared.caps.Caps.{Caps}
 use Rattle.bpf_machine.specs.State.{size}
+use Rattle.abstract_num.specs.declared.precision.Precision.{Precision}
 use Rattle.abstract_regs.specs.Kind.{PlainKind, Unset, Num, Ptr, is_ptr, access_fits, range_fits}
 
 -- arithmetic with a pointer other than a number added to it or subtracted from it, in 64 bits
@@ -24,10 +25,10 @@ mov_refused Bits64 x = false
 mov_refused Bits32 x = is_ptr x
 
 -- all of the w bytes at a distance from it are in its region, whatever it points to
-abbrev pub stays : Caps → PlainKind → ℕ → ℕ → Bool
-stays caps Unset distance w = false
-stays caps (Num k) distance w = false
-stays caps (Ptr r k) distance w = access_fits k distance w (size caps r)
+abbrev pub stays : Precision → Caps → PlainKind → ℕ → ℕ → Bool
+stays precision caps Unset distance w = false
+stays precision caps (Num k) distance w = false
+stays precision caps (Ptr r k) distance w = access_fits precision k distance w (size caps r)
 
 -- it points into the region that is read only
 abbrev pub is_read_only : PlainKind → Bool

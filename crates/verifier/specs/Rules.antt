@@ -33,14 +33,16 @@ use Rattle.abstract_regs.specs.declared.content.Content.{Content}
 use Rattle.abstract_regs.specs.declared.content.Content.TheVariants.{Nothing, Pointer}
 use Rattle.abstract_regs.specs.Slots.{stack_place, stack_range, access_span, meets}
 use Rattle.verifier.specs.Facets.{goes_of, writes_of, reads_of, uses_of, touches_of, callee_of}
+use Rattle.verifier.specs.Frame.{precision_of}
 use Rattle.verifier.specs.Kind.{alu_refused, mov_refused, stays, is_read_only, is_at_most, range_leaves, range_is_read_only}
 use Rattle.abstract_regs.specs.Frame.{PlainFrame, kind_at, operand_kind, kept_kind}
 use Rattle.abstract_regs.specs.Flow.{target}
 
 -- What is read of the stack: a load of w bytes that stays in its region, or a helper's range that
 -- does, may touch a slot of which nothing is known, or one with a pointer.
-abbrev pub load_meets : Content → Caps → PlainFrame → PlainKind → ℕ → ℕ → Bool
-load_meets content caps f x distance w = meets content (access_span (stack_place x distance) w) 0 f.slots && stays caps x distance w
+abbrev pub load_meets : RuleSet → Content → Caps → PlainFrame → PlainKind → ℕ → ℕ → Bool
+load_meets rules content caps f x distance w =
+    meets content (access_span (stack_place (precision_of rules) x distance) w) 0 f.slots && stays (precision_of rules) caps x distance w
 
 -- the same of a helper's range
 abbrev pub range_meets : Content → Caps → PlainFrame → PlainKind → PlainKind → Bool
@@ -230,14 +232,14 @@ answered_pointer f (uses.Compares dst x) = false
 answered_pointer f uses.Answers = is_ptr (kind_at f 0)
 
 -- an access may leave its region, or is through a number,
-abbrev pub access_leaves : Caps → PlainFrame → Access → Bool
-access_leaves caps f a = not (stays caps (kind_at f a.base) (extended a.offset) a.bytes)
+abbrev pub access_leaves : RuleSet → Caps → PlainFrame → Access → Bool
+access_leaves rules caps f a = not (stays (precision_of rules) caps (kind_at f a.base) (extended a.offset) a.bytes)
 
 -- a load or a store does so,
-abbrev pub leaves : Caps → PlainFrame → Touches → Bool
-leaves caps f touches.Nothing = false
-leaves caps f (touches.Loads a) = access_leaves caps f a
-leaves caps f (touches.Stores a x) = access_leaves caps f a
+abbrev pub leaves : RuleSet → Caps → PlainFrame → Touches → Bool
+leaves rules caps f touches.Nothing = false
+leaves rules caps f (touches.Loads a) = access_leaves rules caps f a
+leaves rules caps f (touches.Stores a x) = access_leaves rules caps f a
 
 -- a store is into a region that is read only,
 abbrev pub stores_read_only : PlainFrame → Touches → Bool
@@ -246,31 +248,31 @@ stores_read_only f (touches.Loads a) = false
 stores_read_only f (touches.Stores a x) = is_read_only (kind_at f a.base)
 
 -- an access is one whole slot of the stack that is known,
-abbrev pub is_slot : PlainFrame → Access → Bool
-is_slot f a = is_some (kept_kind f (kind_at f a.base) (extended a.offset) a.bytes)
+abbrev pub is_slot : RuleSet → PlainFrame → Access → Bool
+is_slot rules f a = is_some (kept_kind (precision_of rules) f (kind_at f a.base) (extended a.offset) a.bytes)
 
 -- a pointer is stored, other than whole in such a slot,
-abbrev pub stored_pointer : PlainFrame → Touches → Bool
-stored_pointer f touches.Nothing = false
-stored_pointer f (touches.Loads a) = false
-stored_pointer f (touches.Stores a (Immediate imm)) = false
-stored_pointer f (touches.Stores a (Register src)) = is_ptr (kind_at f src) && not (is_slot f a)
+abbrev pub stored_pointer : RuleSet → PlainFrame → Touches → Bool
+stored_pointer rules f touches.Nothing = false
+stored_pointer rules f (touches.Loads a) = false
+stored_pointer rules f (touches.Stores a (Immediate imm)) = false
+stored_pointer rules f (touches.Stores a (Register src)) = is_ptr (kind_at f src) && not (is_slot rules f a)
 
 -- a load may touch a slot of the stack that is unset,
-abbrev pub loads_unset : Caps → PlainFrame → Touches → Bool
-loads_unset caps f touches.Nothing = false
-loads_unset caps f (touches.Loads a) = load_meets Nothing caps f (kind_at f a.base) (extended a.offset) a.bytes
-loads_unset caps f (touches.Stores a x) = false
+abbrev pub loads_unset : RuleSet → Caps → PlainFrame → Touches → Bool
+loads_unset rules caps f touches.Nothing = false
+loads_unset rules caps f (touches.Loads a) = load_meets rules Nothing caps f (kind_at f a.base) (extended a.offset) a.bytes
+loads_unset rules caps f (touches.Stores a x) = false
 
 -- a load that isn't one whole known slot may touch a pointer in the stack
-abbrev pub loads_pointer : Caps → PlainFrame → Touches → Bool
-loads_pointer caps f touches.Nothing = false
-loads_pointer caps f (touches.Loads a) = not (is_slot f a) && load_meets Pointer caps f (kind_at f a.base) (extended a.offset) a.bytes
-loads_pointer caps f (touches.Stores a x) = false
+abbrev pub loads_pointer : RuleSet → Caps → PlainFrame → Touches → Bool
+loads_pointer rules caps f touches.Nothing = false
+loads_pointer rules caps f (touches.Loads a) = not (is_slot rules f a) && load_meets rules Pointer caps f (kind_at f a.base) (extended a.offset) a.bytes
+loads_pointer rules caps f (touches.Stores a x) = false
 
 -- The rules of the frame.
 abbrev pub reads_unset : RuleSet → Caps → PlainFrame → Insn → Bool
-reads_unset rules caps f i = unset_among f (reads_of i) || (loads_unset caps f (touches_of i) || asks rules caps f NotSet (callee_of i))
+reads_unset rules caps f i = unset_among f (reads_of i) || (loads_unset rules caps f (touches_of i) || asks rules caps f NotSet (callee_of i))
 
 -- register 10 as the destination
 abbrev pub writes_r10 : Insn → Bool
@@ -285,12 +287,12 @@ abbrev pub compares_pointer : PlainFrame → Insn → Bool
 compares_pointer f i = compared_pointer f (uses_of i)
 
 -- a store of a pointer, other than whole in a known slot of the stack
-abbrev pub stores_pointer : PlainFrame → Insn → Bool
-stores_pointer f i = stored_pointer f (touches_of i)
+abbrev pub stores_pointer : RuleSet → PlainFrame → Insn → Bool
+stores_pointer rules f i = stored_pointer rules f (touches_of i)
 
 -- a load, a store or a helper's range that may leave its region; a load or store through a number
 abbrev pub leaves_region : RuleSet → Caps → PlainFrame → Insn → Bool
-leaves_region rules caps f i = leaves caps f (touches_of i) || asks rules caps f OutOfRegion (callee_of i)
+leaves_region rules caps f i = leaves rules caps f (touches_of i) || asks rules caps f OutOfRegion (callee_of i)
 
 -- a store, or a helper's range that it writes, in a region that is read only
 abbrev pub writes_read_only : RuleSet → Caps → PlainFrame → Insn → Bool
@@ -314,7 +316,7 @@ returns_pointer f i = answered_pointer f (uses_of i)
 
 -- a load of a part of a pointer, or a helper's range with one
 abbrev pub reads_pointer : RuleSet → Caps → PlainFrame → Insn → Bool
-reads_pointer rules caps f i = loads_pointer caps f (touches_of i) || asks rules caps f HasPointer (callee_of i)
+reads_pointer rules caps f i = loads_pointer rules caps f (touches_of i) || asks rules caps f HasPointer (callee_of i)
 
 -- a test of the frame, if there is one
 abbrev pub under : Option PlainFrame → (PlainFrame → Bool) → Bool
@@ -336,7 +338,7 @@ breaks_frame rules caps f i UnsetRead = reads_unset rules caps f i
 breaks_frame rules caps f i WritesR10 = writes_r10 i
 breaks_frame rules caps f i PointerArithmetic = computes_with_pointer f i
 breaks_frame rules caps f i PointerCompare = compares_pointer f i
-breaks_frame rules caps f i PointerStored = stores_pointer f i
+breaks_frame rules caps f i PointerStored = stores_pointer rules f i
 breaks_frame rules caps f i Bounds = leaves_region rules caps f i
 breaks_frame rules caps f i ReadOnlyRegion = writes_read_only rules caps f i
 breaks_frame rules caps f i UnknownHelper = calls_unknown rules i

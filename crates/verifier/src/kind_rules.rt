@@ -5,7 +5,7 @@ ghost use Rattle.bpf_decode.specs.Values.{moves_pointer, is_addition};
 ghost use Rattle.abstract_regs.specs.Seen.{seen};
 ghost use Rattle.verifier.specs.Kind.{alu_refused, mov_refused, stays, is_read_only, is_at_most, range_leaves, range_is_read_only};
 
-use abstract_num::highest;
+use abstract_num::{Precision, highest};
 use abstract_regs::{Kind, access_fits, range_fits};
 use bpf_decode::{Arithmetic, OpWidth};
 use bpf_machine::Caps;
@@ -40,11 +40,11 @@ pub fn is_mov_refused(bits: OpWidth, kind: Kind) -> bool
 
 /// True if it is a pointer, and all of the bytes at that distance from it are in its region.
 #[inline(always)]
-pub fn stays(caps: &Caps, kind: Kind, distance: u64, bytes: usize) -> bool
-    ensures { result ≡ stays caps.now (seen kind) distance bytes }
+pub fn stays(precision: Precision, caps: &Caps, kind: Kind, distance: u64, bytes: usize) -> bool
+    ensures { result ≡ stays precision caps.now (seen kind) distance bytes }
 {
     match kind {
-        Kind::Ptr(r, at) => access_fits(at, distance, bytes as u64, caps.size(r) as u64),
+        Kind::Ptr(r, at) => access_fits(precision, at, distance, bytes as u64, caps.size(r) as u64),
         Kind::Unset | Kind::Num(_) => false,
     }
 }

@@ -14,9 +14,9 @@ const STACK_SLOTS: usize = STACK_SIZE / 8;
 
 const REGISTERS: usize = 11;
 
-/// Numbers have a half in rule set 3 alone.
+/// What numbers say in a rule set: they have a half in rule set 3 alone.
 #[inline(always)]
-pub(crate) fn precision(rules: RuleSet) -> Precision
+pub fn precision(rules: RuleSet) -> Precision
     ensures { result ≡ precision_of rules }
 {
     match rules {

@@ -6,6 +6,7 @@
 //! `VerifiedClass`, which keeps the operations that a run executes, and that its methods are safe.
 #![tactic(auto)]
 
+mod access_rules;
 mod answer;
 mod class;
 mod facets;
@@ -27,6 +28,7 @@ pub use facets::{
     Access, Callee, Goes, Reads, Touches, Uses, callee_of, goes_of, reads_of, touches_of, uses_of,
     writes_of,
 };
+pub use known::precision;
 pub use laws::{first_rule_set, one_table};
 pub use refusal::Refusal;
 pub use refused::{RefusedSlot, refused_slot};

@@ -1,22 +1,22 @@
 //! The rules: for each a test of one instruction, and which of them refuses first.
 
 ghost use Rattle.std.specs.Prelude.{◌≡◌, ◌<◌, ◌^◌};
-ghost use Rattle.verifier.specs.Rules.{begins_at, is_backward, misses, falls_off, is_local_call, reads_unset, writes_r10, computes_with_pointer, compares_pointer, stores_pointer, leaves_region, writes_read_only, calls_unknown, passes_wrong_kind, writes_in_reader, returns_pointer, reads_pointer, load_meets, operand_is_unset, unset_among, asks, may_write, leaves, access_leaves, stores_read_only, is_slot, loads_unset, loads_pointer, rule_at, shape_rule, frame_rule};
+ghost use Rattle.verifier.specs.Rules.{begins_at, is_backward, misses, falls_off, is_local_call, reads_unset, writes_r10, computes_with_pointer, compares_pointer, stores_pointer, leaves_region, writes_read_only, calls_unknown, passes_wrong_kind, writes_in_reader, returns_pointer, reads_pointer, operand_is_unset, unset_among, asks, may_write, rule_at, shape_rule, frame_rule};
 ghost use Rattle.verifier.specs.Facets.{callee_of};
 ghost use Rattle.abstract_regs.specs.Kind.{is_ptr};
 ghost use Rattle.abstract_regs.specs.Frame.{kind_at};
 ghost use Rattle.verifier.specs.inner.Kept.{unbox};
-ghost use Rattle.bpf_machine.specs.Typed.{extended};
 
+use crate::access_rules::{is_slot, leaves, loads_pointer, loads_unset, stores_read_only};
 use crate::facets::{
-    Access, Callee, Goes, Reads, Touches, Uses, callee_of, goes_of, reads_of, touches_of, uses_of,
+    Callee, Goes, Reads, Touches, Uses, callee_of, goes_of, reads_of, touches_of, uses_of,
     writes_of,
 };
 use crate::fault::Fault;
 use crate::kind_rules;
 use crate::known::known_signature;
 use crate::rule::Rule;
-use abstract_regs::{Content, Frame};
+use abstract_regs::Frame;
 use bpf_decode::{Insn, Operand, Register, RuleSet, jump_target, width};
 use bpf_machine::Caps;
 
@@ -73,7 +73,7 @@ fn frame_rule(rules: RuleSet, caps: &Caps, frame: &Frame, insn: &Insn) -> Option
         Some(Rule::PointerArithmetic)
     } else if compares_pointer(frame, insn) {
         Some(Rule::PointerCompare)
-    } else if stores_pointer(frame, insn) {
+    } else if stores_pointer(rules, frame, insn) {
         Some(Rule::PointerStored)
     } else if leaves_region(rules, caps, frame, insn) {
         Some(Rule::Bounds)
@@ -166,7 +166,7 @@ fn reads_unset(rules: RuleSet, caps: &Caps, frame: &Frame, insn: &Insn) -> bool
     ensures { result ≡ reads_unset rules caps.now frame.now insn.now }
 {
     is_unset_among(frame, reads_of(insn))
-        || loads_unset(caps, frame, touches_of(insn))
+        || loads_unset(rules, caps, frame, touches_of(insn))
         || asks(rules, caps, frame, Fault::NotSet, insn)
 }
 
@@ -189,17 +189,6 @@ fn is_operand_unset(frame: &Frame, operand: Operand) -> bool
     match operand {
         Operand::Immediate(_) => false,
         Operand::Register(register) => frame.at(register).is_unset(),
-    }
-}
-
-/// True if it is a load that may touch a slot of the stack that is unset.
-#[inline(always)]
-fn loads_unset(caps: &Caps, frame: &Frame, touches: Touches) -> bool
-    ensures { result ≡ loads_unset caps.now frame.now touches }
-{
-    match touches {
-        Touches::Loads(access) => load_meets(Content::Nothing, caps, frame, &access),
-        Touches::Nothing | Touches::Stores(_, _) => false,
     }
 }
 
@@ -251,13 +240,13 @@ fn is_ptr(frame: &Frame, register: Register) -> bool
 
 /// True if it stores a pointer, other than whole in a slot of the stack that is known.
 #[inline(always)]
-fn stores_pointer(frame: &Frame, insn: &Insn) -> bool
-    ensures { result ≡ stores_pointer frame.now insn.now }
+fn stores_pointer(rules: RuleSet, frame: &Frame, insn: &Insn) -> bool
+    ensures { result ≡ stores_pointer rules frame.now insn.now }
 {
     match touches_of(insn) {
         Touches::Stores(access, source) => match source {
             Operand::Immediate(_) => false,
-            Operand::Register(src) => is_ptr(frame, src) && !is_slot(frame, &access),
+            Operand::Register(src) => is_ptr(frame, src) && !is_slot(rules, frame, &access),
         },
         Touches::Nothing | Touches::Loads(_) => false,
     }
@@ -268,26 +257,8 @@ fn stores_pointer(frame: &Frame, insn: &Insn) -> bool
 fn leaves_region(rules: RuleSet, caps: &Caps, frame: &Frame, insn: &Insn) -> bool
     ensures { result ≡ leaves_region rules caps.now frame.now insn.now }
 {
-    leaves(caps, frame, touches_of(insn)) || asks(rules, caps, frame, Fault::OutOfRegion, insn)
-}
-
-#[inline(always)]
-fn leaves(caps: &Caps, frame: &Frame, touches: Touches) -> bool
-    ensures { result ≡ leaves caps.now frame.now touches }
-{
-    match touches {
-        Touches::Loads(access) | Touches::Stores(access, _) => access_leaves(caps, frame, &access),
-        Touches::Nothing => false,
-    }
-}
-
-/// True if an access may leave its region, or is through a number.
-#[inline(always)]
-fn access_leaves(caps: &Caps, frame: &Frame, access: &Access) -> bool
-    ensures { result ≡ access_leaves caps.now frame.now access.now }
-{
-    let distance = i64::from(access.offset).cast_unsigned();
-    !kind_rules::stays(caps, frame.at(access.base), distance, access.bytes)
+    leaves(rules, caps, frame, touches_of(insn))
+        || asks(rules, caps, frame, Fault::OutOfRegion, insn)
 }
 
 /// True if it writes into the region that is read only.
@@ -296,16 +267,6 @@ fn writes_read_only(rules: RuleSet, caps: &Caps, frame: &Frame, insn: &Insn) -> 
     ensures { result ≡ writes_read_only rules caps.now frame.now insn.now }
 {
     stores_read_only(frame, touches_of(insn)) || asks(rules, caps, frame, Fault::ReadOnly, insn)
-}
-
-#[inline(always)]
-fn stores_read_only(frame: &Frame, touches: Touches) -> bool
-    ensures { result ≡ stores_read_only frame.now touches }
-{
-    match touches {
-        Touches::Stores(access, _) => kind_rules::is_read_only(frame.at(access.base)),
-        Touches::Nothing | Touches::Loads(_) => false,
-    }
 }
 
 /// True if it calls an id that is no helper's in the rule set.
@@ -363,41 +324,6 @@ fn returns_pointer(frame: &Frame, insn: &Insn) -> bool
 fn reads_pointer(rules: RuleSet, caps: &Caps, frame: &Frame, insn: &Insn) -> bool
     ensures { result ≡ reads_pointer rules caps.now frame.now insn.now }
 {
-    loads_pointer(caps, frame, touches_of(insn))
+    loads_pointer(rules, caps, frame, touches_of(insn))
         || asks(rules, caps, frame, Fault::HasPointer, insn)
-}
-
-/// True if it is a load, not of one whole known slot, that may read a part of a pointer.
-#[inline(always)]
-fn loads_pointer(caps: &Caps, frame: &Frame, touches: Touches) -> bool
-    ensures { result ≡ loads_pointer caps.now frame.now touches }
-{
-    match touches {
-        Touches::Loads(access) => {
-            !is_slot(frame, &access) && load_meets(Content::Pointer, caps, frame, &access)
-        }
-        Touches::Nothing | Touches::Stores(_, _) => false,
-    }
-}
-
-/// True if the bytes of an access are one slot of the stack that is known.
-#[inline(always)]
-fn is_slot(frame: &Frame, access: &Access) -> bool
-    ensures { result ≡ is_slot frame.now access.now }
-{
-    let distance = i64::from(access.offset).cast_unsigned();
-    frame
-        .slot(frame.peek(access.base), distance, access.bytes)
-        .is_some()
-}
-
-/// True if a load stays in its region and may touch a slot of the stack with that content.
-// A load that may leave its region is left to rule 10, though rule 5 is tried first.
-#[inline(always)]
-fn load_meets(content: Content, caps: &Caps, frame: &Frame, access: &Access) -> bool
-    ensures { result ≡ load_meets content caps.now frame.now (kind_at frame.now access.now.base) (extended access.now.offset) access.now.bytes }
-{
-    let distance = i64::from(access.offset).cast_unsigned();
-    frame.access_meets(content, frame.peek(access.base), distance, access.bytes)
-        && !access_leaves(caps, frame, access)
 }

@@ -1,6 +1,7 @@
 //! The longest methods, the longest jumps, and the largest class.
 
 use super::{Declared, class_of, code_of, is_judged, method};
+use abstract_num::Precision;
 use abstract_regs::{Frame, Kind};
 use bpf_asm::assemble;
 use bpf_decode::{ClassImage, Insn, Method, Region, RuleSet};
@@ -198,7 +199,12 @@ fn is_last(refused: &RefusedSlot) -> bool {
 
 /// True if the highest slot of the stack points to the input's first byte.
 fn has_input(known: &Frame) -> bool {
-    match known.slot(&known.kind(10), (-8i64).cast_unsigned(), 8) {
+    match known.slot(
+        Precision::Whole,
+        &known.kind(10),
+        (-8i64).cast_unsigned(),
+        8,
+    ) {
         None => false,
         Some(kind) => is_input(kind),
     }

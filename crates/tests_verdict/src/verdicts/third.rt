@@ -35,4 +35,16 @@ ok none 1 0 4097: mov r0, 0; exit
 8:10 8:10 1 8 16: ldxdw r4, [r1+0]; mov r0, 0; jeq r2, 0, +2; mov r5, r4; ja +1; mov r5, r4; jgt r5, 15, +2; OUT
 8:10 8:10 1 8 16: ldxdw r4, [r1+0]; mov r0, 0; jeq r2, 0, +2; mov r5, r4; ja +1; ldxb r5, [r1+0]; jgt r5, 15, +2; OUT
 6:10 6:10 1 8 16: ldxdw r0, [r1+0]; mov r6, r0; mov r7, r3; call 15; jgt r0, 15, +2; add r7, r6; stb [r7+0], 1; exit
+# the low half of its sum alone says that an access stays in its region, and which slot it is
+ok none 1 7233 0: ldxw r4, [r1+0]; mov r0, 0; lddw r5, 0x0000000080000064; jgt r4, r5, +5; jsgt32 r4, 40000, +4; \
+    jslt32 r4, -5, +3; jlt r4, 32768, +2; add r1, r4; ldxb r0, [r1-32768]; exit
+9:10 none 1 7232 0: ldxw r4, [r1+0]; mov r0, 0; lddw r5, 0x0000000080000064; jgt r4, r5, +5; \
+    jsgt32 r4, 40000, +4; jslt32 r4, -5, +3; jlt r4, 32768, +2; add r1, r4; ldxb r0, [r1-32768]; exit
+ok 9:10 1 1233 0: ldxw r4, [r1+0]; mov r0, 0; lddw r5, 0x0000000080000064; jgt r4, r5, +5; jsgt32 r4, 34000, +4; \
+    jslt32 r4, -5, +3; jlt r4, 32768, +2; add r1, r4; ldxb r0, [r1-32768]; exit
+9:10 9:10 1 1232 0: ldxw r4, [r1+0]; mov r0, 0; lddw r5, 0x0000000080000064; jgt r4, r5, +5; \
+    jsgt32 r4, 34000, +4; jslt32 r4, -5, +3; jlt r4, 32768, +2; add r1, r4; ldxb r0, [r1-32768]; exit
+ok 11:9 1 4 1: ldxw r4, [r1+0]; mov r0, 0; lddw r5, 0x0000000080000064; jgt r4, r5, +9; jsgt32 r4, 32768, +8; \
+    jslt32 r4, -5, +7; jlt r4, 32768, +6; mov r2, r10; add r2, -512; add r2, r4; stxdw [r2-32768], r3; \
+    ldxdw r5, [r10-512]; stb [r5+0], 1; exit
 ";
