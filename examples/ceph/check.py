@@ -4,17 +4,41 @@
     check.py [RADOSCLS [CALLS [CLASS ..]]]
 
 It compiles each class by tools/radoscls-cc, and makes CALLS random calls of it (2000), some of them malformed and some upon
-values that aren't the class's, by `radoscls sim`, in which each call is answered before the next one is made. Codes, outputs
-and, in between, what the object holds are compared with the model's. The status is 0 if nothing differs."""
+values that aren't the class's, or objects that have no room left, by `radoscls sim`, in which each call is answered before the
+next one is made. Codes, outputs and, in between, what the object holds are compared with the model's. The status is 0 if nothing
+differs."""
 import os, random, re, struct, subprocess, sys, tempfile
 from decimal import ROUND_DOWN, Context, Decimal
 
 HERE = os.path.dirname(os.path.abspath(__file__))
 TOP = os.path.join(HERE, "..", "..")
-ENOENT, E2BIG, EIO, EBUSY, EEXIST, EINVAL, ERANGE, ENODATA, EBADMSG, EOPNOTSUPP, ECANCELED = 2, 7, 5, 16, 17, 22, 34, 61, 74, 95, 125
+ENOENT, E2BIG, EIO, EBUSY, EEXIST, EINVAL, ENOSPC, ERANGE, ENODATA, EBADMSG, EOPNOTSUPP, ECANCELED = \
+    2, 7, 5, 16, 17, 22, 28, 34, 61, 74, 95, 125
+XATTRS, KEYS = 32, 1024  # that an object may have
+CLIENTS = [1, 2, 3]  # who call
 
-# Values of the omap, which no built-in class reads or writes.
+# Values of the omap, which no built-in class reads or writes; and xattrs or keys until there is no room.
 PROBE = """#include <sillarnica/class.h>
+METHOD(fill, w, 0, 0)
+{
+    u8 name[8] = "z00";
+    UNROLL for (int i = 0; i < 32; i++) {
+        name[1] = '0' + i / 10;
+        name[2] = '0' + i % 10;
+        cls_setxattr(name, 3, name, 0);
+    }
+    return 0;
+}
+METHOD(fill_keys, w, 1, 0)
+{
+    u8 name[8] = "z";
+    name[1] = in[0];
+    UNROLL for (int i = 0; i < 256; i++) {
+        name[2] = i;
+        cls_map_set(name, 3, name, 0);
+    }
+    return 0;
+}
 METHOD(get, r, 64, 4096)
 {
     s64 got = cls_map_get(in, in_len, out, 4096);
@@ -51,6 +75,17 @@ class Object:
         other = Object()
         other.data, other.xattrs, other.keys = self.data, dict(self.xattrs), dict(self.keys)
         return other
+
+    def set(self, name, value):
+        """An xattr."""
+        if name not in self.xattrs and len(self.xattrs) == XATTRS:
+            raise Fail(-ENOSPC)
+        self.xattrs[name] = value
+
+    def set_key(self, name, value):
+        if name not in self.keys and len(self.keys) == KEYS:
+            raise Fail(-ENOSPC)
+        self.keys[name] = value
 
 
 # Ceph's encoding
@@ -140,17 +175,20 @@ def hello(object, caller, method, given):
         object = Object()
         object.data, object.xattrs[b"said_by"] = greeting, who
         return object, 0, b""
-    if given and method != "write_too_much_return_data":
-        raise Fail(-EINVAL)
     if method == "turn_it_to_11":
-        there(object)
+        if given:
+            raise Fail(-EINVAL)
+        object = object or Object()
         object.data = bytes(c - 32 if 97 <= c <= 122 else c for c in object.data[:1100])
-        object.xattrs[b"amplified_by"] = who
+        object.set(b"amplified_by", who)
         return object, 0, b""
     object = object or Object()
-    object.xattrs[b"foo"] = b"bar"
-    return object, 42, {"write_return_data": b"you might see this", "writes_dont_return_data": b"you will never see this",
-        "write_too_much_return_data": b"you should not see this because it is toooooo long. " * 10}[method]
+    object.set(b"foo", b"bar")
+    if given and method != "write_too_much_return_data":
+        raise Fail(-EINVAL)
+    if method == "write_too_much_return_data":
+        return object, 42, b"you should not see this because it is toooooo long. " * 10
+    return object, 42, b"you might see this"
 
 
 def hello_call(r):
@@ -202,7 +240,7 @@ def version(object, caller, method, given):
             return object, 0, versioned(versioned(struct.pack("<Q", kept[0]) + string(kept[1])))
         kept = kept[0] + 1 & (1 << 64) - 1, kept[1]
     object = object or Object()
-    object.xattrs[name] = versioned(struct.pack("<Q", kept[0]) + string(kept[1]))
+    object.set(name, versioned(struct.pack("<Q", kept[0]) + string(kept[1])))
     return object, 0, b""
 
 
@@ -221,15 +259,16 @@ def version_call(r):
 # refcount
 
 
-def read_refs(d, has_retired):
-    its = d.start(2)[0]
+def read_refs(d):
+    part = d.start(2)
     refs, retired = [], []
     for _ in range(d.count(8)):
         refs.append(d.string(64))
         d.number("B")
-    if has_retired and its >= 2:
+    if part[0] >= 2:
         retired = [d.string(64) for _ in range(d.count(5))]
-    return its, refs, retired
+    d.finish(part)
+    return part[0], refs, retired
 
 
 def write_refs(its, refs, retired):
@@ -243,7 +282,7 @@ def keep_refs(object, its, refs, retired):
     value = write_refs(its, refs, retired)
     if len(refs) > 8 or len(retired) > 5 or len(value) > 1016:
         raise Fail(-E2BIG)
-    object.xattrs[b"refcount"] = value
+    object.set(b"refcount", value)
     return object, 0, b""
 
 
@@ -264,7 +303,7 @@ def refcount(object, caller, method, given):
     there(object)
     its, refs, retired = 2, [b""] if is_implicit else [], []
     if b"refcount" in object.xattrs:
-        its, refs, retired = stored(object.xattrs[b"refcount"], 1016, lambda d: read_refs(d, True))
+        its, refs, retired = stored(object.xattrs[b"refcount"], 1016, read_refs)
     if method == "get":
         return keep_refs(object, its, refs + [tag] * (tag not in refs), retired)
     if method == "read":
@@ -333,7 +372,7 @@ def cmpomap(object, caller, method, given):
             if not key:
                 raise Fail(-EINVAL)
             object = object or Object()
-            object.keys[key] = value
+            object.set_key(key, value)
     return object, 0, b""
 
 
@@ -341,8 +380,10 @@ def cmpomap_call(r):
     method = r.choice(["cmp_rm_keys", "cmp_set_vals", "cmp_set_vals", "cmp_vals"])
 
     def value():
-        return r.choice((b"", b"a", b"ab", b"abcdefgh", b"abcdefghi", b"\xff", b"v" * 32, struct.pack("<Q", r.randrange(4)), struct.pack("<Q", 1 << 63), b"1234567"))
-    keys = sorted(r.sample([b"k", b"key", b"k" * 64, b"a", b"b", b"c", b"d"], r.choice((0, 1, 1, 2, 3, 6))) + [b""] * (r.random() < 0.02))
+        return r.choice((b"", b"a", b"ab", b"abcdefgh", b"abcdefghi", b"\xff", b"v" * 32, struct.pack("<Q", r.randrange(4)), struct.pack("<Q", 1 << 63), b"1234567",
+            b"v" * 33 if r.random() < 0.1 else b"v"))
+    keys = sorted(r.sample([b"k", b"key", b"k" * 64, b"a", b"b", b"c", b"d", b"k" * 65 if r.random() < 0.05 else b"e"], r.choice((0, 1, 1, 2, 3, 6, 7)))
+        + [b""] * (r.random() < 0.02))
     body = bytes((r.choice((1, 1, 2, 2, 2, 0 if r.random() < 0.1 else 2)), r.choice((1, 2, 3, 4, 5, 6, 7 if r.random() < 0.1 else 1)))) + struct.pack("<I", len(keys))
     body += b"".join(string(key) + string(value()) for key in keys)
     if method != "cmp_rm_keys":
@@ -396,24 +437,24 @@ def numops(object, caller, method, given):
     if len(rounded.partition("e")[2]) > 3:
         raise Fail(-ERANGE)
     object = object or Object()
-    object.keys[key] = rounded.encode()
+    object.set_key(key, rounded.encode())
     return object, 0, b""
 
 
 def numops_call(r):
     digits = lambda n: "".join(r.choice("0123456789") for _ in range(n))
     text = r.choice((lambda: str(r.randrange(-20, 20)), lambda: digits(r.randrange(1, 13)), lambda: "-" + digits(r.randrange(1, 6)) + "." + digits(r.randrange(6)),
-        lambda: digits(1) + "." + digits(4) + "e" + r.choice(("", "+", "-")) + digits(r.randrange(1, 3)), lambda: "0." + digits(9), lambda: r.choice(
+        lambda: digits(1) + "." + digits(4) + "e" + r.choice(("", "+", "-")) + digits(r.randrange(1, 3)), lambda: "0." + digits(9), lambda: digits(r.choice((13, 13, 14))),
+        lambda: "9" * r.choice((10, 11, 12)), lambda: r.choice(
             ("", "-", ".", "1.", ".5", "+7", "1e", "e5", "1e+", "--1", "1.2.3", "x", "1e100", "1 ", "0", "-0", "1e99", "-1e-99", "1e5x", "9999999999.5"))))()
-    return r.choice(("add", "add", "mul")), string(r.choice((b"n", b"m", b"k" * 64, b"" if r.random() < 0.05 else b"n"))) + string(text.encode())
+    return r.choice(("add", "add", "mul")), string(r.choice((b"n", b"m", b"k" * 64, b"" if r.random() < 0.05 else b"n", b"k" * 65 if r.random() < 0.05 else b"m"))) + string(text.encode())
 
 
 # lock
 
 
 def read_lock(d, most):
-    d.start(1)
-    lockers = {}
+    part, lockers = d.start(1), {}
     for _ in range(d.count(most)):
         _, oldest, size = d.number("B"), d.number("B"), d.number("I")
         key = d.number("B"), d.number("q"), d.string(64)
@@ -423,21 +464,30 @@ def read_lock(d, most):
         its = d.start(1)
         d.finish(its)
         lockers[key] = d.data[at:d.at]
-    return lockers, d.number("B"), d.string(64)
+    kind, tag = d.number("B"), d.string(64)
+    d.finish(part)
+    return lockers, kind, tag
 
 
-def keep_lock(object, name, lockers, kind, tag):
+def write_lock(lockers, kind, tag):
     body = struct.pack("<I", len(lockers))
     for key in sorted(lockers):
         body += versioned(struct.pack("<Bq", *key[:2]) + string(key[2])) + lockers[key]
-    value = versioned(body + bytes([kind]) + string(tag))
+    return versioned(body + bytes([kind]) + string(tag))
+
+
+def keep_lock(object, name, lockers, kind, tag):
+    value = write_lock(lockers, kind, tag)
     if len(lockers) > 6 or len(value) > 1016:
         raise Fail(-E2BIG)
-    object.xattrs[name] = value
+    object.set(name, value)
     return object, 0, b""
 
 
 def lock(object, caller, method, given):
+    if method == "list_locks":
+        names = [name[5:] for name in sorted(there(object).xattrs) if name.startswith(b"lock.")]
+        return object, 0, versioned(struct.pack("<I", len(names)) + b"".join(map(string, names)))
     d = Decoder(given, 512)
     part = d.start(1)
     name, kind, key, tag, text, flags, duration = d.string(59), 1, None, b"", b"", 0, 0
@@ -462,8 +512,10 @@ def lock(object, caller, method, given):
     lockers, its, its_tag = {}, 0, b""
     if name in object.xattrs:
         lockers, its, its_tag = stored(object.xattrs[name], 1016, lambda d: read_lock(d, 3 if method == "set_cookie" else 6))
+    if key in lockers and 19 + len(key[2]) + len(lockers[key]) > 511:
+        raise Fail(-E2BIG)
     if method == "get_info":
-        return object, 0, keep_lock(object.copy(), name, lockers, its, its_tag)[0].xattrs[name]
+        return object, 0, write_lock(lockers, its, its_tag)
     if method in ("unlock", "break_lock"):
         if key not in lockers:
             raise Fail(-ENOENT)
@@ -476,6 +528,8 @@ def lock(object, caller, method, given):
             return object, 0, b""
         if (8, caller, text) in lockers:
             raise Fail(-EBUSY)
+        if len(lockers[key]) > 128:
+            raise Fail(-E2BIG)
         lockers[8, caller, text] = lockers.pop(key)
         return keep_lock(object, name, lockers, its, its_tag)
     if lockers and its_tag != tag:
@@ -493,14 +547,16 @@ def lock(object, caller, method, given):
 
 
 def lock_call(r):
-    method = r.choice(["assert_locked", "break_lock", "get_info", "lock", "lock", "lock", "set_cookie", "unlock"])
+    method = r.choice(["assert_locked", "break_lock", "get_info", "list_locks", "lock", "lock", "lock", "lock", "set_cookie", "set_cookie", "unlock"])
+    if method == "list_locks":
+        return method, b"" if r.random() < 0.9 else b"any bytes"
     name = r.choice((b"one", b"one", b"one", b"n" * 59, b"n" * 60 if r.random() < 0.1 else b"two", b"" if r.random() < 0.2 else b"two"))
     cookie = lambda: r.choice((b"a", b"a", b"a", b"", b"b", b"cookie-8", b"c" * 64, b"c" * 65 if r.random() < 0.05 else b"a"))
-    body, kind, tag = string(name), bytes([r.choice((1, 2, 2, 2, 2, 3, 0 if r.random() < 0.1 else 2))]), string(r.choice((b"", b"", b"tag", b"t" * 64)))
+    body, kind, tag = string(name), bytes([r.choice((1, 2, 2, 2, 2, 3, 0 if r.random() < 0.1 else 2))]), string(r.choice((b"", b"", b"", b"", b"tag", b"t" * 64)))
     if method in ("assert_locked", "lock", "set_cookie"):
         body += kind + string(cookie()) + tag
     if method == "break_lock":
-        body += struct.pack("<Bq", r.choice((8, 8, 8, 1)), r.choice((1, 2, 3, -1))) + string(cookie())
+        body += struct.pack("<Bq", r.choice((8, 8, 8, 1)), r.choice((*CLIENTS, -1))) + string(cookie())
     if method == "unlock":
         body += string(cookie())
     if method == "set_cookie":
@@ -511,18 +567,90 @@ def lock_call(r):
     return method, versioned(body)
 
 
+def lock_value(r):
+    """What another version of the class may have kept: lockers with more than this one keeps of them, and values up to the limit."""
+    if r.random() < 0.2:
+        return r.choice((b"", b"\1\1\xff", versioned(struct.pack("<I", 7)), write_lock({}, 2, b"tag")[:-1], b"l" * 1016, b"l" * 1017, b"l" * 1017))
+    lockers = {}
+    for _ in range(r.choice((0, 1, 1, 2, 3, 6, 7))):
+        key = r.choice((8, 8, 8, 1)), r.choice((*CLIENTS, -1)), r.choice((b"a", b"a", b"a", b"", b"b", b"cookie-8", b"c" * 64))
+        lockers[key] = versioned(bytes(r.choice((31, 31, 122, 123, 240, 430, 500))))
+    if lockers and r.random() < 0.3:
+        # so long that it is about full with one locker more
+        lockers = {min(lockers): versioned(b"")}
+        lockers[min(lockers)] = versioned(bytes(1016 - len(write_lock(lockers, 2, b"")) - r.randrange(56, 64)))
+    return write_lock(lockers, r.choice((1, 2, 2, 2, 3)), r.choice((b"", b"", b"", b"tag")))
+
+
+def locker(cookie, client=1, more=31):
+    """A client's, with so many bytes besides its key."""
+    return {(8, client, cookie): versioned(bytes(more))}
+
+
+def lock_bounds():
+    """Values, and calls by client 1 upon them: on a bound, and past it."""
+    text = lambda body: versioned(string(b"one") + body)
+    ask = lambda cookie=b"a", text=b"", kind=2: b"\2" + string(cookie) + string(b"") + string(text)
+    shared = lambda *lockers: write_lock({key: value for part in lockers for key, value in part.items()}, 2, b"")
+    many = lambda count: shared(*(locker(b"%d" % n) for n in range(count)))
+    full = lambda left: shared(locker(b"q", 2, 1016 - len(shared(locker(b"q", 2, 0))) - left))
+    calls = {"lock": text(ask() + bytes(8) + b"\1"), "set_cookie": text(ask(text=b"new")), "unlock": text(string(b"a")), "assert_locked": text(ask()[:-4]),
+        "break_lock": text(struct.pack("<Bq", 8, 1) + string(b"a")), "get_info": text(b"")}
+    for size in (1016, 1017):
+        yield from ((bytes(size), method, given) for method, given in calls.items())
+    for more in (485, 486):
+        yield from ((shared(locker(b"a", 1, more)), method, given) for method, given in calls.items())
+    for more in (122, 123):
+        yield shared(locker(b"a", 1, more)), "set_cookie", calls["set_cookie"]
+    for count in (2, 3, 5, 6, 7):
+        yield from ((shared(locker(b"a"), *(locker(b"%d" % n) for n in range(count - 1))), method, given) for method, given in calls.items())
+        yield many(count), "lock", calls["lock"]
+    for left in range(55, 61):
+        yield full(left), "lock", calls["lock"]
+        yield shared(locker(b"a"), locker(b"q", 2, 500), locker(b"r", 2, 386 - left)), "set_cookie", text(ask(text=b"c" * 64))
+    yield write_lock(locker(b"a"), 3, b""), "unlock", calls["unlock"]
+    yield write_lock(locker(b"a"), 3, b""), "break_lock", calls["break_lock"]
+
+
+def refcount_bounds():
+    """The same of refcount."""
+    tags = [b"%d" % n for n in range(9)]
+    calls = [("get", b"\0"), ("get", b"\1"), ("put", b"\0"), ("put", b"\1")]
+    for refs in (0, 1, 2, 7, 8, 9):
+        for retired in (0, 4, 5, 6):
+            for its in (1, 2):
+                for tag in (b"0", b"z"):
+                    yield from ((write_refs(its, tags[:refs], [b"r%d" % n for n in range(retired)]), method, versioned(string(tag) + end)) for method, end in calls)
+    for long in (58, 59, 60, 61, 62, 63):
+        refs, retired = [bytes([n]) * 64 for n in range(7)], [bytes([n + 100]) * 64 for n in range(4)]
+        for tag in (b"t" * long, bytes([3]) * 64):
+            value = write_refs(2, [*refs, b"s" * long], [*retired, b"u" * long])
+            yield from ((value[:1016], method, versioned(string(tag) + end)) for method, end in calls)
+
+
+def refcount_value(r):
+    """Of either version, with as many references as there may be, or more."""
+    count = r.choice((0, 0, 1, 1, 2, 3, 8, 9))
+    value = write_refs(r.choice((1, 2, 2)), r.sample(TAGS, count), r.sample(TAGS, r.choice((0, 0, 1, 5, 6))))
+    # (in the last but two the struct ends before its last list)
+    return r.choice((value, value, value, value[:-6], b"", b"\2\3" + value[2:], versioned(value[6:-3], value[0]) + bytes(4), value[:2] + b"\4\0\0\0" + value[6:],
+        b"w" * 1016, b"w" * 1017))
+
+
 # By name: the model, a random call, the xattrs and keys that are looked at, and values that are put there from outside.
 
 CLASSES = {
     "hello": (hello, hello_call, [b"said_by", b"amplified_by", b"foo"], [], []),
     "version": (version, version_call, [b"ceph.objclass.version"], [], [b"", b"\1", versioned(bytes(8) + string(b"x")), versioned(bytes(8) + string(b"x"), 9, 9),
         versioned(bytes(8) + string(b"y" * 64)), versioned(bytes(8) + string(b"y" * 65)), b"z" * 200]),
-    "refcount": (refcount, refcount_call, [b"refcount"], [], [b"", write_refs(1, TAGS[:3], []), write_refs(2, TAGS[:2], [b"a"]), b"\2\3" + write_refs(2, [b"a"], [])[2:],
-        write_refs(2, [b"a", b"b"], [])[:-6], write_refs(2, [b"%d" % n for n in range(9)], []), b"w" * 1017, write_refs(2, [b"a", b"b"], [b"%d" % n for n in range(5)])]),
+    "refcount": (refcount, refcount_call, [b"refcount"], [], [refcount_value]),
     "cmpomap": (cmpomap, cmpomap_call, [], [b"k", b"key", b"k" * 64, b"a", b"b", b"c"], [b"", b"1234567", bytes(8), b"v" * 33, b"abc"]),
     "numops": (numops, numops_call, [], [b"n", b"m", b"k" * 64], [b"x", b"12", b"", b"12345678901234567", b"1.5e-05", b"1e", b"-7.25"]),
-    "lock": (lock, lock_call, [b"lock.one", b"lock.two", b"lock." + b"n" * 59], [], [b"", b"\1\1\xff", versioned(struct.pack("<I", 7)), b"l" * 1017]),
+    "lock": (lock, lock_call, [b"lock.one", b"lock.two", b"lock." + b"n" * 59], [], [lock_value]),
 }
+BOUNDS = {"lock": lock_bounds, "refcount": refcount_bounds}
+# The most bytes of input, by class or by method.
+MOST_INPUT = {"hello": 4096, "version": 1088, "refcount": 320, "refcount.set": 1088, "cmpomap": 1152, "numops": 256, "lock": 640}
 
 
 class Play:
@@ -536,8 +664,8 @@ class Play:
         self.events.append(f"req 1 {client} {self.numbers[client]} {name} {words} {given.hex() or '-'}")
         self.wanted.append((client, self.numbers[client], wanted, self.events[-1]))
 
-    def call(self, model, name, method, given):
-        client, before = self.r.choice((1, 2, 3)), self.objects.get(name)
+    def call(self, model, name, method, given, client=None):
+        client, before = client or self.r.choice(CLIENTS), self.objects.get(name)
         try:
             after, code, output = model(before.copy() if before else None, client, method, given)
             self.objects[name] = after
@@ -559,41 +687,72 @@ class Play:
     def put(self, name, xattrs, keys, value):
         """A value from outside."""
         item, object = self.r.choice(xattrs + keys), self.objects.get(name) or Object()
-        (object.xattrs if item in xattrs else object.keys)[item] = value
+        try:
+            (object.set if item in xattrs else object.set_key)(item, value)
+            self.objects[name], code = object, 0
+        except Fail as fail:
+            code = fail.args[0]
+        self.ask(1, name, "obj setxattr" if item in xattrs else "probe put", bytes([len(item)]) + item + value, (code, b""))
+
+    def write(self, name, data):
+        """Data from outside, of an object that perhaps has nothing else."""
+        object = self.objects.get(name) or Object()
+        object.data = data + object.data[len(data):]
         self.objects[name] = object
-        self.ask(1, name, "obj setxattr" if item in xattrs else "probe put", bytes([len(item)]) + item + value, (0, b""))
+        self.ask(1, name, "obj write", bytes(8) + data, (len(data), b""))
+
+    def fill(self, name, has_keys):
+        """As many xattrs, or keys, as an object may have."""
+        object = self.objects[name] = self.objects.get(name) or Object()
+        part, most = (object.keys, KEYS) if has_keys else (object.xattrs, XATTRS)
+        for n in range(most):
+            item = bytes((ord("z"), n >> 8, n & 255)) if has_keys else b"z%02d" % n
+            if len(part) < most:
+                part[item] = b""
+        for n in range(most // 256) if has_keys else [None]:
+            self.ask(1, name, "probe fill" if n is None else "probe fill_keys", b"" if n is None else bytes([n]), (0, b""))
 
 
 def spoiled(r, given):
-    """Cut, or with other bytes."""
-    kind = r.randrange(3)
+    """Cut, longer, or with other bytes."""
+    kind = r.randrange(4)
     if kind == 0:
         return given[:r.randrange(len(given) + 1)]
     if kind == 1 and given:
         at = r.randrange(len(given))
         return given[:at] + bytes([r.choice((0, 1, 2, 255))]) + given[at + 1:]
+    if kind == 2:
+        return given.ljust(r.choice((128, 129, 256, 257, 512, 513, 1024, 1025)), b"\0")
     return given + bytes(r.randrange(9))
 
 
-def play(which, calls):
-    model, make, xattrs, keys, values = CLASSES[which]
+def on_bounds(which):
+    model, _, xattrs, _, _ = CLASSES[which]
     p = Play(which)
+    for value, method, given in BOUNDS.get(which, tuple)():
+        p.put("o", xattrs[:1], [], value)
+        p.call(model, "o", method, given, 1)
+        p.look("o", xattrs[:1], [])
+    return p
+
+
+def play(which, calls, p):
+    model, make, xattrs, keys, values = CLASSES[which]
     r = p.r
     for n in range(calls):
         name = r.choice(("o", "o", "p", "q"))
         method, given = make(r)
         if r.random() < 0.1:
             given = spoiled(r, given)
-        p.call(model, name, method, given[:4096 if which == "hello" else 250 if which == "numops" else 320])
+        p.call(model, name, method, given[:MOST_INPUT.get(f"{which}.{method}", MOST_INPUT[which])])
         p.look(name, xattrs, keys)
-        if r.random() < 0.025 and values:
-            p.put(name, xattrs, keys, r.choice(values))
-        if which == "hello" and r.random() < 0.1:
-            data = bytes(r.choice(b"abzAZ{`\xe1\xff ") for _ in range(r.choice((0, 1, 9, 100, 1100, 1200))))
-            object = p.objects.get(name) or Object()
-            object.data = data + object.data[len(data):]
-            p.objects[name] = object
-            p.ask(1, name, "obj write", bytes(8) + data, (len(data), b""))
+        if r.random() < 0.06 and values:
+            value = r.choice(values)
+            p.put(name, xattrs, keys, value(r) if callable(value) else value)
+        if r.random() < (0.1 if which == "hello" else 0.02):
+            p.write(name, bytes(r.choice(b"abzAZ{`\xe1\xff ") for _ in range(r.choice((0, 1, 9, 100, 1100, 1200)))))
+        if r.random() < (0.005 if xattrs else 0.003):
+            p.fill(name, not xattrs)
         if r.random() < 0.04 and p.objects.get(name):
             p.objects[name] = None
             p.ask(1, name, "obj remove", b"", (0, b""))
@@ -602,7 +761,7 @@ def play(which, calls):
 
 def compare(which, calls, program, work):
     """How many answers differ."""
-    p, images = play(which, calls), []
+    p, images = play(which, calls, on_bounds(which)), []
     for name, file in (("c", os.path.join(HERE, which + ".c")), ("probe", os.path.join(work, "probe.c"))):
         image = os.path.join(work, name + ".img")
         done = subprocess.run([sys.executable, os.path.join(TOP, "tools", "radoscls-cc"), file, "-o", image, "--radoscls", program], stdout=subprocess.PIPE, encoding="utf-8")

@@ -1,7 +1,8 @@
 #include <sillarnica/ceph.h>
 
 /* Ceph's class lock: the xattr "lock.NAME" holds { map of lockers, u8 type, string tag }, a locker's key being its entity and a
-   cookie. Left out: durations (-EOPNOTSUPP: a method has no time), the address of a locker, which is kept empty, and list_locks.
+   cookie. Left out: durations (-EOPNOTSUPP: a method has no time) and the address of a locker, which is kept empty. list_locks
+   takes rule set 3.
 
    The output is the memory that a method works in: the value as it is, and the value that it becomes. */
 #define LOCKERS 6
@@ -17,6 +18,8 @@
 #define OLD 0
 #define NEW (MASK + 1 + TEXT + 8)
 #define OUT_CAP (NEW + MASK + 1 + VALUE)
+#define XATTRS 32 /* that an object may have */
+#define NAMES_MASK 2047 /* more than the longest list of their names */
 #define INFO OUT_CAP /* what a locker has besides its key, while set_cookie moves it */
 #define INFO_SIZE 128
 
@@ -100,7 +103,7 @@ INLINE struct found find(const u8 *out, u64 size, u64 most, const struct locker 
 {
     struct found f;
     struct decoder d = decode_from(out + OLD, size, MASK);
-    decode_start(&d, 1);
+    struct part all = decode_start(&d, 1);
     f.count = decode_count(&d, most);
     f.one.at = f.other.at = d.at;
     f.one.size = f.other.size = 0;
@@ -128,6 +131,7 @@ INLINE struct found find(const u8 *out, u64 size, u64 most, const struct locker 
     f.end = d.at;
     f.type = decode_u8(&d);
     f.tag = decode_string(&d, TEXT, 127);
+    decode_finish(&d, all);
     f.error = d.error == -EINVAL ? -EIO : f.one.size > 511 ? -E2BIG : d.error;
     return f;
 }
@@ -233,6 +237,32 @@ METHOD(get_info, r, IN_CAP, OUT_CAP)
     return cls_out_len(size);
 }
 
+/* { list of names }, in the order of their bytes */
+METHOD(list_locks, r, IN_CAP, NAMES_MASK + 1 + 64)
+{
+    u8 name[64 + 5]; /* of an xattr: at first one that is below "lock." and above all others that are */
+    struct encoder e = {out, 0, NAMES_MASK};
+    u64 start = encode_start(&e, 1, 1), count_at = encode_place(&e, 4), count = 0;
+    s64 length = 64;
+    __builtin_memcpy(name, "lock-", 5);
+    __builtin_memset(name + 5, 255, 59);
+    UNROLL for (int i = 0; i < XATTRS; i++)
+        if (length > 0) {
+            length = cls_xattr_next(name, length, name, 64);
+            if (length >= 5 && *(const word32 *)name == 0x6b636f6c && name[4] == '.') { /* "lock." */
+                encode_string(&e, name + 5, length - 5, 8);
+                count++;
+            } else if (length != -ENOENT) {
+                length = 0;
+            }
+        }
+    if (length < 0)
+        return length;
+    *(word32 *)(out + count_at) = count;
+    encode_finish(&e, start);
+    return cls_out_len(encode_place(&e, 0));
+}
+
 /* A locker: { its key { u8 kind, s64 number, cookie }, { expiration, an address of its own encoding, description } } */
 INLINE void encode_locker(struct encoder *e, const struct locker *me, const u8 *in, struct span cookie, struct span text)
 {
@@ -291,7 +321,7 @@ METHOD(lock, rw, IN_CAP, OUT_CAP)
     if (others && (type != SHARED || f.type != SHARED))
         return -EBUSY;
     u64 at = f.one.at, left = f.end - at - gone;
-    if (others == LOCKERS || at + left + 65 + cookie.length + text.length + tag.length > VALUE)
+    if (others == LOCKERS || at + left + 61 + cookie.length + text.length + tag.length > VALUE)
         return -E2BIG;
     BOUND(at, MASK);
     BOUND(gone, 511);

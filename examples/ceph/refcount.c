@@ -57,6 +57,16 @@ INLINE s64 load(u8 *to, u64 is_implicit)
     return 14 + 5 * is_implicit;
 }
 
+/* The rest of a value: from version 2 on it has a set of retired tags. */
+INLINE void decode_rest(struct decoder *d, struct part all)
+{
+    u64 count = all.version < 2 ? 0 : decode_count(d, RETIRED);
+    UNROLL for (int i = 0; i < RETIRED; i++)
+        if (i < (int)count)
+            decode_string(d, TAG, 127);
+    decode_finish(d, all);
+}
+
 INLINE s64 of_value(s64 error)
 {
     return error == -EINVAL ? -EIO : error;
@@ -73,7 +83,7 @@ METHOD(get, rw, IN_CAP, OUT_CAP)
         return got;
     text_of(&tag, in + r.tag.at, r.tag.length);
     struct decoder d = decode_from(out + OLD, got, MASK);
-    decode_start(&d, 2);
+    struct part all = decode_start(&d, 2);
     u64 count = decode_count(&d, REFS), place = d.at, is_there = 0;
     UNROLL for (int i = 0; i < REFS; i++)
         if (i < (int)count) {
@@ -84,6 +94,7 @@ METHOD(get, rw, IN_CAP, OUT_CAP)
             if (order < 0)
                 place = d.at;
         }
+    decode_rest(&d, all);
     if (d.error)
         return of_value(d.error);
     u64 size = got, length = r.tag.length;
@@ -131,6 +142,7 @@ METHOD(put, rw, IN_CAP, OUT_CAP)
     /* version 1 has no set of retired tags */
     u64 set_at = d.at, retired = 0, is_retired = 0, size = got;
     if (all.version < 2) {
+        decode_finish(&d, all);
         BOUND(set_at, MASK);
         *(word32 *)(out + OLD + set_at) = 0;
         size = set_at + 4;
@@ -147,6 +159,8 @@ METHOD(put, rw, IN_CAP, OUT_CAP)
             if (order < 0)
                 place = d.at;
         }
+    if (all.version >= 2)
+        decode_finish(&d, all);
     if (d.error)
         return of_value(d.error);
     if (count == 0)
@@ -190,7 +204,7 @@ METHOD(read, r, IN_CAP, OUT_CAP)
     if (got < 0)
         return got;
     d = decode_from(out + NEW, got, MASK);
-    decode_start(&d, 2);
+    all = decode_start(&d, 2);
     struct encoder e = {out, 0, MASK};
     u64 count = decode_count(&d, REFS), start = encode_start(&e, 1, 1);
     encode_u32(&e, count);
@@ -200,6 +214,7 @@ METHOD(read, r, IN_CAP, OUT_CAP)
             decode_u8(&d);
             encode_string(&e, out + NEW + s.at, s.length, TAG / 8);
         }
+    decode_rest(&d, all);
     if (d.error)
         return of_value(d.error);
     encode_finish(&e, start);
