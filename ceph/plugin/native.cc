@@ -90,7 +90,7 @@ void native_class::open(const std::string &path) {
 // them.
 void native_class::find_methods() {
     reader in{{image.data(), image.size()}};
-    in.take(4);
+    bool has_heads = in.take(4).text() == "RCL3";
     uint64_t count = in.number(2);
     in.take(2);
     for (uint64_t i = 0; i < count; i++) {
@@ -98,6 +98,8 @@ void native_class::find_methods() {
         uint64_t flags = in.number(1);
         in.take(4);
         in.take(8 * in.number(2));
+        if (has_heads)
+            in.take(2);
         int32_t parts = sillarnica_needs(image.data(), image.size(), bytes_of(name), name.size());
         if (in.short_of || parts < 0 || methods.size() == SILLARNICA_METHODS) {
             refused = parts == SILLARNICA_NO_MEMORY ? "no memory" : "its methods can't be listed";

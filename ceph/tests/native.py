@@ -19,6 +19,7 @@ from osd import request
 
 
 LONG = bytes(range(256)) * 16
+LONGEST = (16 * LONG)[:65535]
 
 
 def number(value):
@@ -33,6 +34,7 @@ def rows():
     """A line each: what, the object, class, method, input, result, output, the object after."""
     text = Object(b"text", {b"x": b"1"}, {b"k": b"2"})
     counted = Object(b"", {}, {b"n": number(1)})
+    longest = Object(b"text", {b"x": b"x" * 4096}, {b"k": b"2"})
     written = Object(b"text", {b"x": b"1", b"new": b"v"}, {b"k": b"2"})
     return [
         ("a change of an absent object", None, "count", "count", b"", 1, number(1), counted),
@@ -54,6 +56,13 @@ def rows():
         ("a long answer of a change", text, "helpers", "reply", number(65), -105, b"", text),
         ("a name of the plug-in's", text, "helpers", "setxattr", setter(b"bpf.x"), -13, b"", text),
         ("an answer of over 16 KB", Object(), "helpers", "fill", LONG, 0, b"", Object(5 * LONG)),
+        ("rule set 3: the longest input and output", text, "third", "copy", LONGEST, 65535, LONGEST, text),
+        ("rule set 3: an input one byte past it", text, "third", "copy", LONGEST + b"\0", -22, b"", text),
+        ("rule set 3: the first xattr", text, "third", "next", b"", 1, b"x", text),
+        ("rule set 3: the last one", text, "third", "next", b"x", -61, b"", text),
+        ("rule set 3: two texts", text, "third", "order", b"\2ab".ljust(64, b"\0") + b"\2b", 1, b"", text),
+        ("rule set 3: a value that is too long", text, "third", "set", b"x" * 4097, -27, b"", text),
+        ("rule set 3: the longest value", text, "third", "set", b"x" * 4096, 0, b"", longest),
         ("an object that is too long", Object(bytes(65537)), "helpers", "stat", b"", -27, b"", Object(bytes(65537))),
     ]
 
@@ -252,7 +261,7 @@ def main(words):
     images = osd.images_in(words[0])
     tally, backend = osd.Tally(f"installed classes, {words[1]}"), osd.open_from(words[1:])
     try_rows(backend, tally)
-    wanted = {name: sum_of(images[name]).encode() + b" ok" for name in (b"helpers", b"count")}
+    wanted = {name: sum_of(images[name]).encode() + b" ok" for name in (b"helpers", b"count", b"third")}
     wanted[b"bpf"] = b"- ok"
     if words[1] == "stand-in":
         cut = images[b"helpers"][:40]
