@@ -179,8 +179,8 @@ start_monitor() {
     monmaptool --create --fsid "$fsid" --addv a "[$monitor]" "$dir/monmap" > /dev/null
     ceph-mon -c "$conf" --mkfs -i a --monmap "$dir/monmap" --keyring "$dir/keyring"
     daemon mon ceph-mon -c "$conf" -i a -f
-    answers() { ceph_within 20 mon stat > /dev/null 2>&1; }
-    await 120 answers
+    answers() { ceph_within 60 mon stat > /dev/null 2>&1; }
+    await 600 answers
 }
 
 start_osds() {
@@ -188,7 +188,7 @@ start_osds() {
     for number in 0 1 2; do
         mkdir "$dir/osd$number"
         id=$(cat /proc/sys/kernel/random/uuid)
-        ceph_within 20 osd new "$id" > /dev/null
+        ceph_within 120 osd new "$id" > /dev/null
         ceph-osd -c "$conf" -i "$number" --mkfs --osd-uuid "$id" > "$dir/log/mkfs.$number.out" 2>&1
         start_osd "$number"
     done
@@ -203,11 +203,11 @@ start() {
     start_monitor
     daemon mgr ceph-mgr -c "$conf" -i x -f
     start_osds
-    ceph_within 60 osd pool create bpf 16 16 replicated > /dev/null 2>&1
-    ceph_within 20 osd pool application enable bpf rados > /dev/null 2>&1
-    clean() { ceph_within 20 pg stat 2> /dev/null | grep -qE '^([0-9]+) pgs: \1 active\+clean;'; }
-    await 120 clean
-    echo "a cluster in $dir: $(ceph_within 20 osd stat)"
+    ceph_within 120 osd pool create bpf 16 16 replicated > /dev/null 2>&1
+    ceph_within 120 osd pool application enable bpf rados > /dev/null 2>&1
+    clean() { ceph_within 60 pg stat 2> /dev/null | grep -qE '^([0-9]+) pgs: \1 active\+clean;'; }
+    await 600 clean
+    echo "a cluster in $dir: $(ceph_within 60 osd stat)"
 }
 
 case $command$# in

@@ -2,6 +2,7 @@
 OSD's calls.
 """
 
+import faulthandler
 import importlib.machinery
 import importlib.util
 import os
@@ -9,6 +10,8 @@ import random
 import struct
 import subprocess
 import sys
+import threading
+import time
 
 sys.dont_write_bytecode = True
 here = os.path.dirname(os.path.abspath(__file__))
@@ -16,6 +19,7 @@ sys.path.insert(0, here)
 
 import model  # noqa: E402
 
+STALLED = 300  # seconds, in which a test's next call is answered, also on a machine that others use
 REPLY_LIMIT = 64  # osd_max_write_op_reply_len, as it is shipped
 
 
@@ -221,9 +225,19 @@ class Tally:
     """Counts what was as it should be, and tells what wasn't."""
 
     def __init__(self, title):
-        self.title, self.right, self.wrong = title, 0, 0
+        self.title, self.right, self.wrong, self.last = title, 0, 0, time.monotonic()
+        threading.Thread(target=self._watch, daemon=True).start()
+
+    def _watch(self):
+        """Ends a test that stands still as `timeout` does, and tells where its threads are."""
+        while time.monotonic() < self.last + STALLED:
+            time.sleep(1)
+        print(f"BAD  {self.title}: nothing was answered for {STALLED} seconds", flush=True)
+        faulthandler.dump_traceback()
+        os._exit(124)
 
     def want(self, what, found, wanted):
+        self.last = time.monotonic()
         if found == wanted:
             self.right += 1
         else:
