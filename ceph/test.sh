@@ -1,6 +1,7 @@
 #!/usr/bin/env bash
-# Tests the plug-in, as a package, in a real Ceph cluster of Debian's packages on 127.0.0.1. Some
-# ten minutes; the last line is `ok` or `failed`.
+# Tests the plug-in, as a package, in a real Ceph cluster of Debian's packages on 127.0.0.1, and the
+# classes of examples/ceph in place of Ceph's own in another one. Some twelve minutes; the last line is
+# `ok` or `failed`.
 #
 #     ceph/test.sh                 as root: it installs the packages that are missing, and the
 #                                  plug-in's own, which it removes again
@@ -14,7 +15,8 @@
 # Of the environment: that of ceph/build.sh, and RADOSCLS, the program
 # (crates/radoscls/out/radoscls). KEEP=1 keeps the folder. CHROOT is the folder of ceph/chroot.sh
 # (/var/tmp/sillarnica-chroot). PACKAGES is a folder of packages of the plug-in and of a class, which are
-# installed in place of those that are built.
+# installed in place of those that are built, PORTS one of the images of examples/ceph, which are made by
+# clang else.
 set -u
 here=$(cd "$(dirname "$0")" && pwd)
 top=$(dirname "$here")
@@ -23,7 +25,7 @@ export SILLARNICA_INCLUDE=${SILLARNICA_INCLUDE:-$top/include}
 export SILLARNICA_LIBC=${SILLARNICA_LIBC:-$(dirname "$(rt doc)")/c/liblibc_c.a}
 radoscls=${RADOSCLS:-$top/crates/radoscls/out/radoscls}
 work=$(mktemp -d /tmp/sillarnica-ceph.XXXXXX)
-cluster=$work/cluster libraries=/usr/lib/$(uname -m)-linux-gnu
+cluster=$work/cluster ported=$work/ported libraries=/usr/lib/$(uname -m)-linux-gnu
 folder=$libraries/rados-classes
 # Classes that are installed, and files in the folder that are none, besides `counter`, a package.
 natives=(helpers count lock.2 third) odd=(cut none bpf.old link)
@@ -43,6 +45,7 @@ other_release() {
     rm -rf "$to"
     mkdir -p "$to"
     cp -r "$here" "$top/docs" "$top/include" "$top/examples" "$top/LICENSE" "$top/VERSION" "$to"
+    RADOSCLS=$radoscls "$here/ports.sh" images "$to/ports" || exit 1
     cp "$SILLARNICA_ARCHIVE" "$SILLARNICA_LIBC" "$radoscls" "$to"
     "$here/package.sh" "$to/packages" && "$here/package.sh" "$to/packages" --class "$here/classes/counter.img" || exit 1
     trap 'umount "$root/dev" "$root/proc"; rm -rf "$to" "$work"' EXIT
@@ -51,7 +54,8 @@ other_release() {
     chroot "$root" env -i HOME=/root LANG=C.UTF-8 PATH=/usr/sbin:/usr/bin:/sbin:/bin \
         SILLARNICA_ARCHIVE="/srv/sillarnica/$(basename "$SILLARNICA_ARCHIVE")" \
         SILLARNICA_LIBC="/srv/sillarnica/$(basename "$SILLARNICA_LIBC")" SILLARNICA_INCLUDE=/srv/sillarnica/include \
-        RADOSCLS="/srv/sillarnica/$(basename "$radoscls")" PACKAGES=/srv/sillarnica/packages /srv/sillarnica/ceph/test.sh
+        RADOSCLS="/srv/sillarnica/$(basename "$radoscls")" PACKAGES=/srv/sillarnica/packages \
+        PORTS=/srv/sillarnica/ports /srv/sillarnica/ceph/test.sh
     exit
 }
 
@@ -66,6 +70,7 @@ finish() {
     trap - EXIT
     for job in $(jobs -p); do kill "$job" 2> /dev/null; done
     "$here/cluster.sh" stop "$cluster"
+    "$here/cluster.sh" stop "$ported/cluster"
     if [ -n "${installed-}" ]; then
         for name in "${natives[@]}"; do radosbpf uninstall "$name" > /dev/null 2>&1; done
         for name in "${odd[@]}" bpf; do rm -f "$folder/libcls_$name.so" "$folder/$name".{img,sent}; done
@@ -221,6 +226,19 @@ try_wrong() {
     RADOSCLS=$radoscls "$here/wrong.sh" > "$work/wrong" 2>&1
     want "plug-ins with a mistake" $? 0
     grep '^ok   .*fails$\|^BAD' "$work/wrong"
+}
+
+# The classes of examples/ceph in place of Ceph's own, in a cluster of their own.
+try_ports() {
+    local images=${PORTS-}
+    if [ -z "$images" ]; then
+        images=$work/ports
+        RADOSCLS=$radoscls "$here/ports.sh" images "$images" || stop_at "there are no images of examples/ceph"
+    fi
+    STORE=memstore timeout 1200 "$here/ports.sh" start "$ported" "$images" > "$work/log" 2>&1 || stop_at "no cluster for examples/ceph"
+    CEPH_CONF=$ported/cluster/ceph.conf test_of ports "$images" "$ported/cluster/ceph.conf" 150
+    want "daemons that failed an assertion" "$(grep -lE 'Caught signal|ceph_assert|suicide' "$ported"/cluster/log/*.log)" ""
+    "$here/cluster.sh" stop "$ported/cluster"
 }
 
 # What radosbpf says on an OSD's machine, and what it leaves in the folder of classes.
@@ -470,7 +488,7 @@ try_end() {
 [ "$(id -u)" = 0 ] || stop_at "it wants to be root"
 [ -x "$radoscls" ] || stop_at "there is no $radoscls"
 [ -f "$SILLARNICA_ARCHIVE" ] || stop_at "there is no $SILLARNICA_ARCHIVE"
-for step in install_packages make_images try_build install_package try_stand_in try_wrong try_demo try_install; do
+for step in install_packages make_images try_build install_package try_stand_in try_wrong try_demo try_ports try_install; do
     $step
 done
 for step in start_cluster try_rights try_command; do
