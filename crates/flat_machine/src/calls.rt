@@ -2,7 +2,8 @@
 
 ghost use Rattle.std.specs.Prelude.{◌≡◌, ◌<◌, IfOk};
 ghost use Rattle.bpf_machine.specs.Flat.{help};
-ghost use Rattle.flat_machine.specs.inner.FlatState.{caps_in, layout_in, flat_state, with_answer, GivesState, Answers, may_call, helped};
+ghost use Rattle.flat_machine.specs.StateView.{caps_in, layout_in, flat_state};
+ghost use Rattle.flat_machine.specs.inner.FlatState.{with_answer, GivesState, Answers, may_call, helped};
 
 mod arguments;
 mod changes;

@@ -3,6 +3,7 @@
 #![tactic(auto)]
 
 mod calls;
+mod entry;
 mod fields;
 mod layout;
 mod machine;
@@ -11,7 +12,12 @@ mod regions;
 mod rows;
 mod run;
 mod state;
+mod stepping;
 
+pub use entry::RunStart;
 pub use layout::{Layout, is_layout};
 pub use machine::Machine;
-pub use run::{Ending, RunStart, flat_run};
+pub use regions::Regions;
+pub use run::{Ending, flat_run};
+pub use state::FlatState;
+pub use stepping::Stepped;

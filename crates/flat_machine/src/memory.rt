@@ -4,8 +4,9 @@ ghost use Rattle.std.specs.Prelude.{◌≡◌, ◌<◌, ◌≤◌, ◌+◌, ◌^
 ghost use Rattle.bpf_machine.specs.State.{le_value, le_bytes, cells, written, put, size};
 ghost use Rattle.bpf_machine.specs.Helper.{write_room};
 ghost use Rattle.flat_machine.specs.View.{layout_of};
+ghost use Rattle.flat_machine.specs.StateView.{memory_of, caps_in, layout_in, flat_state};
 ghost use Rattle.bpf_machine.specs.Flat.{base, holds, find, range, load, load_signed, store, flat_after};
-ghost use Rattle.flat_machine.specs.inner.FlatState.{memory_of, caps_in, layout_in, flat_state, sets, GivesState};
+ghost use Rattle.flat_machine.specs.inner.FlatState.{sets, GivesState};
 
 use crate::machine::Machine;
 use crate::regions::Regions;
@@ -30,7 +31,7 @@ fn place_in(machine: &Machine, region: Region, at: u64, w: u64) -> Option<usize>
 }
 
 /// The one region that has all of the bytes at an address, and their place in it.
-fn find(machine: &Machine, at: u64, w: u64) -> Option<(Region, usize)>
+pub fn find(machine: &Machine, at: u64, w: u64) -> Option<(Region, usize)>
     ensures found { result ≡ find machine.now.caps (layout_of machine.now.layout) at w }
     ensures inside { IfSome result (λ p. p.1 + w ≤ size machine.now.caps p.0) }
 {

@@ -3,7 +3,8 @@
 ghost use Rattle.std.specs.Prelude.{◌≡◌, ◌<◌, ◌+◌, ◌*◌, ◌^◌, ℕ, IfOk};
 ghost use Rattle.bpf_machine.specs.State.{State};
 ghost use Rattle.bpf_machine.specs.Flat.{operand, operation_row, neg_row, mov_row, end_row, alu_row, mem_row, memsx_row, ldx_row, st_row, stx_row, wide_row, ja_row, ja32_row, branch_row, call_row, act, step, exit_code, at_base, width_of, store, flat_after};
-ghost use Rattle.flat_machine.specs.inner.FlatState.{caps_in, layout_in, flat_state, sets, sets_wide, GivesState};
+ghost use Rattle.flat_machine.specs.StateView.{caps_in, layout_in, flat_state};
+ghost use Rattle.flat_machine.specs.inner.FlatState.{sets, sets_wide, GivesState};
 
 use crate::calls::help;
 use crate::fields::{at_slot, signed_width_of, signed16, signed32, width_of};

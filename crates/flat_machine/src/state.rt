@@ -3,7 +3,8 @@
 ghost use Rattle.std.specs.Prelude.{◌≡◌, ◌<◌};
 ghost use Rattle.bpf_machine.specs.State.{reg, set_reg};
 ghost use Rattle.bpf_machine.specs.Helper.{answered};
-ghost use Rattle.flat_machine.specs.inner.FlatState.{flat_state, GivesState};
+ghost use Rattle.flat_machine.specs.StateView.{flat_state};
+ghost use Rattle.flat_machine.specs.inner.FlatState.{GivesState};
 
 use crate::regions::Regions;
 use txn::Staged;

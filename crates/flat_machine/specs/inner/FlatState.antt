@@ -8,25 +8,9 @@ use Rattle.helpers.specs.Table.{row, signature_of}
 use Rattle.bpf_machine.specs.declared.caps.Caps.{Caps}
 use Rattle.flat_machine.specs.declared.run.Stop.{Stop}
 use Rattle.flat_machine.specs.declared.run.Stop.TheVariants as stops
-use Rattle.flat_machine.specs.declared.regions.Regions.{Regions}
-use Rattle.flat_machine.specs.declared.state.FlatState.{FlatState}
-use Rattle.bpf_machine.specs.State.{◌>>=◌, Memory, State, reg, set_reg, go, after, outcome_of, Ending, Ended, Stuck, Unfinished}
+use Rattle.bpf_machine.specs.State.{◌>>=◌, State, reg, set_reg, go, after, outcome_of, Ending, Ended, Stuck, Unfinished}
 use Rattle.bpf_machine.specs.Helper.{asked, answered, write_room}
 use Rattle.bpf_machine.specs.Flat.{Layout, range, arguments}
-use Rattle.flat_machine.specs.View.{layout_of}
-
-abbrev pub memory_of : Regions → Memory
-memory_of m = record { input = m.input.items; output = m.output.items; stack = m.stack.items }
-
-abbrev pub flat_state : FlatState → State ℕ
-flat_state s = record { slot = s.slot; regs = s.regs; memory = memory_of s.memory; object = s.object.after; out_len = s.out_len; caller = s.caller }
-
--- what the machine of a state's method declares, and where it has its regions
-abbrev pub caps_in : FlatState → Caps
-caps_in s = s.memory.machine.caps
-
-abbrev pub layout_in : FlatState → Layout
-layout_in s = layout_of s.memory.machine.layout
 
 -- what a step left, as the definition has it; if there is none, nothing is said of the state
 abbrev pub GivesState : {A : Type 0} → Option A → State ℕ → Option (State ℕ) → Type 0

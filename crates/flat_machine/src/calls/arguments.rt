@@ -5,7 +5,8 @@ ghost use Rattle.std.specs.Option.{option_map};
 ghost use Rattle.bpf_machine.specs.State.{size};
 ghost use Rattle.bpf_machine.specs.Helper.{nothing_given, with_number, with_text, with_room, bytes_in};
 ghost use Rattle.bpf_machine.specs.Flat.{arguments};
-ghost use Rattle.flat_machine.specs.inner.FlatState.{memory_of, caps_in, layout_in, flat_state, range_at};
+ghost use Rattle.flat_machine.specs.StateView.{memory_of, caps_in, layout_in, flat_state};
+ghost use Rattle.flat_machine.specs.inner.FlatState.{range_at};
 
 use crate::memory::{range, region_bytes};
 use crate::regions::Regions;

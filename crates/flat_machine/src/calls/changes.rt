@@ -1,7 +1,8 @@
 //! The helpers that change the object, on plain addresses.
 
 ghost use Rattle.std.specs.Prelude.{◌≡◌, IfOk};
-ghost use Rattle.flat_machine.specs.inner.FlatState.{caps_in, layout_in, flat_state, Answers, helped};
+ghost use Rattle.flat_machine.specs.StateView.{caps_in, layout_in, flat_state};
+ghost use Rattle.flat_machine.specs.inner.FlatState.{Answers, helped};
 
 use crate::calls::arguments::{number_and_text, one_text, text_in, two_texts};
 use crate::state::{FlatState, get};

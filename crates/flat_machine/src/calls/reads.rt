@@ -3,7 +3,8 @@
 ghost use Rattle.std.specs.Prelude.{◌≡◌, ◌+◌, ◌≤◌, ◌<◌, length, IfOk};
 ghost use Rattle.helpers.specs.Table.{read_answer};
 ghost use Rattle.bpf_machine.specs.State.{written, put, size};
-ghost use Rattle.flat_machine.specs.inner.FlatState.{memory_of, caps_in, layout_in, flat_state, Answers, helped};
+ghost use Rattle.flat_machine.specs.StateView.{memory_of, caps_in, layout_in, flat_state};
+ghost use Rattle.flat_machine.specs.inner.FlatState.{Answers, helped};
 
 use crate::calls::arguments::{
     Range, number_and_room, room_and_text, text_and_room, text_in, two_texts,

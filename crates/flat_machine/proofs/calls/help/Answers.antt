@@ -1,7 +1,8 @@
 use Rattle.std.proofs.Common.{◌≡◌, Some, true, ap, sym, subst, ◌∙◌, arith}
 use Rattle.std.proofs.lemmas.Grind.{common_steps}
 use Rattle.helpers.specs.Table.{helper_of}
-use Rattle.flat_machine.specs.inner.FlatState.{caps_in, layout_in, flat_state, Answers, may_call, helped}
+use Rattle.flat_machine.specs.StateView.{caps_in, layout_in, flat_state}
+use Rattle.flat_machine.specs.inner.FlatState.{Answers, may_call, helped}
 use Rattle.flat_machine.proofs.Table.{help_is}
 use Rattle.flat_machine.proofs.calls.help.Goals as goal
 

@@ -1,6 +1,6 @@
 use Rattle.std.proofs.Common.{ℕ, List, ap, ◌∙◌, sym}
 use Rattle.bpf_machine.specs.State.{Memory, put}
-use Rattle.flat_machine.specs.inner.FlatState.{memory_of}
+use Rattle.flat_machine.specs.StateView.{memory_of}
 use Rattle.flat_machine.proofs.memory.put_bytes.Goals as goal
 
 abbrev memory : List ℕ → List ℕ → List ℕ → Memory

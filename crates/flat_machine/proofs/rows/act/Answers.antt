@@ -1,7 +1,8 @@
 use Rattle.std.proofs.Common.{sym, subst, arith}
 use Rattle.std.proofs.lemmas.Grind.{common_steps}
 use Rattle.std.specs.Prelude.{IfOk}
-use Rattle.flat_machine.specs.inner.FlatState.{caps_in, layout_in, flat_state, GivesState}
+use Rattle.flat_machine.specs.StateView.{caps_in, layout_in, flat_state}
+use Rattle.flat_machine.specs.inner.FlatState.{GivesState}
 use Rattle.flat_machine.proofs.Row.{of_class, of_opcode}
 use Rattle.flat_machine.proofs.rows.act.Goals as goal
 

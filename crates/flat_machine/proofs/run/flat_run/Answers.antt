@@ -4,7 +4,7 @@ use Rattle.std.specs.Prelude.{IfOk}
 use Rattle.std.specs.Option.{option_copied}
 use Rattle.bpf_machine.specs.Flat.{run}
 use Rattle.flat_machine.specs.View.{layout_of, ending_of}
-use Rattle.flat_machine.specs.inner.FlatState.{flat_state}
+use Rattle.flat_machine.specs.StateView.{flat_state}
 use Rattle.flat_machine.proofs.run.flat_run.Goals as goal
 
 pub returns : goal.returns

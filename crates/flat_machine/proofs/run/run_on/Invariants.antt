@@ -1,6 +1,6 @@
 use Rattle.std.proofs.Common.{◌≡◌, ◌-◌}
 use Rattle.bpf_machine.specs.Flat.{run}
-use Rattle.flat_machine.specs.inner.FlatState.{caps_in, layout_in, flat_state}
+use Rattle.flat_machine.specs.StateView.{caps_in, layout_in, flat_state}
 use Rattle.flat_machine.proofs.Going.{steps_more}
 use Rattle.flat_machine.proofs.run.run_on.Given as goal
 

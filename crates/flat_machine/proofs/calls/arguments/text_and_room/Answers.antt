@@ -1,6 +1,6 @@
 use Rattle.std.proofs.Common.{Some, None, true, false}
 use Rattle.bpf_machine.specs.Helper.{nothing_given, with_text, with_room, bytes_in}
-use Rattle.flat_machine.specs.inner.FlatState.{caps_in, layout_in, flat_state}
+use Rattle.flat_machine.specs.StateView.{caps_in, layout_in, flat_state}
 use Rattle.flat_machine.proofs.Ranges.{two_ranges}
 use Rattle.flat_machine.proofs.calls.arguments.text_and_room.Goals as goal
 

@@ -1,7 +1,7 @@
 use Rattle.std.proofs.Common.{ℕ, List, ap, ◌∙◌, sym}
 use Rattle.helpers.specs.Table.{read_answer}
 use Rattle.bpf_machine.specs.State.{Memory, put}
-use Rattle.flat_machine.specs.inner.FlatState.{memory_of}
+use Rattle.flat_machine.specs.StateView.{memory_of}
 use Rattle.flat_machine.proofs.calls.reads.read_into.Goals as goal
 
 abbrev memory : List ℕ → List ℕ → List ℕ → Memory

@@ -1,7 +1,7 @@
 use Rattle.std.proofs.Common.{◌≡◌, ℕ, ◌-◌, List, ◌++◌, length, ap, ◌∙◌}
 use Rattle.std.specs.Prelude.{replicate}
 use Rattle.bpf_machine.specs.State.{Memory}
-use Rattle.flat_machine.proofs.run.opening.Goals as goal
+use Rattle.flat_machine.proofs.entry.opening.Goals as goal
 
 abbrev memory : List ℕ → List ℕ → List ℕ → Memory
 memory input output stack = record { input = input; output = output; stack = stack }
