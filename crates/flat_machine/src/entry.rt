@@ -1,3 +1,5 @@
+//! How a run of the flat machine begins.
+
 ghost use Rattle.std.specs.Prelude.{◌≡◌, ◌≤◌, ◌-◌, ◌++◌, length, replicate, IfOk};
 ghost use Rattle.std.specs.Option.{option_copied};
 ghost use Rattle.bpf_machine.specs.State.{opening};

@@ -1,3 +1,5 @@
+//! One step of the flat machine, and what can be read of its state.
+
 ghost use Rattle.std.specs.Prelude.{◌≡◌, IfOk};
 ghost use Rattle.bpf_machine.specs.State.{reg, cells};
 ghost use Rattle.bpf_machine.specs.Flat.{step, exit_code};

@@ -10,6 +10,8 @@ mod flat_limits;
 #[cfg(test)]
 mod flat_objects;
 #[cfg(test)]
+mod frames;
+#[cfg(test)]
 mod helper_calls;
 #[cfg(test)]
 mod host;

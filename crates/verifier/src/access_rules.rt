@@ -1,4 +1,5 @@
 //! What the rules ask of loads and stores, by the place that an access has in its region.
+
 ghost use Rattle.std.specs.Prelude.{◌≡◌};
 ghost use Rattle.verifier.specs.Rules.{load_meets, leaves, access_leaves, stores_read_only, is_slot, loads_unset, loads_pointer};
 ghost use Rattle.abstract_regs.specs.Frame.{kind_at};
