@@ -52,7 +52,7 @@ module _ (caps : Caps) (lay : Layout) where
         by_exit (Some v) e = absurd (none-some t (sym (exit_stops code s v e) ∙ st))
 
     -- on the way to an exit no state is stuck
-    never : (k n : ℕ) (s last t : State ℕ) (v : ℕ) → Chain caps lay code k s last → exit_code code last ≡ Some v → Chain caps lay code n s t → IsStuck caps lay code t → ⊥
+    pub never : (k n : ℕ) (s last t : State ℕ) (v : ℕ) → Chain caps lay code k s last → exit_code code last ≡ Some v → Chain caps lay code n s t → IsStuck caps lay code t → ⊥
     never zero zero s last t v at_end is here stuck =
         let e : exit_code code t ≡ Some v = subst (λ x. exit_code code x ≡ Some v) (sym at_end ∙ here) is in
         none-some v (sym stuck.no_exit ∙ e)
@@ -70,7 +70,7 @@ module _ (caps : Caps) (lay : Layout) where
       abbrev Claim : ℕ → State ℕ → Outcome → ℕ → Type 0
       Claim n s o k = (k ≤ n) × EndsAtExit caps lay code before s o k
 
-      ends_here : (s : State ℕ) (o : Outcome) (k : ℕ) (v : ℕ) → exit_code code s ≡ Some v → o ≡ outcome_of before v s → 1 ≡ k → EndsAtExit caps lay code before s o k
+      unfoldable pub ends_here : (s : State ℕ) (o : Outcome) (k : ℕ) (v : ℕ) → exit_code code s ≡ Some v → o ≡ outcome_of before v s → 1 ≡ k → EndsAtExit caps lay code before s o k
       ends_here s o k v is e one = record {
         before_exit = 0;
         counted = one;
@@ -82,7 +82,7 @@ module _ (caps : Caps) (lay : Layout) where
         never_stuck = λ n t way stuck. never 0 n s s t v refl is way stuck;
       }
 
-      ends_later : (s t : State ℕ) (o : Outcome) (j k : ℕ) → step caps lay code s ≡ Some t → suc j ≡ k → EndsAtExit caps lay code before t o j → EndsAtExit caps lay code before s o k
+      unfoldable pub ends_later : (s t : State ℕ) (o : Outcome) (j k : ℕ) → step caps lay code s ≡ Some t → suc j ≡ k → EndsAtExit caps lay code before t o j → EndsAtExit caps lay code before s o k
       ends_later s t o j k st counts e = record {
         before_exit = suc e.before_exit;
         counted = ap suc e.counted ∙ counts;

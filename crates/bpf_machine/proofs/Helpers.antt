@@ -11,7 +11,8 @@ use Rattle.bpf_machine.specs.declared.caps.Caps.{Caps}
 use Rattle.helpers.specs.declared.argument.Argument.{Argument}
 use Rattle.helpers.specs.declared.argument.Argument.TheVariants.{Number, OutputLength, Readable, Writable}
 use Rattle.helpers.specs.Table.{signature_of, effect}
-use Rattle.bpf_machine.specs.State.{◌>>=◌, only, may_store, size}
+use Rattle.helpers.specs.Edits.{edits}
+use Rattle.bpf_machine.specs.State.{◌>>=◌, only, may_store, size, with_edits}
 use Rattle.bpf_machine.specs.Helper.{nothing_given, with_number, with_text, with_room, asked, bytes_in, write_room}
 use Rattle.bpf_machine.specs.Flat.{Layout, IsLayout, base, find, range, arguments, help}
 use Rattle.bpf_machine.specs.Typed.{Typed, locate, typed_range, typed_text, typed_arguments, typed_help, address, image_memory, image}
@@ -66,5 +67,5 @@ module _ (caps : Caps) (lay : Layout) (ok : IsLayout caps lay) where
       sim_bind Any same Any (image lay) _ _ _ _ (arguments_sim s takes.arguments 1) (λ given _ _.
       let e = effect id s.object (asked given) in
       sim_some Any (image lay) _ _ tt
-      (ap (λ regs. record { slot = s.slot; regs = Some e.answer ∷ None ∷ None ∷ None ∷ None ∷ None ∷ regs; memory = write_room (image_memory lay s.memory) given.target e.bytes; object = e.object; out_len = unwrap_or e.out_len s.out_len; caller = s.caller }) (drop-map (option_map (address lay)) 6 s.regs)
-      ∙ ap (λ memory. record { slot = s.slot; regs = Some e.answer ∷ None ∷ None ∷ None ∷ None ∷ None ∷ map (option_map (address lay)) (drop 6 s.regs); memory = memory; object = e.object; out_len = unwrap_or e.out_len s.out_len; caller = s.caller }) (room_image lay s.memory given.target e.bytes)))))
+      (ap (λ regs. record { slot = s.slot; regs = Some e.answer ∷ None ∷ None ∷ None ∷ None ∷ None ∷ regs; memory = write_room (image_memory lay s.memory) given.target e.bytes; object = e.object; out_len = unwrap_or e.out_len s.out_len; caller = s.caller; edits = with_edits (edits id s.object (asked given)) s.edits }) (drop-map (option_map (address lay)) 6 s.regs)
+      ∙ ap (λ memory. record { slot = s.slot; regs = Some e.answer ∷ None ∷ None ∷ None ∷ None ∷ None ∷ map (option_map (address lay)) (drop 6 s.regs); memory = memory; object = e.object; out_len = unwrap_or e.out_len s.out_len; caller = s.caller; edits = with_edits (edits id s.object (asked given)) s.edits }) (room_image lay s.memory given.target e.bytes)))))

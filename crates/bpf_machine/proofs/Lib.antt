@@ -17,3 +17,5 @@ pub mod Bytes
 pub mod Kept
 pub mod Ranges
 pub mod StackSlots
+pub mod Unlisted
+pub mod Listed

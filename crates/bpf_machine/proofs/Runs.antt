@@ -70,9 +70,9 @@ whole_plus : (b o : ℕ) → b + o < 2 ^ 64 → (b + o) % 2 ^ 64 ≡ b + o
 whole_plus b o h = mod-eq_of_lt h
 
 abbrev entry_at : Memory → PlainObject → ℕ → List ℕ → ℕ → ℕ → ℕ → State ℕ
-entry_at m object caller input x y z = record { slot = 0; regs = entry_regs x (length input) y z; memory = m; object = object; out_len = 0; caller = caller }
+entry_at m object caller input x y z = record { slot = 0; regs = entry_regs x (length input) y z; memory = m; object = object; out_len = 0; caller = caller; edits = None }
 
-entry_image : (caps : Caps) (lay : Layout) → IsLayout caps lay → (object : PlainObject) (caller : ℕ) (input : List ℕ) → image lay (typed_entry caps object caller input) ≡ entry caps lay object caller input
+pub entry_image : (caps : Caps) (lay : Layout) → IsLayout caps lay → (object : PlainObject) (caller : ℕ) (input : List ℕ) → image lay (typed_entry caps object caller input) ≡ entry caps lay object caller input
 entry_image caps lay ok object caller input =
     let a : (lay.input + 0) % 2 ^ 64 ≡ lay.input = whole_plus lay.input 0 (omega (arith, ok.fits Input)) ∙ omega arith in
     let b : (lay.output + 0) % 2 ^ 64 ≡ lay.output = whole_plus lay.output 0 (omega (arith, ok.fits Output)) ∙ omega arith in

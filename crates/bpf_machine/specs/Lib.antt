@@ -1,7 +1,7 @@
 -- A reader must believe State, Helper, Jump, Flat and Safe: what a run is, and what safe means
 -- (what operations compute stands in bpf_decode's Arithmetic, what helpers do in helpers' Table,
--- what an object is in object_store's Object). Address, Within and the laws of Safe are proved of
--- these. Typed and Decoded are the machine on decoded instructions, on which the crates above
+-- what an object is in object_store's Object). Lists says which
+-- edits a run leaves. Address, Within and the laws of Safe and Lists are proved of these. Typed and Decoded are the machine on decoded instructions, on which the crates above
 -- build; what Slots says of Typed's stack is proved.
 pub mod State
 pub mod Helper
@@ -11,5 +11,6 @@ pub mod Typed
 pub mod Slots
 pub mod Decoded
 pub mod Safe
+pub mod Lists
 pub mod Address
 pub mod Within

@@ -2,10 +2,11 @@
 
 ghost use Rattle.bpf_machine.specs.Safe.{Simulates, EndsAlwaysIsSafe, RunsAreChains, StuckRunsAreChains, UnfinishedRunsAreChains, BytesAreInstructions, ElsewhereIsStuck, HasLayout, OutcomesAreOne};
 ghost use Rattle.bpf_machine.specs.Address.{PlacesAreAddresses, NoByteElsewhere, LoadsAreOfAddresses, SignedLoadsAreOfAddresses, StoresAreAtAddresses, RangesAreOfAddresses, RoomsAreAtAddresses, OpeningIsAtAddresses};
+ghost use Rattle.bpf_machine.specs.Lists.{EndsHaveLists, ListsAreOne};
 ghost use Rattle.bpf_machine.specs.Slots.{SlotsHaveValues, SlotsBeginAtZero, NumbersAreRead, BytesAreWritten, PlacesAreWritten, NumbersAreTheirBytes};
 ghost use Rattle.bpf_machine.specs.Within.{OutcomesAreWithinLimits, CallsAreWithinLimits};
 
-use helpers::effects_are_within_limits;
+use helpers::{edits_lead, effects_are_within_limits};
 
 /// A law, proved when the crate is checked; a call does nothing. If the typed machine's run of a
 /// method's instructions ends, the flat machine's run of their bytes ends with the same outcome,
@@ -84,4 +85,14 @@ pub fn limits_are_kept()
 {
     // For the proof: each helper keeps an object within all limits.
     effects_are_within_limits();
+}
+
+/// A law. A method whose typed run ends leaves a list of edits, which is one for all layouts; they
+/// make of the object before the object after, and none of them is refused.
+pub fn lists()
+    ensures ends { EndsHaveLists }
+    ensures one { ListsAreOne }
+{
+    // For the proof: so do the edits of each helper.
+    edits_lead();
 }

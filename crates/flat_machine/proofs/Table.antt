@@ -3,9 +3,10 @@ use Rattle.std.proofs.Common.{◌≡◌, ℕ, Option, Some, None, true, false, a
 use Rattle.std.specs.Prelude.{◌||◌, not, unwrap_or}
 use Rattle.std.specs.Option.{option_map}
 use Rattle.helpers.specs.declared.helper.Helper.{Helper}
+use Rattle.helpers.specs.Edits.{edits_of}
 use Rattle.helpers.specs.Table.{row, helper_of, effect_of}
 use Rattle.bpf_machine.specs.declared.caps.Caps.{Caps}
-use Rattle.bpf_machine.specs.State.{◌>>=◌, only, State}
+use Rattle.bpf_machine.specs.State.{◌>>=◌, only, State, with_edits}
 use Rattle.bpf_machine.specs.Helper.{asked, answered, write_room}
 use Rattle.bpf_machine.specs.Flat.{Layout, arguments, help}
 use Rattle.flat_machine.specs.inner.FlatState.{may_call, helped}
@@ -16,7 +17,7 @@ module _ (caps : Caps) (lay : Layout) (s : State ℕ) where
   help_of o =
       option_map (λ k. (row k).takes) o >>= λ takes. only (not takes.writes || caps.writes) (arguments caps lay s takes.arguments 1 >>= λ g.
       let f = effect_of o s.object (asked g) in
-      Some (record { slot = s.slot; regs = answered s.regs f.answer; memory = write_room s.memory g.target f.bytes; object = f.object; out_len = unwrap_or f.out_len s.out_len; caller = s.caller }))
+      Some (record { slot = s.slot; regs = answered s.regs f.answer; memory = write_room s.memory g.target f.bytes; object = f.object; out_len = unwrap_or f.out_len s.out_len; caller = s.caller; edits = with_edits (edits_of o s.object (asked g)) s.edits }))
 
   -- where it may, its row says what it does
   pub help_is : (id : ℕ) (h : Helper) → may_call caps id ≡ true → helper_of id ≡ Some h → help caps lay id s ≡ helped caps lay h s

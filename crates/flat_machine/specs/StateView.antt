@@ -9,11 +9,13 @@ use Rattle.bpf_machine.specs.State.{◌>>=◌, Memory, State, cells}
 use Rattle.bpf_machine.specs.Flat.{Layout, find}
 use Rattle.flat_machine.specs.View.{layout_of}
 
+-- the regions' bytes
 abbrev pub memory_of : Regions → Memory
 memory_of m = record { input = m.input.items; output = m.output.items; stack = m.stack.items }
 
+-- the state of the definition, which keeps no list of edits
 abbrev pub flat_state : FlatState → State ℕ
-flat_state s = record { slot = s.slot; regs = s.regs; memory = memory_of s.memory; object = s.object.after; out_len = s.out_len; caller = s.caller }
+flat_state s = record { slot = s.slot; regs = s.regs; memory = memory_of s.memory; object = s.object.after; out_len = s.out_len; caller = s.caller; edits = None }
 
 -- what the machine of a state's method declares, and where it has its regions
 abbrev pub caps_in : FlatState → Caps
@@ -22,7 +24,7 @@ caps_in s = s.memory.machine.caps
 abbrev pub layout_in : FlatState → Layout
 layout_in s = layout_of s.memory.machine.layout
 
--- the byte at an address, where that is in a region
+-- the byte at an address, if that is in a region
 abbrev pub byte_at : Caps → Layout → State ℕ → ℕ → Option ℕ
 byte_at caps lay s at = find caps lay at 1 >>= λ p. slice_get (cells s.memory p.0) p.1
 

@@ -15,10 +15,12 @@ use Rattle.object_store.specs.Object.{PlainObject, part}
 use Rattle.helpers.specs.declared.argument.Argument.{Argument}
 use Rattle.helpers.specs.declared.argument.Argument.TheVariants.{Number, OutputLength, Readable, Writable}
 use Rattle.helpers.specs.declared.helper.Helper.{Helper}
+use Rattle.txn.specs.Edits.{Edit}
+use Rattle.helpers.specs.Edits.{helper_edits, edits_of}
 use Rattle.helpers.specs.Effect as table
 use Rattle.helpers.specs.Table.{row, helper_of, effect_of}
 use Rattle.bpf_machine.specs.declared.caps.Caps.{Caps}
-use Rattle.bpf_machine.specs.State.{◌>>=◌, only, le_value, le_bytes, cells, put, may_store, State, reg, set_reg, go}
+use Rattle.bpf_machine.specs.State.{◌>>=◌, only, le_value, le_bytes, cells, put, may_store, State, reg, set_reg, go, with_edits}
 use Rattle.bpf_machine.specs.Helper.{Given, with_number, with_text, with_room, asked, answered, bytes_in, write_room}
 use Rattle.bpf_machine.specs.Flat.{Layout, find, range, load, load_signed, store, arguments, help, flat_after}
 use Rattle.bpf_machine.specs.Typed.{extended}
@@ -33,9 +35,9 @@ MayDo kept creates (Call id) = (h : Helper) → helper_of id ≡ Some h → MayC
 MayDo kept creates i = Unit {0}
 
 module _ (kept : Parts) (whole : PlainObject) (creates : Bool) where
-  -- the state with the whole object
+  -- the state with the whole object, which keeps no list of edits
   abbrev pub lift : State ℕ → State ℕ
-  lift s = record s { object = restored kept whole s.object }
+  lift s = record s { object = restored kept whole s.object; edits = None }
 
   -- where one comes out, the other comes out too, with the whole object
   pub record Lifts (a b : Option (State ℕ)) : Type 0 where
@@ -122,24 +124,24 @@ module _ (caps : Caps) (lay : Layout) (kept : Parts) (whole : PlainObject) (crea
       ap (λ (o : Option Given). reg s k >>= λ at. reg s (k + 1) >>= λ n. range caps lay true at n >>= λ p. o >>= λ g. Some (with_room n p g)) (arguments_same s more (k + 2))
 
   -- the state that an effect leaves
-  abbrev done : State ℕ → Given → table.Effect → State ℕ
-  done s g e =
-      record { slot = s.slot; regs = answered s.regs e.answer; memory = write_room s.memory g.target e.bytes; object = e.object; out_len = unwrap_or e.out_len s.out_len; caller = s.caller }
+  abbrev done : State ℕ → Given → table.Effect → List Edit → State ℕ
+  done s g e es =
+      record { slot = s.slot; regs = answered s.regs e.answer; memory = write_room s.memory g.target e.bytes; object = e.object; out_len = unwrap_or e.out_len s.out_len; caller = s.caller; edits = with_edits es s.edits }
 
-  done_lifts : (s : State ℕ) (g : Given) (e f : table.Effect) → Matches kept whole creates e f → L (Some (done s g e)) (Some (done (up s) g f))
-  done_lifts s g e f m =
-      subst (λ (x : table.Effect). L (Some (done s g e)) (Some (done (up s) g x))) (sym m.same) (lifts_some kept whole creates (done s g e) m.good)
+  done_lifts : (s : State ℕ) (g : Given) (e f : table.Effect) (es fs : List Edit) → Matches kept whole creates e f → L (Some (done s g e es)) (Some (done (up s) g f fs))
+  done_lifts s g e f es fs m =
+      subst (λ (x : table.Effect). L (Some (done s g e es)) (Some (done (up s) g x fs))) (sym m.same) (lifts_some kept whole creates (done s g e es) m.good)
 
   -- a helper by its id
   help_by : (s : State ℕ) (o : Option Helper) → ((h : Helper) → o ≡ Some h → MayCall kept creates h) → Good s →
-      L (option_map (λ h. (row h).takes) o >>= λ takes. only (not takes.writes || caps.writes) (arguments caps lay s takes.arguments 1 >>= λ g. Some (done s g (effect_of o s.object (asked g)))))
-      (option_map (λ h. (row h).takes) o >>= λ takes. only (not takes.writes || caps.writes) (arguments caps lay (up s) takes.arguments 1 >>= λ g. Some (done (up s) g (effect_of o (restored kept whole s.object) (asked g)))))
+      L (option_map (λ h. (row h).takes) o >>= λ takes. only (not takes.writes || caps.writes) (arguments caps lay s takes.arguments 1 >>= λ g. Some (done s g (effect_of o s.object (asked g)) (edits_of o s.object (asked g)))))
+      (option_map (λ h. (row h).takes) o >>= λ takes. only (not takes.writes || caps.writes) (arguments caps lay (up s) takes.arguments 1 >>= λ g. Some (done (up s) g (effect_of o (restored kept whole s.object) (asked g)) (edits_of o (restored kept whole s.object) (asked g)))))
   help_by s None may g = lifts_none kept whole creates None
   help_by s (Some h) may good =
       let args = (row h).takes.arguments in
       lifts_only kept whole creates (not (row h).takes.writes || caps.writes) _ _
-      (subst (λ (o : Option Given). L (arguments caps lay s args 1 >>= λ g. Some (done s g ((row h).effect s.object (asked g)))) (o >>= λ g. Some (done (up s) g ((row h).effect (restored kept whole s.object) (asked g))))) (sym (arguments_same s args 1))
-      (lifts_bind kept whole creates (arguments caps lay s args 1) _ _ (λ g. done_lifts s g _ _ (matches kept whole creates h s.object (asked g) (may h refl) good))))
+      (subst (λ (o : Option Given). L (arguments caps lay s args 1 >>= λ g. Some (done s g ((row h).effect s.object (asked g)) (helper_edits h s.object (asked g)))) (o >>= λ g. Some (done (up s) g ((row h).effect (restored kept whole s.object) (asked g)) (helper_edits h (restored kept whole s.object) (asked g))))) (sym (arguments_same s args 1))
+      (lifts_bind kept whole creates (arguments caps lay s args 1) _ _ (λ g. done_lifts s g _ _ (helper_edits h s.object (asked g)) (helper_edits h (restored kept whole s.object) (asked g)) (matches kept whole creates h s.object (asked g) (may h refl) good))))
 
   helps : (s : State ℕ) (id : ℕ) → ((h : Helper) → helper_of id ≡ Some h → MayCall kept creates h) → Good s → L (help caps lay id s) (help caps lay id (up s))
   helps s id may g = help_by s (helper_of id) may g

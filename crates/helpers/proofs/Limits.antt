@@ -108,12 +108,12 @@ effect_present : (room : ℕ) (object : PlainObject) (effect : Content → Effec
 effect_present room None effect h = left room None _ tt (none_copied room _)
 effect_present room (Some o) effect h = h o refl
 
-not_not : (b : Bool) → not b ≡ false → b ≡ true
+pub not_not : (b : Bool) → not b ≡ false → b ≡ true
 not_not true e = refl
 not_not false e = absurd (cc)
 
 -- what is set where there is a place for it
-set_in_is : (limit : ℕ) (m : Attributes) (name value : List ℕ) → is_full limit m name ≡ false → calls.set_in limit m name value ≡ Ok (fin.insert m name value)
+pub set_in_is : (limit : ℕ) (m : Attributes) (name value : List ℕ) → is_full limit m name ≡ false → calls.set_in limit m name value ≡ Ok (fin.insert m name value)
 set_in_is limit m name value e = by (is_some (fin.get m name)) (nat_lt (fin.len m) limit) refl refl e
   where
     by : (a b : Bool) → is_some (fin.get m name) ≡ a → nat_lt (fin.len m) limit ≡ b → (not a && not b) ≡ false → (if is_some (fin.get m name) then Ok (fin.insert m name value) else if nat_lt (fin.len m) limit then Ok (fin.insert m name value) else Err TooMany) ≡ Ok (fin.insert m name value)
@@ -124,7 +124,7 @@ set_in_is limit m name value e = by (is_some (fin.get m name)) (nat_lt (fin.len 
     by false false p q f = absurd (cc)
 
 -- a change that passes two tests
-two_tests : (a b : Bool) (r : Result Content StoreError) → a ≡ true → b ≡ false → (if a then if b then Err TooBig else r else Err Range) ≡ r
+pub two_tests : (a b : Bool) (r : Result Content StoreError) → a ≡ true → b ≡ false → (if a then if b then Err TooBig else r else Err Range) ≡ r
 two_tests a b r p q = ap (λ x. if x then if b then Err TooBig else r else Err Range) p ∙ ap (λ x. if x then Err TooBig else r) q
 
 pub record Laws : Type 0 where

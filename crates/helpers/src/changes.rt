@@ -1,6 +1,8 @@
 //! The helpers that change the object.
 
-ghost use Rattle.std.specs.Prelude.{◌≡◌, IfOk, OnErr};
+ghost use Rattle.std.specs.Prelude.{◌≡◌, ◌∷◌, [], IfOk, OnErr};
+ghost use Rattle.txn.specs.Edits.{Remove, SetXattr, RemoveXattr, SetKey, RemoveKey, SetLength, created, creating, write_edits, noted};
+ghost use Rattle.helpers.specs.Edits.{if_done};
 ghost use Rattle.helpers.specs.Table.{write_effect, truncate_effect, remove_effect, setxattr_effect, rmxattr_effect, map_set_effect, map_rm_effect, create_effect};
 
 use crate::answer::{answered, negative};
@@ -14,6 +16,7 @@ use txn::{NoMemory, Staged};
 pub fn write(alloc: Global, staged: &mut Staged, at: u64, bytes: &[u8]) -> Result<u64, NoMemory>
     ensures answer { IfOk result (λ n. n ≡ (write_effect staged.old.after at bytes.now).answer) }
     ensures object { IfOk result (λ _. staged.new.after ≡ (write_effect staged.old.after at bytes.now).object) }
+    ensures list { IfOk result (λ n. staged.new.list ≡ noted (if_done n (write_edits staged.old.after at bytes.now)) staged.old.list) }
     ensures before { staged.new.before ≡ staged.old.before }
     ensures refused { OnErr result (staged.new ≡ staged.old) }
 {
@@ -25,23 +28,27 @@ pub fn write(alloc: Global, staged: &mut Staged, at: u64, bytes: &[u8]) -> Resul
 pub fn truncate(alloc: Global, staged: &mut Staged, size: u64) -> Result<u64, NoMemory>
     ensures answer { IfOk result (λ n. n ≡ (truncate_effect staged.old.after size).answer) }
     ensures object { IfOk result (λ _. staged.new.after ≡ (truncate_effect staged.old.after size).object) }
+    ensures list { IfOk result (λ n. staged.new.list ≡ noted (if_done n (SetLength size ∷ [])) staged.old.list) }
     ensures before { staged.new.before ≡ staged.old.before }
     ensures refused { OnErr result (staged.new ≡ staged.old) }
 {
     answered(staged.truncate(alloc, size), 0)
 }
 
-/// Helper 5, `remove`: data, xattrs and omap go. It answers 0 and takes no memory. Refused: ENOENT.
-pub fn remove(staged: &mut Staged) -> u64
-    ensures answer { result ≡ (remove_effect staged.old.after).answer }
-    ensures object { staged.new.after ≡ (remove_effect staged.old.after).object }
+/// Helper 5, `remove`: data, xattrs and omap go. It answers 0, and takes memory for the list of
+/// edits alone. Refused: ENOENT.
+pub fn remove(alloc: Global, staged: &mut Staged) -> Result<u64, NoMemory>
+    ensures answer { IfOk result (λ n. n ≡ (remove_effect staged.old.after).answer) }
+    ensures object { IfOk result (λ _. staged.new.after ≡ (remove_effect staged.old.after).object) }
+    ensures list { IfOk result (λ n. staged.new.list ≡ noted (if_done n (Remove ∷ [])) staged.old.list) }
     ensures before { staged.new.before ≡ staged.old.before }
+    ensures refused { OnErr result (staged.new ≡ staged.old) }
 {
     if staged.object().is_none() {
-        return negative(ENOENT);
+        return Ok(negative(ENOENT));
     }
-    staged.remove();
-    0
+    staged.remove(alloc)?;
+    Ok(0)
 }
 
 /// Helper 7, `setxattr`: sets an xattr, of an absent object too, which it creates. It answers 0.
@@ -55,6 +62,7 @@ pub fn setxattr(
 ) -> Result<u64, NoMemory>
     ensures answer { IfOk result (λ n. n ≡ (setxattr_effect staged.old.after name.now value.now).answer) }
     ensures object { IfOk result (λ _. staged.new.after ≡ (setxattr_effect staged.old.after name.now value.now).object) }
+    ensures list { IfOk result (λ n. staged.new.list ≡ noted (if_done n (creating staged.old.after (SetXattr name.now value.now))) staged.old.list) }
     ensures before { staged.new.before ≡ staged.old.before }
     ensures refused { OnErr result (staged.new ≡ staged.old) }
 {
@@ -66,6 +74,7 @@ pub fn setxattr(
 pub fn rmxattr(alloc: Global, staged: &mut Staged, name: &[u8]) -> Result<u64, NoMemory>
     ensures answer { IfOk result (λ n. n ≡ (rmxattr_effect staged.old.after name.now).answer) }
     ensures object { IfOk result (λ _. staged.new.after ≡ (rmxattr_effect staged.old.after name.now).object) }
+    ensures list { IfOk result (λ n. staged.new.list ≡ noted (if_done n (RemoveXattr name.now ∷ [])) staged.old.list) }
     ensures before { staged.new.before ≡ staged.old.before }
     ensures refused { OnErr result (staged.new ≡ staged.old) }
 {
@@ -81,6 +90,7 @@ pub fn map_set(
 ) -> Result<u64, NoMemory>
     ensures answer { IfOk result (λ n. n ≡ (map_set_effect staged.old.after key.now value.now).answer) }
     ensures object { IfOk result (λ _. staged.new.after ≡ (map_set_effect staged.old.after key.now value.now).object) }
+    ensures list { IfOk result (λ n. staged.new.list ≡ noted (if_done n (creating staged.old.after (SetKey key.now value.now))) staged.old.list) }
     ensures before { staged.new.before ≡ staged.old.before }
     ensures refused { OnErr result (staged.new ≡ staged.old) }
 {
@@ -91,22 +101,26 @@ pub fn map_set(
 pub fn map_rm(alloc: Global, staged: &mut Staged, key: &[u8]) -> Result<u64, NoMemory>
     ensures answer { IfOk result (λ n. n ≡ (map_rm_effect staged.old.after key.now).answer) }
     ensures object { IfOk result (λ _. staged.new.after ≡ (map_rm_effect staged.old.after key.now).object) }
+    ensures list { IfOk result (λ n. staged.new.list ≡ noted (if_done n (RemoveKey key.now ∷ [])) staged.old.list) }
     ensures before { staged.new.before ≡ staged.old.before }
     ensures refused { OnErr result (staged.new ≡ staged.old) }
 {
     answered(staged.remove_key(alloc, key), 0)
 }
 
-/// Helper 14, `create`: creates an absent object. It answers 0 and takes no memory. Refused: EEXIST
-/// if the object is there and is to be new, which any number but 0 says.
-pub fn create(staged: &mut Staged, exclusive: u64) -> u64
-    ensures answer { result ≡ (create_effect staged.old.after exclusive).answer }
-    ensures object { staged.new.after ≡ (create_effect staged.old.after exclusive).object }
+/// Helper 14, `create`: creates an absent object. It answers 0, and takes memory for the list of
+/// edits alone. Refused: EEXIST if the object is there and is to be new, which any number but 0
+/// says.
+pub fn create(alloc: Global, staged: &mut Staged, exclusive: u64) -> Result<u64, NoMemory>
+    ensures answer { IfOk result (λ n. n ≡ (create_effect staged.old.after exclusive).answer) }
+    ensures object { IfOk result (λ _. staged.new.after ≡ (create_effect staged.old.after exclusive).object) }
+    ensures list { IfOk result (λ n. staged.new.list ≡ noted (if_done n (created staged.old.after)) staged.old.list) }
     ensures before { staged.new.before ≡ staged.old.before }
+    ensures refused { OnErr result (staged.new ≡ staged.old) }
 {
     if exclusive != 0 && staged.object().is_some() {
-        return negative(EEXIST);
+        return Ok(negative(EEXIST));
     }
-    staged.create();
-    0
+    staged.create(alloc)?;
+    Ok(0)
 }

@@ -1,6 +1,7 @@
 //! The laws of the table, for the proofs of the crates above, and the numbers of the errors.
 ghost use Rattle.std.specs.Prelude.{◌≡◌};
 ghost use Rattle.helpers.specs.declared.errno.TheConstants.{ENOENT, EIO, ENOMEM, EBUSY, EEXIST, EINVAL, EFBIG, ENOSPC, ERANGE, ENODATA};
+ghost use Rattle.helpers.specs.Edits.{EditsLead};
 ghost use Rattle.helpers.specs.Laws.{EffectsAreWithinLimits};
 ghost use Rattle.helpers.specs.Ranges.{AnswersAreInRange};
 
@@ -20,6 +21,12 @@ pub fn effects_are_within_limits()
 /// Every helper answers a number of its range. The function does nothing.
 pub fn answers_are_in_range()
     ensures { AnswersAreInRange }
+{}
+
+/// The edits of every helper make of the object before the object after, and none of them is
+/// refused. The function does nothing.
+pub fn edits_lead()
+    ensures { EditsLead }
 {}
 
 /// The errors by number, as Linux has them. The function does nothing.

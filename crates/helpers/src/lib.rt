@@ -23,7 +23,7 @@ pub use argument::{Argument, Signature};
 pub use changes::{create, map_rm, map_set, remove, rmxattr, setxattr, truncate, write};
 pub use errno::{EBUSY, EEXIST, EFBIG, EINVAL, EIO, ENODATA, ENOENT, ENOMEM, ENOSPC, ERANGE};
 pub use helper::{Helper, LAST_HELPER, signature};
-pub use laws::{answers_are_in_range, effects_are_within_limits, errors_by_number};
+pub use laws::{answers_are_in_range, edits_lead, effects_are_within_limits, errors_by_number};
 pub use lookups::{key_above, map_value, stat, xattr_above, xattr_value};
 pub use memory::{bytes_in, compare, copy, getxattr, map_get, map_next, read, xattr_next};
 pub use plain::{caller, compared, out_len};

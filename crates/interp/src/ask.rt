@@ -36,7 +36,7 @@ fn answer(
         Helper::Read => Ok(helpers::read(staged, number, memory, behind)),
         Helper::Write => helpers::write(alloc, staged, number, bytes_in(memory, behind)),
         Helper::Truncate => helpers::truncate(alloc, staged, number),
-        Helper::Remove => Ok(helpers::remove(staged)),
+        Helper::Remove => helpers::remove(alloc, staged),
         Helper::GetXattr => Ok(helpers::getxattr(staged, memory, first, second)),
         Helper::SetXattr => helpers::setxattr(
             alloc,
@@ -55,7 +55,7 @@ fn answer(
         Helper::MapRm => helpers::map_rm(alloc, staged, bytes_in(memory, first)),
         Helper::MapNext => Ok(helpers::map_next(staged, memory, first, second)),
         Helper::OutLen => Ok(helpers::out_len(out_len, number)),
-        Helper::Create => Ok(helpers::create(staged, number)),
+        Helper::Create => helpers::create(alloc, staged, number),
         Helper::Caller => Ok(helpers::caller(caller)),
         Helper::Compare => Ok(helpers::compare(memory, first, second)),
         Helper::Copy => Ok(helpers::copy(memory, first, second)),

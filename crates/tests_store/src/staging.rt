@@ -24,8 +24,9 @@ fn stage_names(alloc: Global, staged: &mut Staged, value: &[u8]) -> Result<(), S
 fn stage(alloc: Global, staged: &mut Staged, value: &[u8]) -> Result<(), StoreError>
     ensures { staged.new.before ≡ staged.old.before }
 {
-    staged.remove();
-    staged.create();
+    if staged.remove(alloc).is_err() || staged.create(alloc).is_err() {
+        return Err(StoreError::NoMemory);
+    }
     staged.write(alloc, 0, b"abcdef")?;
     staged.truncate(alloc, 4)?;
     stage_names(alloc, staged, value)

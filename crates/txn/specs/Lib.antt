@@ -1,3 +1,4 @@
--- A reader must believe Versions. Staging is what the code keeps.
+-- A reader must believe Versions and Edits. Staging is what the code keeps.
 pub mod Versions
+pub mod Edits
 pub mod Staging

@@ -5,6 +5,7 @@
 #![tactic(auto)]
 
 mod change;
+mod edit;
 mod no_memory;
 mod staged;
 

@@ -83,7 +83,8 @@ ends_always laws rules m ok sound clear object caller input call =
 
 pub accept : EndsAlwaysIsSafe → Laws → (rules : RuleSet) (m : ClassMethod) → IsMethod m → AllSound rules (caps_of m) (slots m.instructions) → method_verdict rules m ≡ None → IsVerified m
 accept law laws rules m ok sound clear =
-    record { method = ok; safe = law m ok.fit (ends_always laws rules m ok sound clear) }
+    let ends = ends_always laws rules m ok sound clear in
+    record { method = ok; ends = ends; safe = law m ok.fit ends }
 
 -- a fact of all elements, of one
 pub all_at : {A : Type 0} (P : A → Type 0) (xs : List A) (n : ℕ) (x : A) → slice_get xs n ≡ Some x → AllByRecursion P xs → P x

@@ -17,12 +17,13 @@ use Rattle.object_store.specs.Object.{AreBytes}
 use Rattle.helpers.specs.declared.argument.Argument.{Argument}
 use Rattle.helpers.specs.declared.argument.Argument.TheVariants.{Number, OutputLength, Readable, Writable}
 use Rattle.helpers.specs.Effect.{Takes, Effect, text}
+use Rattle.helpers.specs.Edits.{edits}
 use Rattle.helpers.specs.Table.{signature_of, effect}
 use Rattle.helpers.specs.declared.answer_ranges.AnswerLimit.{AnswerLimit}
 use Rattle.helpers.specs.declared.answer_ranges.AnswerLimit.TheVariants as limit
 use Rattle.helpers.specs.declared.answer_ranges.AnswerRange.{AnswerRange}
 use Rattle.helpers.specs.Ranges.{answer_range_of, limit_of}
-use Rattle.bpf_machine.specs.State.{◌>>=◌, only, may_store, size, reg}
+use Rattle.bpf_machine.specs.State.{◌>>=◌, only, may_store, size, reg, with_edits}
 use Rattle.bpf_machine.specs.Helper.{Given, nothing_given, with_number, with_text, with_room, asked, answered}
 use Rattle.bpf_machine.specs.Typed.{Typed, TypedMemory, number, plain_bytes, cells_at, typed_range, typed_text, typed_room, typed_arguments, typed_help}
 use Rattle.bpf_machine.specs.Slots.{slot_values}
@@ -399,7 +400,7 @@ module _ (laws : Laws) (rules : RuleSet) (caps : Caps) (known : ℕ) (few : know
       let g = gets laws.slots laws.ranges caps known few f s h takes.arguments 1 u' a' b' c' d' in
       let e = done g.given in
       let l = laws.effects helper s.object (asked g.given) (h.within).object g.texts in
-      let t : Typed = record { slot = s.slot; regs = answered s.regs (values.Num e.answer); memory = typed_room s.memory g.given.target e.bytes; object = e.object; out_len = unwrap_or e.out_len s.out_len; caller = s.caller } in
+      let t : Typed = record { slot = s.slot; regs = answered s.regs (values.Num e.answer); memory = typed_room s.memory g.given.target e.bytes; object = e.object; out_len = unwrap_or e.out_len s.out_len; caller = s.caller; edits = with_edits (edits helper s.object (asked g.given)) s.edits } in
       let left = overwritten laws.slots laws.ranges caps known few f s h (room_in takes.arguments 1) g.given.room g.given.target e.bytes g.targets l.short l.bytes in
       record {
         to = t;

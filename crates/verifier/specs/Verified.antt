@@ -4,11 +4,12 @@ use Rattle.std.specs.Borrow.{Bor}
 use Rattle.std.specs.List.{AllByRecursion}
 use Rattle.std.specs.Str.{bytes_eq}
 use Rattle.bpf_decode.specs.Class.{ClassMethod, IsMethod, IsClass}
-use Rattle.bpf_machine.specs.Safe.{IsSafe}
+use Rattle.bpf_machine.specs.Safe.{IsSafe, EndsAlways}
 
--- a method within the limits that is safe
+-- a method within the limits that is safe, since every run of its instructions ends
 pub record IsVerified (m : ClassMethod) : Type 0 where
   pub method : IsMethod m
+  pub ends : EndsAlways m
   pub safe : IsSafe m
 
 -- a class each of whose methods is safe

@@ -98,11 +98,13 @@ pub fn map_rm(alloc: Global, s: &mut FlatState) -> Result<Option<u64>, NoMemory>
 }
 
 /// Helper 14, `create`: creates an absent object.
-pub fn create(s: &mut FlatState) -> Option<u64>
-    ensures helped { Answers result (flat_state s.new) (helped (caps_in s.old) (layout_in s.old) Helper.Create (flat_state s.old)) }
+pub fn create(alloc: Global, s: &mut FlatState) -> Result<Option<u64>, NoMemory>
+    ensures helped { IfOk result (λ o. Answers o (flat_state s.new) (helped (caps_in s.old) (layout_in s.old) Helper.Create (flat_state s.old))) }
     ensures slot { s.new.slot ≡ s.old.slot }
     ensures machine { s.new.memory.machine ≡ s.old.memory.machine }
 {
-    let exclusive = get(s, 1)?;
-    Some(helpers::create(&mut s.object, exclusive))
+    match get(s, 1) {
+        None => Ok(None),
+        Some(exclusive) => Ok(Some(helpers::create(alloc, &mut s.object, exclusive)?)),
+    }
 }

@@ -28,4 +28,4 @@ returns c =
     let found : helper_of c.args.id ≡ Some c.in-Some.helper = sym c.of.ensures ∙ c.in-Some.is in
     let N : List ℕ → Type 0 = λ l. Does run.caps run.staged.before run bytes (record after { registers = l }) c.answer.new.memory (help run.caps (first_layout run.caps) c.args.id) in
     subst N (sym c.set_answer.ensures)
-    (does run.caps run.staged.before run bytes c.args.id c.in_ok-answer-in-Some.answer c.in-Some.helper after c.answer.new.memory found a.answer a.memory a.object a.before a.out_len refl refl refl)
+    (does run.caps run.staged.before run bytes c.args.id c.in_ok-answer-in-Some.answer c.in-Some.helper after c.answer.new.memory found a.answer a.memory a.object a.before a.list a.out_len refl refl refl)

@@ -1,0 +1,9 @@
+-- The edits of a helper, by its answer.
+use Rattle.std.proofs.Common.{◌≡◌, ℕ, ◌^◌, ◌<◌, List, []}
+use Rattle.std.specs.Prelude.{nat_lt}
+use Rattle.std.proofs.lemmas.Bool.{cond-true, lt-ltb}
+use Rattle.txn.specs.Edits.{Edit}
+use Rattle.helpers.specs.Edits.{if_done}
+
+pub done : (n : ℕ) (es : List Edit) → n < 2 ^ 63 → if_done n es ≡ es
+done n es h = cond-true (nat_lt n (2 ^ 63)) es [] (lt-ltb n (2 ^ 63) h)
