@@ -71,7 +71,7 @@ fn signatures(rt: HostRuntime) {
 }
 
 /// The id of the helper of that name.
-fn id_of(name: &str) -> u32 {
+pub fn id_of(name: &str) -> u32 {
     let mut id = 1u32;
     for line in HELPERS.lines() {
         if halves(line, ' ').0.trim_end_matches('*') == name {
@@ -88,14 +88,14 @@ const SHOWN: usize = 72;
 /// The arguments of a call so far: the code that puts them into registers from 1 on, the next
 /// register, and the input in which the readable ranges lie.
 #[derive(Drop)]
-struct Arguments {
-    code: String,
+pub struct Arguments {
+    pub code: String,
     register: u8,
-    input: Vec<u8>,
+    pub input: Vec<u8>,
 }
 
 impl Arguments {
-    fn new(alloc: Global) -> Arguments {
+    pub fn new(alloc: Global) -> Arguments {
         Arguments {
             code: String::new(alloc),
             register: 1,
@@ -104,7 +104,7 @@ impl Arguments {
     }
 
     /// Puts one more: a number `=N`, the bytes `<BYTES`, or `>N` bytes of the output.
-    fn put(&mut self, rt: &impl Abort, alloc: Global, word: &str) {
+    pub fn put(&mut self, rt: &impl Abort, alloc: Global, word: &str) {
         let (_, number) = halves(word, '=');
         let (_, name) = halves(word, '<');
         let (_, room) = halves(word, '>');
@@ -122,6 +122,13 @@ impl Arguments {
         };
         let code = code.expect(rt, "memory");
         self.code.push_str(&code).expect(rt, "memory");
+    }
+
+    /// Calls the helper of an id with the arguments, and begins those of the next call.
+    pub fn call(&mut self, rt: &impl Abort, alloc: Global, id: u32) {
+        let call = format!(in alloc; "; call {id}").expect(rt, "memory");
+        self.code.push_str(&call).expect(rt, "memory");
+        self.register = 1;
     }
 
     /// Puts bytes after the input. Returns their place and their number.

@@ -1,6 +1,7 @@
 //! Only tests of what a call of a method does: by `interp`, with answers from outside (RFC 9669, or
-//! computed by hand), at all limits, in one room, and the table of classes; by runs of raw bytes;
-//! and by the library's calls on bytes, flat forms, edits and limits, and a host in Rattle.
+//! computed by hand), at all limits, with lists of edits, in one room, and the table of classes; by
+//! runs of raw bytes, and at each step of them what rule set 3 knows; and by the library's calls on
+//! bytes, flat forms, edits and limits, and a host in Rattle.
 #![tactic(auto)]
 
 #[cfg(test)]
@@ -17,6 +18,8 @@ mod helper_calls;
 mod host;
 #[cfg(test)]
 mod limits;
+#[cfg(test)]
+mod lists;
 #[cfg(test)]
 mod methods;
 #[cfg(test)]

@@ -1,9 +1,9 @@
-//! Rows of `call` and `Room::call`, 3 NoMemory, and of `ClassTable::add`, 2 NoMemory.
+//! Rows of `call`, `call_listed` and `Room::call`, 3 NoMemory, and of `ClassTable::add`, 2 NoMemory.
 
 use crate::ending::Ending;
 use crate::made::class_of;
 use crate::store::{object_of, same};
-use interp::{CallError, ClassTable, Outcome, Room, TableError, call};
+use interp::{CallError, ClassTable, Outcome, Room, TableError, call, call_listed};
 use object_store::Object;
 use std::alloc::Global;
 use verifier::VerifiedClass;
@@ -67,6 +67,32 @@ pub fn called(alloc: Global) -> Option<Ending> {
     let object = object_of(alloc)?;
     let before = object_of(alloc)?;
     Some(every(alloc, &class, &object, &before))
+}
+
+/// The edits that the method leaves.
+const EDITS: &[u8] = b"\x08\xfc\x0f\0\0\0\0\0\0\x08\0\0\0abcdefgh\x07\x04\x10\0\0\0\0\0\0\
+\x03\x01\0a\x08\0abcdefgh\x03\x04\0abcd\x01\0a\x05\x02\0ab\x08\0abcdefgh\x05\x03\0abc\x04\0abcd\
+\x04\x01\0a\x06\x02\0ab";
+
+fn every_listed(alloc: Global, class: &VerifiedClass, object: &Object, before: &Object) -> Ending {
+    match call_listed(alloc, class, "every", Some(object), 7, b"abcdefgh") {
+        Ok(answer) => {
+            let is_list = answer.edits.as_slice() == EDITS;
+            Ending::of(is_list && is_outcome(&answer.outcome, before))
+        }
+        Err(error) => {
+            let is_named = error == CallError::NoMemory && error.number() == 3;
+            Ending::refused(is_named && same(Some(object), Some(before)))
+        }
+    }
+}
+
+/// `call_listed`.
+pub fn called_listed(alloc: Global) -> Option<Ending> {
+    let class = class_of(alloc, EVERY)?;
+    let object = object_of(alloc)?;
+    let before = object_of(alloc)?;
+    Some(every_listed(alloc, &class, &object, &before))
 }
 
 /// `mov r0, 0`, `exit`, with the greatest regions: the room holds 131,582 bytes.
