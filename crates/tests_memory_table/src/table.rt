@@ -45,7 +45,7 @@ pub enum Row {
 
 /// Each row with its name.
 #[rattlefmt::skip]
-pub const ROWS: [(&str, Row); 46] = [
+pub const ROWS: [(&str, Row); 47] = [
     ("decode", Row::Decode),
     ("encode", Row::Encode),
     ("read_image", Row::ReadImage),
