@@ -89,7 +89,7 @@ def methods_of(image):
     for _ in range(image[4]):
         end = at + 1 + image[at]
         yield image[at + 1:end]
-        at = end + 7 + 8 * struct.unpack_from("<H", image, end + 5)[0]
+        at = end + 7 + 8 * struct.unpack_from("<H", image, end + 5)[0] + 2 * image.startswith(b"RCL3")
 
 
 def seeds(count, seed, folder, *images):

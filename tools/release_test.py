@@ -63,4 +63,8 @@ why = raised(sillarnica.Refused, Class, unsafe)
 assert (str(why), why.kind, why.number, why.slot) == ("refused method 0 slot 0: 5 UnsetRead", 2, 5, 0), why
 with Class.open(top / "examples" / "embed" / "parts.img") as parts:
     assert [it.name for it in parts.methods] == PARTS, parts.methods
+# in rule set 3 something follows a method's code: two methods that answer 0
+zero = bytes([1, 0, 0, 0, 0, 2, 0]) + b"\xb7" + bytes(7) + b"\x95" + bytes(7) + bytes(2)
+with Class(b"RCL3" + bytes([2, 0, 0, 0]) + b"\1f" + zero + b"\1g" + zero) as third:
+    assert [it.name for it in third.methods] == ["f", "g"] and third.call("g").code == 0, third.methods
 print("well")

@@ -203,7 +203,7 @@ def _names(image: bytes) -> List[bytes]:
         name = image[at + 1 : at + 1 + image[at]]
         at += 1 + len(name) + 5
         (slots,) = struct.unpack_from("<H", image, at)
-        at += 2 + 8 * slots
+        at += 2 + 8 * slots + (2 if image[:4] == b"RCL3" else 0)
         names.append(name)
     return names
 
