@@ -1,5 +1,6 @@
 -- What the edges of a comparison leave of its two numbers.
-use Rattle.std.specs.Prelude.{ℕ, ◌^◌, nat_lt, ◌&&◌, ◌||◌, Bool, true, false, if◌then◌else◌, Option, Some, None, option_map, option_and_then}
+use Rattle.std.specs.Prelude.{ℕ, ◌^◌, nat_lt, ◌&&◌, ◌||◌, Bool, true, false, if◌then◌else◌, Option, Some, None}
+use Rattle.std.specs.Prelude.{option_map, option_and_then}
 use Rattle.bpf_decode.specs.declared.operation.OpWidth.{OpWidth}
 use Rattle.bpf_decode.specs.declared.operation.OpWidth.TheVariants.{Bits32, Bits64}
 use Rattle.bpf_decode.specs.declared.operation.Comparison.{Comparison}
@@ -14,7 +15,8 @@ use Rattle.abstract_num.specs.HalfFacts.{half_fact, crosses as halves_cross}
 use Rattle.abstract_num.specs.declared.precision.Precision.{Precision}
 use Rattle.abstract_num.specs.declared.precision.Precision.TheVariants.{Whole, Halves}
 use Rattle.abstract_num.specs.declared.fact.Fact.{Fact}
-use Rattle.abstract_num.specs.declared.fact.Fact.TheVariants.{Same, Above, AtLeast, SignedAbove, SignedAtLeast, HalfAbove, HalfAtLeast, Meets, Not, NoneOf}
+use Rattle.abstract_num.specs.declared.fact.Fact.TheVariants.{Same, Above, AtLeast, SignedAbove, SignedAtLeast}
+use Rattle.abstract_num.specs.declared.fact.Fact.TheVariants.{HalfAbove, HalfAtLeast, Meets, Not, NoneOf}
 use Rattle.abstract_num.specs.declared.fact.Edge.{Edge}
 use Rattle.abstract_num.specs.declared.fact.Edge.TheVariants.{Ahead, Turned, Apart, Disjoint}
 
@@ -63,8 +65,26 @@ left_of f x y =
     let s = signed_fact f x.least x.greatest y.least y.greatest in
     let b = bits_fact f x.value x.unknown y.value y.unknown in
     let h = half_fact f x.half_least x.half_greatest y.half_least y.half_greatest in (
-      record { low = u.0.0; high = u.0.1; least = s.0.0; greatest = s.0.1; value = b.0.0; unknown = b.0.1; half_least = h.0.0; half_greatest = h.0.1 },
-      record { low = u.1.0; high = u.1.1; least = s.1.0; greatest = s.1.1; value = b.1.0; unknown = b.1.1; half_least = h.1.0; half_greatest = h.1.1 },
+      record {
+        low = u.0.0;
+        high = u.0.1;
+        least = s.0.0;
+        greatest = s.0.1;
+        value = b.0.0;
+        unknown = b.0.1;
+        half_least = h.0.0;
+        half_greatest = h.0.1;
+      },
+      record {
+        low = u.1.0;
+        high = u.1.1;
+        least = s.1.0;
+        greatest = s.1.1;
+        value = b.1.0;
+        unknown = b.1.1;
+        half_least = h.1.0;
+        half_greatest = h.1.1;
+      },
     )
 
 -- what a fact leaves, none if nothing is left of a part
@@ -136,7 +156,8 @@ half_edge Disjoint = Disjoint
 abbrev pub along_cuts : Comparison → Bool → Plain → Plain → Option Pair
 along_cuts comparison taken x y =
     let edge = half_edge (edge_of comparison taken) in
-    option_and_then (tightened Halves) (option_and_then (λ s. by_edge edge s.0 s.1) (both (cut Halves x) (cut Halves y)))
+    option_and_then (tightened Halves) (option_and_then
+    (λ s. by_edge edge s.0 s.1) (both (cut Halves x) (cut Halves y)))
 
 -- x becomes what is left of its cut, if it was below 2 ^ 32; else its half becomes that one's
 abbrev pub put_back : Plain → Plain → Option Plain

@@ -2,7 +2,8 @@
 use Rattle.std.specs.Prelude.{ℤ, pos, ◌+ℤ◌, ◌-ℤ◌, int_lt, ◌||◌, Bool}
 use Rattle.std.specs.Int.{int_min, int_max}
 use Rattle.abstract_num.specs.declared.fact.Fact.{Fact}
-use Rattle.abstract_num.specs.declared.fact.Fact.TheVariants.{Same, Above, AtLeast, SignedAbove, SignedAtLeast, HalfAbove, HalfAtLeast, Meets, Not, NoneOf}
+use Rattle.abstract_num.specs.declared.fact.Fact.TheVariants.{Same, Above, AtLeast, SignedAbove, SignedAtLeast}
+use Rattle.abstract_num.specs.declared.fact.Fact.TheVariants.{HalfAbove, HalfAtLeast, Meets, Not, NoneOf}
 
 -- the ends of the first, and of the second
 abbrev pub TwoHalves : Type 0

@@ -1,6 +1,7 @@
 -- The laws of the tables: what the machine computes of held numbers is held by what they give.
 use Rattle.std.specs.Prelude.{◌≡◌, ℕ, ◌^◌, ◌<◌, ◌≤◌, Bool, Option, MatchOption, IsSomeAnd}
-use Rattle.bpf_decode.specs.Arithmetic.{alu_value, neg_value, mov_value, signed_move_value, end_value, is_taken, signed_load_value}
+use Rattle.bpf_decode.specs.Arithmetic.{alu_value, neg_value, mov_value, signed_move_value, end_value, is_taken}
+use Rattle.bpf_decode.specs.Arithmetic.{signed_load_value}
 use Rattle.bpf_decode.specs.Instruction.{byte_count, signed_byte_count}
 use Rattle.bpf_decode.specs.declared.operation.OpWidth.{OpWidth}
 use Rattle.bpf_decode.specs.declared.operation.OpWidth.TheVariants.{Bits32}
@@ -14,7 +15,8 @@ use Rattle.bpf_decode.specs.declared.access.Width.{Width}
 use Rattle.bpf_decode.specs.declared.access.SignedWidth.{SignedWidth}
 use Rattle.abstract_num.specs.Plain.{Plain, Number, Holds, any, constant, join, view}
 use Rattle.abstract_num.specs.Tighten.{tighten}
-use Rattle.abstract_num.specs.Transfer.{transferred, copied, sign_extended, ordered, ranged, signed_ranged, load_high, signed_low, signed_high}
+use Rattle.abstract_num.specs.Transfer.{transferred, copied, sign_extended, ordered, ranged, signed_ranged, load_high}
+use Rattle.abstract_num.specs.Transfer.{signed_low, signed_high}
 use Rattle.abstract_num.specs.Edges.{along}
 use Rattle.abstract_num.specs.declared.precision.Precision.{Precision}
 use Rattle.abstract_num.specs.declared.precision.Precision.TheVariants.{Whole}
@@ -78,11 +80,13 @@ OrderKeeps =
 -- and sign-extended:
 abbrev pub RangeKeeps : Type 0
 RangeKeeps =
-    (precision : Precision) (low high n : ℕ) → n < 2 ^ 64 → low ≤ n → n ≤ high → HeldIn (tighten precision (ranged low high)) n
+    (precision : Precision) (low high n : ℕ) → n < 2 ^ 64 → low ≤ n → n ≤ high →
+    HeldIn (tighten precision (ranged low high)) n
 
 abbrev pub LoadKeeps : Type 0
 LoadKeeps =
-    (precision : Precision) (width : Width) (n : ℕ) → n < 256 ^ byte_count width → HeldIn (tighten precision (ranged 0 (load_high width))) n
+    (precision : Precision) (width : Width) (n : ℕ) → n < 256 ^ byte_count width →
+    HeldIn (tighten precision (ranged 0 (load_high width))) n
 
 abbrev pub SignedLoadKeeps : Type 0
 SignedLoadKeeps =

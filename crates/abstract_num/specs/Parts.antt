@@ -3,7 +3,8 @@ use Rattle.std.specs.Prelude.{◌≡◌, ℕ, ◌^◌, ◌<◌, ◌≤◌, ◌�
 use Rattle.std.specs.Int.{int_min, int_max}
 use Rattle.abstract_num.specs.Signed.{signed, signed_half}
 use Rattle.abstract_num.specs.Masks.{clear}
-use Rattle.abstract_num.specs.proved.PartsFit.{hull_ordered, hull_fits, signed_hull_ordered, half_hull_ordered, clear_apart, clear_lt, joined_unknown, joined_unknown_fits}
+use Rattle.abstract_num.specs.proved.PartsFit.{hull_ordered, hull_fits, signed_hull_ordered, half_hull_ordered}
+use Rattle.abstract_num.specs.proved.PartsFit.{clear_apart, clear_lt, joined_unknown, joined_unknown_fits}
 use Rattle.abstract_num.specs.declared.urange.URange.{URange}
 use Rattle.abstract_num.specs.declared.srange.SRange.{SRange}
 use Rattle.abstract_num.specs.declared.bits.Bits.{Bits}
@@ -30,17 +31,25 @@ HaveSameHalf k n = (k < 2 ^ 64) × (signed_half k ≡ signed_half n)
 
 -- the hull
 abbrev pub joined_urange : URange → URange → URange
-joined_urange x y = record { low = min x.low y.low; high = max x.high y.high; ordered = hull_ordered x y; fits = hull_fits x y }
+joined_urange x y =
+    record { low = min x.low y.low; high = max x.high y.high; ordered = hull_ordered x y; fits = hull_fits x y }
 
 -- the hull
 abbrev pub joined_srange : SRange → SRange → SRange
-joined_srange x y = record { low = int_min x.low y.low; high = int_max x.high y.high; ordered = signed_hull_ordered x y }
+joined_srange x y =
+    record { low = int_min x.low y.low; high = int_max x.high y.high; ordered = signed_hull_ordered x y }
 
 -- a bit is known if both know it and agree
 abbrev pub joined_bits : Bits → Bits → Bits
 joined_bits x y =
     let m = joined_unknown x y in
-    record { value = clear x.value m; unknown = m; apart = clear_apart x.value m; value_fits = clear_lt x.value m x.value_fits; unknown_fits = joined_unknown_fits x y }
+    record {
+      value = clear x.value m;
+      unknown = m;
+      apart = clear_apart x.value m;
+      value_fits = clear_lt x.value m x.value_fits;
+      unknown_fits = joined_unknown_fits x y;
+    }
 
 -- the hull
 abbrev pub joined_half : Half → Half → Half

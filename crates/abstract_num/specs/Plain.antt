@@ -1,7 +1,8 @@
 -- A number in plain numbers: the unsigned range [low, high], the signed range [least, greatest],
 -- the bits of value that unknown leaves known, and the half: the range [half_least, half_greatest]
 -- of the low 32 bits as a signed number.
-use Rattle.std.specs.Prelude.{◌≡◌, ℕ, ℤ, pos, negsuc, ◌-◌, ◌^◌, ◌<◌, ◌≤◌, ◌≤ℤ◌, min, max, bit_or, bit_xor, Option, Some, None, MatchOption, IsSomeAnd}
+use Rattle.std.specs.Prelude.{◌≡◌, ℕ, ℤ, pos, negsuc, ◌-◌, ◌^◌, ◌<◌, ◌≤◌, ◌≤ℤ◌, min, max, bit_or, bit_xor, Option, Some}
+use Rattle.std.specs.Prelude.{None, MatchOption, IsSomeAnd}
 use Rattle.std.specs.Int.{int_min, int_max}
 use Rattle.abstract_num.specs.Signed.{signed, signed_half}
 use Rattle.abstract_num.specs.Masks.{clear}

@@ -1,5 +1,6 @@
 -- Tightening: the parts of a number meet, one after another.
-use Rattle.std.specs.Prelude.{ℕ, ℤ, pos, negsuc, ◌+ℤ◌, ◌-ℤ◌, int_le, int_lt, nat_lt, nat_le, ◌==◌, ◌&&◌, ◌||◌, ◌+◌, ◌-◌, ◌^◌, min, max, Bool, if◌then◌else◌, Option, Some, None, option_and_then}
+use Rattle.std.specs.Prelude.{ℕ, ℤ, pos, negsuc, ◌+ℤ◌, ◌-ℤ◌, int_le, int_lt, nat_lt, nat_le, ◌==◌, ◌&&◌, ◌||◌, ◌+◌, ◌-◌}
+use Rattle.std.specs.Prelude.{◌^◌, min, max, Bool, if◌then◌else◌, Option, Some, None, option_and_then}
 use Rattle.std.specs.Int.{int_min, int_max}
 use Rattle.abstract_num.specs.Masks.{clear}
 use Rattle.abstract_num.specs.Signed.{signed, signed_half}
@@ -89,7 +90,8 @@ by_half x =
 
 -- an end of a range moved inwards from x to y
 abbrev pub is_narrowed : Plain → Plain → Bool
-is_narrowed x y = (nat_lt x.low y.low || nat_lt y.high x.high) || (int_lt x.least y.least || int_lt y.greatest x.greatest)
+is_narrowed x y =
+    (nat_lt x.low y.low || nat_lt y.high x.high) || (int_lt x.least y.least || int_lt y.greatest x.greatest)
 
 -- a range's ends cross
 abbrev pub is_empty : Plain → Bool
@@ -113,7 +115,8 @@ tighten_again x y = (if is_empty y then None else (if is_narrowed x y then tight
 
 -- the parts but the half, the half with the ranges, those parts again, and the half of one number
 abbrev pub tighten_halves : Plain → Option Plain
-tighten_halves x = option_and_then half_of_constant (option_and_then (λ y. tighten_again y (by_half y)) (tighten_whole x))
+tighten_halves x =
+    option_and_then half_of_constant (option_and_then (λ y. tighten_again y (by_half y)) (tighten_whole x))
 
 -- the number with any half
 abbrev pub with_any_half : Plain → Plain

@@ -1,5 +1,6 @@
 -- What operations make of numbers.
-use Rattle.std.specs.Prelude.{ℕ, ℤ, pos, negsuc, ◌*ℤ◌, ◌-◌, ◌%◌, ◌^◌, nat_lt, ◌==◌, ◌&&◌, not, Bool, if◌then◌else◌, Option, Some, None, option_and_then}
+use Rattle.std.specs.Prelude.{ℕ, ℤ, pos, negsuc, ◌*ℤ◌, ◌-◌, ◌%◌, ◌^◌, nat_lt, ◌==◌, ◌&&◌, not, Bool, if◌then◌else◌}
+use Rattle.std.specs.Prelude.{Option, Some, None, option_and_then}
 use Rattle.bpf_decode.specs.Arithmetic.{alu_value, signed_move_value, end_value}
 use Rattle.bpf_decode.specs.declared.operation.Arithmetic.{Arithmetic}
 use Rattle.bpf_decode.specs.declared.operation.Arithmetic.TheVariants as op

@@ -15,5 +15,6 @@ use crate::urange::URange;
 /// A law, proved when the crate is checked; a call does nothing. What `Domain` says that a number
 /// holds is what `Holds` says.
 pub fn domain_of_numbers()
-    ensures { (x : PlainNumber) (n : ℕ) → ⟦<Product<URange, Product<SRange, Product<Bits, Half>>> as Domain>⟧.holds x n ↔ Holds (view x) n }
+    ensures { (x : PlainNumber) (n : ℕ) →
+        ⟦<Product<URange, Product<SRange, Product<Bits, Half>>> as Domain>⟧.holds x n ↔ Holds (view x) n }
 {}

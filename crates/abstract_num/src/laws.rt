@@ -1,7 +1,11 @@
 //! Laws of abstract numbers, for the proofs of the crates above. Each function does nothing.
 
-ghost use Rattle.abstract_num.specs.Keeping.{NumbersFit, ConstantsFit, AnyHolds, ConstantHolds, ArithmeticKeeps, NegativeKeeps, CopyKeeps, ExtensionKeeps, OrderKeeps, RangeKeeps, LoadKeeps, SignedLoadKeeps, TightenKeeps, EdgeKeeps, JoinKeeps, WholeHasAnyHalf};
-ghost use Rattle.abstract_num.specs.Laws.{JoinCommutes, JoinAssociates, JoinOfSame, JoinIsAbove, BelowIsReflexive, BelowIsTransitive, BelowHolds};
+ghost use Rattle.abstract_num.specs.Keeping.{NumbersFit, ConstantsFit, AnyHolds, ConstantHolds, ArithmeticKeeps};
+ghost use Rattle.abstract_num.specs.Keeping.{NegativeKeeps, CopyKeeps, ExtensionKeeps, OrderKeeps, RangeKeeps};
+ghost use Rattle.abstract_num.specs.Keeping.{LoadKeeps, SignedLoadKeeps, TightenKeeps, EdgeKeeps, JoinKeeps};
+ghost use Rattle.abstract_num.specs.Keeping.{WholeHasAnyHalf};
+ghost use Rattle.abstract_num.specs.Laws.{JoinCommutes, JoinAssociates, JoinOfSame, JoinIsAbove, BelowIsReflexive};
+ghost use Rattle.abstract_num.specs.Laws.{BelowIsTransitive, BelowHolds};
 
 /// A law, proved when the crate is checked; a call does nothing. The join of numbers is a
 /// commutative, associative and idempotent upper bound.

@@ -32,7 +32,10 @@ impl Product<URange, Product<SRange, Product<Bits, Half>>> {
     /// The number of these parts.
     #[inline(always)]
     pub(crate) fn of(unsigned: URange, signed: SRange, bits: Bits, half: Half) -> Number
-        ensures { result ≡ record { first = unsigned; second = record { first = signed; second = record { first = bits; second = half } } } }
+        ensures { result ≡ record {
+          first = unsigned;
+          second = record { first = signed; second = record { first = bits; second = half } };
+        } }
     {
         Product {
             first: unsigned,

@@ -86,18 +86,29 @@ impl<A: Domain, B: Domain> Domain for Product<A, B> {
 
     ghost alike_itself = { λ n h. (A.alike_itself n h, B.alike_itself n h) };
 
-    ghost join_commutes = { λ p q. ap₂ (λ a b. record { first = a; second = b }) (A.join_commutes p.first q.first) (B.join_commutes p.second q.second) };
+    ghost join_commutes = { λ p q. ap₂ (λ a b. record { first = a; second = b }) (A.join_commutes p.first q.first)
+        (B.join_commutes p.second q.second) };
 
-    ghost join_associates = { λ p q r. ap₂ (λ a b. record { first = a; second = b }) (A.join_associates p.first q.first r.first) (B.join_associates p.second q.second r.second) };
+    ghost join_associates = { λ p q r. ap₂ (λ a b. record { first = a; second = b })
+        (A.join_associates p.first q.first r.first) (B.join_associates p.second q.second r.second) };
 
-    ghost join_of_same = { λ p. ap₂ (λ a b. record { first = a; second = b }) (A.join_of_same p.first) (B.join_of_same p.second) };
+    ghost join_of_same = { λ p. ap₂ (λ a b. record { first = a; second = b }) (A.join_of_same p.first)
+        (B.join_of_same p.second) };
 
     ghost join_is_above = { λ p q. (A.join_is_above p.first q.first, B.join_is_above p.second q.second) };
 
-    ghost below_holds = { λ p q b n h. (A.below_holds p.first q.first b.0 n h.0, B.below_holds p.second q.second b.1 n h.1) };
+    ghost below_holds = { λ p q b n h. (
+      A.below_holds p.first q.first b.0 n h.0,
+      B.below_holds p.second q.second b.1 n h.1,
+    ) };
 
-    ghost transfer_is_sound = { λ r p q s e m n h k. (A.transfer_is_sound r p.first q.first s.first e.0 m n h.0 k.0, B.transfer_is_sound r p.second q.second s.second e.1 m n h.1 k.1) };
+    ghost transfer_is_sound = { λ r p q s e m n h k. (
+      A.transfer_is_sound r p.first q.first s.first e.0 m n h.0 k.0,
+      B.transfer_is_sound r p.second q.second s.second e.1 m n h.1 k.1,
+    ) };
 
-    ghost refine_is_sound = { λ f p q r e m n h k is. both_kept (A.refines f p.first q.first) (B.refines f p.second q.second) (λ s. A.holds s m) (λ s. A.holds s n) (λ s. B.holds s m) (λ s. B.holds s n)
-        (λ a i. A.refine_is_sound f p.first q.first a i m n h.0 k.0 is) (λ b i. B.refine_is_sound f p.second q.second b i m n h.1 k.1 is) r e };
+    ghost refine_is_sound = { λ f p q r e m n h k is. both_kept (A.refines f p.first q.first)
+        (B.refines f p.second q.second) (λ s. A.holds s m) (λ s. A.holds s n) (λ s. B.holds s m) (λ s. B.holds s n)
+        (λ a i. A.refine_is_sound f p.first q.first a i m n h.0 k.0 is)
+        (λ b i. B.refine_is_sound f p.second q.second b i m n h.1 k.1 is) r e };
 }

@@ -3,7 +3,8 @@
 ghost use Rattle.std.specs.Prelude.{◌≡◌, ℕ, IsSomeAnd, MatchOption, Some, None};
 ghost use Rattle.bpf_decode.specs.Arithmetic.{is_taken};
 ghost use Rattle.abstract_num.specs.Plain.{Gives, GivesBoth, Holds, view};
-ghost use Rattle.abstract_num.specs.Edges.{along, along_cuts, by_edge, by_fact, edge_of, half_edge, half_fact_of, is_signed, other_than, put_back, refined, short_end, tells, tightened};
+ghost use Rattle.abstract_num.specs.Edges.{along, along_cuts, by_edge, by_fact, edge_of, half_edge, half_fact_of};
+ghost use Rattle.abstract_num.specs.Edges.{is_signed, other_than, put_back, refined, short_end, tells, tightened};
 ghost use Rattle.bpf_decode.specs.declared.operation.OpWidth.TheVariants.{Bits32, Bits64};
 ghost use Rattle.abstract_num.specs.declared.precision.Precision.TheVariants.{Whole, Halves};
 

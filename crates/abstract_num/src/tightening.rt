@@ -1,9 +1,12 @@
 //! The four parts of a number tell each other what they know.
 
-ghost use Rattle.std.specs.Prelude.{◌≡◌, ℕ, ◌-◌, ◌^◌, ◌<◌, ◌<ℤ◌, ◌≤ℤ◌, ◌||◌, nat_lt, int_lt, pos, negsuc, true, MatchOption};
+ghost use Rattle.std.specs.Prelude.{◌≡◌, ℕ, ◌-◌, ◌^◌, ◌<◌, ◌<ℤ◌, ◌≤ℤ◌, ◌||◌, nat_lt, int_lt, pos, negsuc, true};
+ghost use Rattle.std.specs.Prelude.{MatchOption};
 ghost use Rattle.std.specs.Int.{int_max, int_min};
 ghost use Rattle.abstract_num.specs.Plain.{Gives, Holds, Kept, view};
-ghost use Rattle.abstract_num.specs.Tighten.{by_bits, by_constant, by_half, by_signed, by_unsigned, half_of_constant, is_empty, is_narrowed, is_short, meet_half, meet_signed, meet_unsigned, tighten, tighten_again, tighten_halves, tighten_whole, with_any_half};
+ghost use Rattle.abstract_num.specs.Tighten.{by_bits, by_constant, by_half, by_signed, by_unsigned, half_of_constant};
+ghost use Rattle.abstract_num.specs.Tighten.{is_empty, is_narrowed, is_short, meet_half, meet_signed, meet_unsigned};
+ghost use Rattle.abstract_num.specs.Tighten.{tighten, tighten_again, tighten_halves, tighten_whole, with_any_half};
 
 use crate::bits::Bits;
 use crate::half::Half;
@@ -139,7 +142,8 @@ fn stepped(x: Number) -> Option<Number>
 /// The numbers that lie in the signed range and in the half, if those are read alike.
 #[inline(always)]
 fn within_half(sign: SRange, half: Half) -> Option<SRange>
-    ensures { let p = int_max sign.low half.low in let q = int_min sign.high half.high in MatchOption result (q <ℤ p) (λ z. (z.low ≡ p) × (z.high ≡ q)) }
+    ensures { let p = int_max sign.low half.low in let q = int_min sign.high half.high in MatchOption result (q <ℤ p)
+        (λ z. (z.low ≡ p) × (z.high ≡ q)) }
 {
     let low = sign.low.max(i64::from(half.low));
     let high = sign.high.min(i64::from(half.high));

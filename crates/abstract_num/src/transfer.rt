@@ -5,7 +5,10 @@ ghost use Rattle.bpf_decode.specs.Arithmetic.{alu_value, neg_value, mov_value, s
 ghost use Rattle.bpf_decode.specs.Instruction.{signed_move_bits};
 ghost use Rattle.bpf_decode.specs.declared.operation.OpWidth.TheVariants.{Bits32, Bits64};
 ghost use Rattle.abstract_num.specs.Plain.{Gives, Holds, Kept, constant, view};
-ghost use Rattle.abstract_num.specs.Transfer.{answer32, answer64, copied, bits_above, count_of, cut, extended_from, extended_of, finished32, finished64, is_constant, known, lsh_answer, moved, ordered, raised, row_in, row_of, row_of_32, sign_extended, transferred};
+ghost use Rattle.abstract_num.specs.Transfer.{answer32, answer64, copied, bits_above, count_of, cut, extended_from};
+ghost use Rattle.abstract_num.specs.Transfer.{extended_of, finished32, finished64, is_constant, known, lsh_answer};
+ghost use Rattle.abstract_num.specs.Transfer.{moved, ordered, raised, row_in, row_of, row_of_32, sign_extended};
+ghost use Rattle.abstract_num.specs.Transfer.{transferred};
 
 use crate::domain::Domain;
 use crate::half::Half;
@@ -56,7 +59,8 @@ fn row_of(operation: Arithmetic, count: Option<u32>) -> RowAnswer
         Arithmetic::Mod => RowAnswer::By(Row::Mod),
         Arithmetic::SignedMod => RowAnswer::All,
         Arithmetic::Xor => RowAnswer::By(Row::Xor),
-        Arithmetic::Arsh => match count { Some(by) => RowAnswer::By(Row::ArshBy(by)), None => RowAnswer::By(Row::Arsh) },
+        Arithmetic::Arsh =>
+            match count { Some(by) => RowAnswer::By(Row::ArshBy(by)), None => RowAnswer::By(Row::Arsh) },
     }
 }
 

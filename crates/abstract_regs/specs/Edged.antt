@@ -42,4 +42,5 @@ with_edges precision Leaves kinds next g = []
 with_edges precision Falls kinds next g = (next, g) ∷ []
 with_edges precision (Jumps q) kinds next g = (q, g) ∷ []
 with_edges precision (Branches q compared) kinds next g = (q, g) ∷ (next, refined g compared kinds) ∷ []
-with_edges precision (Forks q compared) kinds next g = edge_to q (heard precision g compared) ++ edge_to next (heard precision (refined g compared kinds) compared)
+with_edges precision (Forks q compared) kinds next g =
+    edge_to q (heard precision g compared) ++ edge_to next (heard precision (refined g compared kinds) compared)

@@ -40,4 +40,5 @@ HoldsFlatEach base (x ∷ xs) (c ∷ cs) = HoldsFlat base x c × HoldsFlatEach b
 -- Registers that a frame holds, it holds as plain numbers too, wherever the regions lie.
 abbrev pub FlatRegistersHold : Type 0
 FlatRegistersHold =
-    (base : Bases) (kinds : List PlainKind) (cs : List (Option Value)) → HoldsEach kinds cs → HoldsFlatEach base kinds (flat_registers base cs)
+    (base : Bases) (kinds : List PlainKind) (cs : List (Option Value)) → HoldsEach kinds cs →
+    HoldsFlatEach base kinds (flat_registers base cs)

@@ -14,7 +14,8 @@ use Rattle.abstract_num.specs.Transfer.{ranged}
 use Rattle.abstract_regs.specs.Kind.{PlainKind, Unset, Num, Ptr, HoldsKind, join_kind}
 use Rattle.abstract_regs.specs.declared.link.Link.{Link}
 use Rattle.abstract_regs.specs.Link.{no_link, join_links}
-use Rattle.abstract_regs.specs.Slots.{Span, stack_place, stack_range, access_span, whole_slot, slot_kind, spoiled, stored}
+use Rattle.abstract_regs.specs.Slots.{Span, stack_place, stack_range, access_span, whole_slot, slot_kind, spoiled}
+use Rattle.abstract_regs.specs.Slots.{stored}
 
 -- Kinds by register, and by slot of the stack: in rule set 1 there are none. Links by place, that
 -- is by register and then by slot: in rule sets 1 and 2 there are none.
@@ -43,7 +44,11 @@ join_each (x ∷ xs) (y ∷ ys) = join_kind x y ∷ join_each xs ys
 
 -- what two flows that meet leave
 abbrev pub join : PlainFrame → PlainFrame → PlainFrame
-join f g = record { registers = join_each f.registers g.registers; slots = join_each f.slots g.slots; links = join_links f.links g.links }
+join f g = record {
+  registers = join_each f.registers g.registers;
+  slots = join_each f.slots g.slots;
+  links = join_links f.links g.links;
+}
 
 -- a number that isn't given is unset
 abbrev pub number_kind : Option Plain → PlainKind
@@ -56,7 +61,8 @@ number_kind (Some n) = Num n
 abbrev pub entry_frame : Precision → ℕ → ℕ → ℕ → ℕ → PlainFrame
 entry_frame precision in_cap stack count places = record {
   registers =
-      Unset ∷ Ptr Input (constant 0) ∷ number_kind (tighten precision (ranged 0 in_cap)) ∷ Ptr Output (constant 0) ∷ Unset ∷ Unset ∷ Unset ∷ Unset ∷ Unset ∷ Unset ∷ Ptr Stack (constant stack) ∷ [];
+      Unset ∷ Ptr Input (constant 0) ∷ number_kind (tighten precision (ranged 0 in_cap)) ∷ Ptr Output (constant 0) ∷
+      Unset ∷ Unset ∷ Unset ∷ Unset ∷ Unset ∷ Unset ∷ Ptr Stack (constant stack) ∷ [];
   slots = replicate count (Num (constant 0));
   links = replicate places no_link;
 }
@@ -77,7 +83,11 @@ with_links f ls = record { registers = f.registers; slots = f.slots; links = ls 
 
 -- a helper answers such a number in register 0 and leaves registers 1 to 5 unset
 abbrev pub after_answer : Plain → PlainFrame → PlainFrame
-after_answer answer f = record { registers = Num answer ∷ Unset ∷ Unset ∷ Unset ∷ Unset ∷ Unset ∷ drop 6 f.registers; slots = f.slots; links = f.links }
+after_answer answer f = record {
+  registers = Num answer ∷ Unset ∷ Unset ∷ Unset ∷ Unset ∷ Unset ∷ drop 6 f.registers;
+  slots = f.slots;
+  links = f.links;
+}
 
 -- and it overwrites what its writable range may be
 abbrev pub after_call : Option ℕ → Plain → PlainFrame → PlainFrame

@@ -120,9 +120,11 @@ abbrev pub same_num : Plain → PlainKind × PlainKind
 same_num n = (Num n, Num n)
 
 -- what is left of both; what isn't a number stays as it is
-abbrev pub along_kinds : Precision → OpWidth → Comparison → Bool → Bool → PlainKind → PlainKind → Option (PlainKind × PlainKind)
+abbrev pub along_kinds : Precision → OpWidth → Comparison → Bool → Bool → PlainKind → PlainKind →
+    Option (PlainKind × PlainKind)
 along_kinds precision bits comparison taken true (Num k) (Num l) = option_map same_num (tighten precision k)
-along_kinds precision bits comparison taken false (Num k) (Num l) = option_map both_nums (along precision bits comparison taken k l)
+along_kinds precision bits comparison taken false (Num k) (Num l) =
+    option_map both_nums (along precision bits comparison taken k l)
 along_kinds precision bits comparison taken same Unset y = Some (Unset, y)
 along_kinds precision bits comparison taken same (Num k) Unset = Some (Num k, Unset)
 along_kinds precision bits comparison taken same (Num k) (Ptr q l) = Some (Num k, Ptr q l)

@@ -1,5 +1,6 @@
 -- The laws of the join of frames, and that a join holds what either part holds.
-use Rattle.std.specs.Prelude.{◌≡◌, ◌⊎◌, ℕ, ◌+◌, ◌%◌, ◌^◌, ◌<◌, ◌≤◌, List, [], ◌∷◌, Option, Some, None, true, false, length, replicate, is_some}
+use Rattle.std.specs.Prelude.{◌≡◌, ◌⊎◌, ℕ, ◌+◌, ◌%◌, ◌^◌, ◌<◌, ◌≤◌, List, [], ◌∷◌, Option, Some, None, true, false}
+use Rattle.std.specs.Prelude.{length, replicate, is_some}
 use Rattle.abstract_num.specs.declared.precision.Precision.{Precision}
 use Rattle.abstract_num.specs.Plain.{Plain, Holds, Below}
 use Rattle.abstract_num.specs.Keeping.{Fits}
@@ -15,7 +16,8 @@ use Rattle.abstract_regs.specs.Frame.{PlainFrame, kept_kind, join_each, join, en
 use Rattle.abstract_regs.specs.Flow.{flow}
 use Rattle.abstract_regs.specs.declared.link.Link.{Link}
 use Rattle.abstract_regs.specs.Link.{no_link, join_links}
-use Rattle.abstract_regs.specs.Moves.{Among, KindFits, AllowsLoad, LoadIsKnown, Reached, IsSlot, IsNumber, HoldsLinks, NamesBelow, value_at}
+use Rattle.abstract_regs.specs.Moves.{Among, KindFits, AllowsLoad, LoadIsKnown, Reached, IsSlot, IsNumber, HoldsLinks}
+use Rattle.abstract_regs.specs.Moves.{NamesBelow, value_at}
 use Rattle.abstract_regs.specs.Seen.{seen_each}
 use Rattle.bpf_decode.specs.declared.insn.Insn.{Insn}
 
@@ -38,18 +40,21 @@ BelowEach (x ∷ xs) (y ∷ ys) = BelowKind x y × BelowEach xs ys
 -- Of the frames of the code: the join is commutative, associative and idempotent, and an upper
 -- bound.
 abbrev pub JoinCommutes : Type 0
-JoinCommutes = (xs ys : List Kind) → length xs ≡ length ys → join_each (seen_each xs) (seen_each ys) ≡ join_each (seen_each ys) (seen_each xs)
+JoinCommutes = (xs ys : List Kind) → length xs ≡ length ys →
+    join_each (seen_each xs) (seen_each ys) ≡ join_each (seen_each ys) (seen_each xs)
 
 abbrev pub JoinAssociates : Type 0
 JoinAssociates =
     (xs ys zs : List Kind) → length xs ≡ length ys → length ys ≡ length zs →
-    join_each (join_each (seen_each xs) (seen_each ys)) (seen_each zs) ≡ join_each (seen_each xs) (join_each (seen_each ys) (seen_each zs))
+    join_each (join_each (seen_each xs) (seen_each ys)) (seen_each zs) ≡
+    join_each (seen_each xs) (join_each (seen_each ys) (seen_each zs))
 
 abbrev pub JoinOfSame : Type 0
 JoinOfSame = (xs : List Kind) → join_each (seen_each xs) (seen_each xs) ≡ seen_each xs
 
 abbrev pub JoinIsAbove : Type 0
-JoinIsAbove = (xs ys : List Kind) → length xs ≡ length ys → BelowEach (seen_each xs) (join_each (seen_each xs) (seen_each ys))
+JoinIsAbove =
+    (xs ys : List Kind) → length xs ≡ length ys → BelowEach (seen_each xs) (join_each (seen_each xs) (seen_each ys))
 
 -- Links have these laws too: each link of the join is none, or the same in either frame.
 abbrev pub BelowLinks : List Link → List Link → Type 0
@@ -88,20 +93,23 @@ JoinsHold = (f g : PlainFrame) → JoinHolds f g
 -- place is linked.
 pub record EntryIsHeld (precision : Precision) (in_cap stack count places n : ℕ) : Type 0 where
   pub registers : HoldsEach (entry_frame precision in_cap stack count places).registers
-      (None ∷ Some (values.Ptr Input 0) ∷ Some (values.Num n) ∷ Some (values.Ptr Output 0) ∷ None ∷ None ∷ None ∷ None ∷ None ∷ None ∷ Some (values.Ptr Stack stack) ∷ [])
+      (None ∷ Some (values.Ptr Input 0) ∷ Some (values.Num n) ∷ Some (values.Ptr Output 0) ∷ None ∷ None ∷ None ∷ None ∷
+      None ∷ None ∷ Some (values.Ptr Stack stack) ∷ [])
   pub slots : HoldsEach (entry_frame precision in_cap stack count places).slots (replicate count (Some (values.Num 0)))
   pub links : (cs vs : List (Option Value)) → HoldsLinks (entry_frame precision in_cap stack count places) cs vs
   pub names : (p : ℕ) → NamesBelow p (entry_frame precision in_cap stack count places)
 
 -- That is so of each length of the input up to in_cap.
 abbrev pub EntryHolds : Type 0
-EntryHolds = (precision : Precision) (in_cap stack count places n : ℕ) → in_cap < 2 ^ 64 → stack < 2 ^ 64 → n ≤ in_cap → EntryIsHeld precision in_cap stack count places n
+EntryHolds = (precision : Precision) (in_cap stack count places n : ℕ) → in_cap < 2 ^ 64 → stack < 2 ^ 64 → n ≤ in_cap →
+    EntryIsHeld precision in_cap stack count places n
 
 -- An access that fits by an offset stays within the first `size` bytes, at every place that the
 -- offset holds.
 abbrev pub AccessesFit : Type 0
 AccessesFit =
-    (precision : Precision) (k : Plain) → Fits k → (distance w size : ℕ) → distance < 2 ^ 64 → access_fits precision k distance w size ≡ true →
+    (precision : Precision) (k : Plain) → Fits k → (distance w size : ℕ) → distance < 2 ^ 64 →
+    access_fits precision k distance w size ≡ true →
     (at : ℕ) → Holds k at → (at + distance) % 2 ^ 64 + w ≤ size
 
 -- A range that fits from an offset on stays within the first `size` bytes, from every place that
@@ -114,7 +122,8 @@ RangesFit =
 -- An instruction keeps the number of slots, along each of its edges; so does a join.
 abbrev pub FlowsKeepSlots : Type 0
 FlowsKeepSlots =
-    (precision : Precision) (room : Option ℕ) (answer : Plain) (i : Insn) (p q : ℕ) (f g : PlainFrame) → Among q g (flow precision room answer i p f) → length g.slots ≡ length f.slots
+    (precision : Precision) (room : Option ℕ) (answer : Plain) (i : Insn) (p q : ℕ) (f g : PlainFrame) →
+    Among q g (flow precision room answer i p f) → length g.slots ≡ length f.slots
 
 abbrev pub JoinsKeepSlots : Type 0
 JoinsKeepSlots = (f g : PlainFrame) → length g.slots ≡ length f.slots → length (join f g).slots ≡ length f.slots
@@ -122,7 +131,8 @@ JoinsKeepSlots = (f g : PlainFrame) → length g.slots ≡ length f.slots → le
 -- And the number of places that may be linked.
 abbrev pub FlowsKeepLinks : Type 0
 FlowsKeepLinks =
-    (precision : Precision) (room : Option ℕ) (answer : Plain) (i : Insn) (p q : ℕ) (f g : PlainFrame) → Among q g (flow precision room answer i p f) → length g.links ≡ length f.links
+    (precision : Precision) (room : Option ℕ) (answer : Plain) (i : Insn) (p q : ℕ) (f g : PlainFrame) →
+    Among q g (flow precision room answer i p f) → length g.links ≡ length f.links
 
 abbrev pub JoinsKeepLinks : Type 0
 JoinsKeepLinks = (f g : PlainFrame) → length g.links ≡ length f.links → length (join f g).links ≡ length f.links
@@ -131,7 +141,8 @@ JoinsKeepLinks = (f g : PlainFrame) → length g.links ≡ length f.links → le
 -- before it are below p. A join has no others.
 abbrev pub FlowsKeepNames : Type 0
 FlowsKeepNames =
-    (precision : Precision) (room : Option ℕ) (answer : Plain) (i : Insn) (p q : ℕ) (f g : PlainFrame) → NamesBelow p f → Among q g (flow precision room answer i p f) →
+    (precision : Precision) (room : Option ℕ) (answer : Plain) (i : Insn) (p q : ℕ) (f g : PlainFrame) →
+    NamesBelow p f → Among q g (flow precision room answer i p f) →
     (n : ℕ) → p < n → NamesBelow n g
 
 abbrev pub JoinsKeepNames : Type 0
@@ -140,7 +151,8 @@ JoinsKeepNames = (f g : PlainFrame) (p : ℕ) → NamesBelow p f → NamesBelow 
 -- Of a load that the rules leave, what it reads is known, wherever it is.
 abbrev pub LoadsAreKnown : Type 0
 LoadsAreKnown =
-    (precision : Precision) (f : PlainFrame) (x : PlainKind) (distance w : ℕ) → KindFits x → distance < 2 ^ 64 → AllowsLoad precision f x distance w →
+    (precision : Precision) (f : PlainFrame) (x : PlainKind) (distance w : ℕ) → KindFits x → distance < 2 ^ 64 →
+    AllowsLoad precision f x distance w →
     (vs : List (Option Value)) → length f.slots ≡ length vs → HoldsEach f.slots vs →
     (r : Region) (at : ℕ) → HoldsKind x (Some (values.Ptr r at)) → LoadIsKnown vs r ((at + distance) % 2 ^ 64) w
 
@@ -148,13 +160,16 @@ LoadsAreKnown =
 -- number.
 abbrev pub RangesAreKnown : Type 0
 RangesAreKnown =
-    (f : PlainFrame) (x y : PlainKind) → meets Nothing (stack_range x y) 0 f.slots ≡ false → meets Pointer (stack_range x y) 0 f.slots ≡ false →
+    (f : PlainFrame) (x y : PlainKind) → meets Nothing (stack_range x y) 0 f.slots ≡ false →
+    meets Pointer (stack_range x y) 0 f.slots ≡ false →
     (vs : List (Option Value)) → length f.slots ≡ length vs → HoldsEach f.slots vs → is_ptr x ≡ true → is_num y ≡ true →
-    (r : Region) (at n j : ℕ) → HoldsKind x (Some (values.Ptr r at)) → HoldsKind y (Some (values.Num n)) → j < length vs → 1 ≤ n → Reached r at n j → IsNumber (value_at vs j)
+    (r : Region) (at n j : ℕ) → HoldsKind x (Some (values.Ptr r at)) → HoldsKind y (Some (values.Num n)) →
+    j < length vs → 1 ≤ n → Reached r at n j → IsNumber (value_at vs j)
 
 -- If the kind of an access's slot is known, the access is that slot.
 abbrev pub SlotsAreKnown : Type 0
 SlotsAreKnown =
-    (precision : Precision) (f : PlainFrame) (x : PlainKind) (distance w : ℕ) → KindFits x → distance < 2 ^ 64 → is_some (kept_kind precision f x distance w) ≡ true →
+    (precision : Precision) (f : PlainFrame) (x : PlainKind) (distance w : ℕ) → KindFits x → distance < 2 ^ 64 →
+    is_some (kept_kind precision f x distance w) ≡ true →
     (vs : List (Option Value)) → length f.slots ≡ length vs →
     (r : Region) (at : ℕ) → HoldsKind x (Some (values.Ptr r at)) → (j : ℕ) × IsSlot vs r ((at + distance) % 2 ^ 64) w j

@@ -1,6 +1,7 @@
 -- A link says how the number of a place, a register or a slot of the stack, comes from a number
 -- that the link names: which part of that number, with a distance added, it is.
-use Rattle.std.specs.Prelude.{◌≡◌, ℕ, ◌+◌, ◌-◌, ◌*◌, ◌/◌, ◌%◌, ◌^◌, ◌<◌, ◌⊎◌, ◌==◌, ◌&&◌, List, [], ◌∷◌, Option, Some, None, Bool, true, false, if◌then◌else◌, slice_index_or}
+use Rattle.std.specs.Prelude.{◌≡◌, ℕ, ◌+◌, ◌-◌, ◌*◌, ◌/◌, ◌%◌, ◌^◌, ◌<◌, ◌⊎◌, ◌==◌, ◌&&◌, List, [], ◌∷◌, Option, Some}
+use Rattle.std.specs.Prelude.{None, Bool, true, false, if◌then◌else◌, slice_index_or}
 use Rattle.bpf_decode.specs.declared.value.Value.{Value}
 use Rattle.bpf_decode.specs.declared.value.Value.TheVariants as values
 use Rattle.abstract_num.specs.UnsignedRows.{digits}
@@ -94,7 +95,8 @@ down_form Sign = Unlinked
 
 -- after d was added to the place's number
 abbrev pub moved_link : Link → ℕ → Link
-moved_link l d = if is_whole l.form then record { distance = (l.distance + d) % 2 ^ 64; name = l.name; form = Whole } else no_link
+moved_link l d =
+    if is_whole l.form then record { distance = (l.distance + d) % 2 ^ 64; name = l.name; form = Whole } else no_link
 
 -- a number whose bits are all set, from the lowest up to the highest set one; also 0
 abbrev pub is_ones : ℕ → Bool

@@ -1,12 +1,15 @@
 -- What becomes of links: those that an instruction leaves, by the kinds before it, and what they
 -- tell of other places' kinds along the edges of a comparison. A register's place is its number, a
 -- slot's is after all registers'. In rule sets 1 and 2 the list of links is empty, and stays so.
-use Rattle.std.specs.Prelude.{ℕ, ℤ, pos, negsuc, ◌+◌, ◌-◌, ◌%◌, ◌^◌, ◌==◌, ◌&&◌, ◌||◌, not, nat_lt, nat_le, int_le, int_lt, List, [], ◌∷◌, length, Option, Some, None, Bool, true, false, if◌then◌else◌, slice_get, slice_set, option_map, option_and_then}
+use Rattle.std.specs.Prelude.{ℕ, ℤ, pos, negsuc, ◌+◌, ◌-◌, ◌%◌, ◌^◌, ◌==◌, ◌&&◌, ◌||◌, not, nat_lt, nat_le, int_le}
+use Rattle.std.specs.Prelude.{int_lt, List, [], ◌∷◌, length, Option, Some, None, Bool, true, false, if◌then◌else◌}
+use Rattle.std.specs.Prelude.{slice_get, slice_set, option_map, option_and_then}
 use Rattle.std.specs.Int.{int_max, int_min, int_shr}
 use Rattle.bpf_decode.specs.declared.insn.Operand.{Operand}
 use Rattle.bpf_decode.specs.declared.insn.Operand.TheVariants.{Immediate, Register}
 use Rattle.bpf_decode.specs.declared.insn.Insn.{Insn}
-use Rattle.bpf_decode.specs.declared.insn.Insn.TheVariants.{Alu, Neg, Mov, MovSigned, End, LoadWide, Load, LoadSigned, Store, Jump, JumpLong, Branch, Call, CallLocal, Exit}
+use Rattle.bpf_decode.specs.declared.insn.Insn.TheVariants.{Alu, Neg, Mov, MovSigned, End, LoadWide, Load, LoadSigned}
+use Rattle.bpf_decode.specs.declared.insn.Insn.TheVariants.{Store, Jump, JumpLong, Branch, Call, CallLocal, Exit}
 use Rattle.bpf_decode.specs.declared.operation.OpWidth.{OpWidth}
 use Rattle.bpf_decode.specs.declared.operation.OpWidth.TheVariants.{Bits32, Bits64}
 use Rattle.bpf_decode.specs.declared.operation.Arithmetic.{Arithmetic}
@@ -25,7 +28,8 @@ use Rattle.abstract_num.specs.Edges.{along, first_of}
 use Rattle.abstract_regs.specs.declared.link.Link.{Link}
 use Rattle.abstract_regs.specs.declared.link.Form.{Form}
 use Rattle.abstract_regs.specs.declared.link.Form.TheVariants.{Unlinked, Whole, Low, Up, Sign}
-use Rattle.abstract_regs.specs.Link.{no_link, is_linked, is_whole, has_low, link_in, shaped, low_form, up_form, sign_form, down_form, moved_link, is_ones, unlinked}
+use Rattle.abstract_regs.specs.Link.{no_link, is_linked, is_whole, has_low, link_in, shaped, low_form, up_form}
+use Rattle.abstract_regs.specs.Link.{sign_form, down_form, moved_link, is_ones, unlinked}
 use Rattle.abstract_regs.specs.Kind.{PlainKind, Unset, Num, Ptr}
 use Rattle.abstract_regs.specs.Slots.{Span, touches, stack_place, access_span, whole_slot}
 use Rattle.abstract_regs.specs.Frame.{PlainFrame, or_unset, kind_at, operand_kind, room_span, with_links}
@@ -82,7 +86,8 @@ is_short (Ptr r k) = false
 abbrev pub halved_link : ℕ → List Link → ℕ → PlainKind → ℕ → List Link
 halved_link p links source x target =
     let l = taken p x (link_in links source) in
-    if is_short x then slice_set (slice_set links source l) target (shaped l (low_form l.form)) else slice_set links target no_link
+    if is_short x then slice_set (slice_set links source l) target (shaped l (low_form l.form))
+    else slice_set links target no_link
 
 -- after a copy: of an immediate there is no link
 abbrev pub moved_links : OpWidth → Operand → ℕ → PlainFrame → ℕ → List Link
@@ -123,7 +128,8 @@ shifted_link c l = if c % 64 == 32 then l else no_link
 
 -- bits that cut nothing off leave a link as it is, bit 31 alone is the sign
 abbrev pub masked_link : Plain → ℕ → Link → Link
-masked_link k c l = if is_ones c && nat_le k.high c then l else (if c == 2 ^ 31 then shaped l (sign_form l.form) else no_link)
+masked_link k c l =
+    if is_ones c && nat_le k.high c then l else (if c == 2 ^ 31 then shaped l (sign_form l.form) else no_link)
 
 -- Of a number and a constant: sums and differences stay whole, and shifts by 32 move the low half
 -- up and down.
@@ -162,11 +168,13 @@ links_after precision room (Load width dst base offset) p f =
     loaded_links (accessed_slot precision f (kind_at f base) (extended offset) (byte_count width)) p f dst
 links_after precision room (LoadSigned width dst base offset) p f = slice_set f.links dst no_link
 links_after precision room (Store width base offset source) p f =
-    stored_links (accessed_slot precision f (kind_at f base) (extended offset) (byte_count width)) (access_span (stack_place precision (kind_at f base) (extended offset)) (byte_count width)) source p f
+    stored_links (accessed_slot precision f (kind_at f base) (extended offset) (byte_count width))
+    (access_span (stack_place precision (kind_at f base) (extended offset)) (byte_count width)) source p f
 links_after precision room (Jump offset) p f = f.links
 links_after precision room (JumpLong distance) p f = f.links
 links_after precision room (Branch bits comparison dst source offset) p f = f.links
-links_after precision room (Call helper) p f = unlinked (is_touched (room_span f room)) 0 (unlinked is_clobbered 0 f.links)
+links_after precision room (Call helper) p f =
+    unlinked (is_touched (room_span f room)) 0 (unlinked is_clobbered 0 f.links)
 links_after precision room (CallLocal distance) p f = f.links
 links_after precision room Exit p f = f.links
 
@@ -194,7 +202,8 @@ is_bounded z = nat_lt z.high (2 ^ 64) && nat_lt z.unknown (2 ^ 64)
 
 -- what is left of t, which is at distance d from z
 abbrev pub tell_whole : Precision → Plain → ℕ → Plain → Option Plain
-tell_whole precision z d t = if is_bounded z then option_and_then (met_number precision t) (at_distance precision z d) else Some t
+tell_whole precision z d t =
+    if is_bounded z then option_and_then (met_number precision t) (at_distance precision z d) else Some t
 
 -- every half
 abbrev pub any_half : ℤ × ℤ
@@ -207,7 +216,8 @@ half_told Unlinked z = any_half
 half_told Whole z = (z.half_least, z.half_greatest)
 half_told Low z = (z.half_least, z.half_greatest)
 half_told Up z = (int_shr z.least 32, int_shr z.greatest 32)
-half_told Sign z = if z.high == 0 then (pos 0, pos (2 ^ 31 - 1)) else (if nat_le 1 z.low then (negsuc (2 ^ 31 - 1), negsuc 0) else any_half)
+half_told Sign z = if z.high == 0 then (pos 0, pos (2 ^ 31 - 1))
+    else (if nat_le 1 z.low then (negsuc (2 ^ 31 - 1), negsuc 0) else any_half)
 
 -- t, if its low half lies between these
 abbrev pub met_half : Precision → Plain → ℤ × ℤ → Option Plain
@@ -247,13 +257,15 @@ told_kinds precision z l from links at (x ∷ xs) =
 -- of all kinds of a frame
 abbrev pub tell_all : Precision → Plain → Link → ℕ → PlainFrame → Option PlainFrame
 tell_all precision z l from f =
-    option_and_then (λ xs. option_map (λ ys. record { registers = xs; slots = ys; links = f.links }) (told_kinds precision z l from f.links 11 f.slots))
+    option_and_then (λ xs. option_map (λ ys. record { registers = xs; slots = ys; links = f.links })
+    (told_kinds precision z l from f.links 11 f.slots))
     (told_kinds precision z l from f.links 0 f.registers)
 
 -- a register that is linked tells its number
 abbrev pub tell_kind : Precision → PlainKind → ℕ → PlainFrame → Option PlainFrame
 tell_kind precision Unset r f = Some f
-tell_kind precision (Num z) r f = if is_linked (link_in f.links r).form then tell_all precision z (link_in f.links r) r f else Some f
+tell_kind precision (Num z) r f =
+    if is_linked (link_in f.links r).form then tell_all precision z (link_in f.links r) r f else Some f
 tell_kind precision (Ptr q k) r f = Some f
 
 -- what register r tells the others
@@ -263,4 +275,5 @@ tell precision r f = tell_kind precision (kind_at f r) r f
 -- both registers of a comparison tell theirs, one after the other
 unfoldable pub told : Precision → ℕ → Operand → PlainFrame → Option PlainFrame
 told precision dst (Immediate imm) f = tell precision dst f
-told precision dst (Register src) f = if dst == src then tell precision dst f else option_and_then (tell precision src) (tell precision dst f)
+told precision dst (Register src) f =
+    if dst == src then tell precision dst f else option_and_then (tell precision src) (tell precision dst f)

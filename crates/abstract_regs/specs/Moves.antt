@@ -1,10 +1,12 @@
 -- What instructions do with the registers and with the stack's slots, by the machine's operations,
 -- whatever memory and helpers answer.
-use Rattle.std.specs.Prelude.{◌≡◌, ◌⊎◌, ℕ, ◌+◌, ◌*◌, ◌%◌, ◌^◌, ◌<◌, ◌≤◌, true, false, List, [], ◌∷◌, length, Option, Some, None, slice_get, slice_set, drop}
+use Rattle.std.specs.Prelude.{◌≡◌, ◌⊎◌, ℕ, ◌+◌, ◌*◌, ◌%◌, ◌^◌, ◌<◌, ◌≤◌, true, false, List, [], ◌∷◌, length, Option}
+use Rattle.std.specs.Prelude.{Some, None, slice_get, slice_set, drop}
 use Rattle.bpf_decode.specs.declared.insn.Operand.{Operand}
 use Rattle.bpf_decode.specs.declared.insn.Operand.TheVariants.{Immediate, Register}
 use Rattle.bpf_decode.specs.declared.insn.Insn.{Insn}
-use Rattle.bpf_decode.specs.declared.insn.Insn.TheVariants.{Alu, Neg, Mov, MovSigned, End, LoadWide, Load, LoadSigned, Store, Jump, JumpLong, Branch, Call, CallLocal, Exit}
+use Rattle.bpf_decode.specs.declared.insn.Insn.TheVariants.{Alu, Neg, Mov, MovSigned, End, LoadWide, Load, LoadSigned}
+use Rattle.bpf_decode.specs.declared.insn.Insn.TheVariants.{Store, Jump, JumpLong, Branch, Call, CallLocal, Exit}
 use Rattle.bpf_decode.specs.declared.value.Value.{Value}
 use Rattle.bpf_decode.specs.declared.region.Region.{Region}
 use Rattle.bpf_decode.specs.declared.region.Region.TheVariants.{Stack}
@@ -90,10 +92,12 @@ pub record IsSlot (vs : List (Option Value)) (r : Region) (at w j : ℕ) : Type 
 -- that they reach is one.
 pub record Loads (vs : List (Option Value)) (r : Region) (at w : ℕ) (v : Value) : Type 0 where
   pub whole : (j : ℕ) → IsSlot vs r at w j → value_at vs j ≡ Some v
-  pub number : ((j : ℕ) → j < length vs → Reached r at w j → IsNumber (value_at vs j)) → (n : ℕ) × (v ≡ Num n) × (n < 256 ^ w)
+  pub number : ((j : ℕ) → j < length vs → Reached r at w j → IsNumber (value_at vs j)) →
+      (n : ℕ) × (v ≡ Num n) × (n < 256 ^ w)
 
 -- A store of w bytes of a value.
-pub record Stores (vs : List (Option Value)) (r : Region) (at w : ℕ) (x : Value) (ws : List (Option Value)) : Type 0 where
+pub record Stores (vs : List (Option Value)) (r : Region) (at w : ℕ) (x : Value)
+    (ws : List (Option Value)) : Type 0 where
   pub long : length ws ≡ length vs
   pub whole : (j : ℕ) → IsSlot vs r at w j → value_at ws j ≡ Some x
   pub others : (j : ℕ) → ¬ Reached r at w j → value_at ws j ≡ value_at vs j
@@ -109,34 +113,48 @@ pub record Overwrites (vs : List (Option Value)) (r : Region) (at n : ℕ) (ws :
 abbrev pub Overwritten : Option ℕ → List (Option Value) → List (Option Value) → List (Option Value) → Type 0
 Overwritten None cs vs ws = ws ≡ vs
 Overwritten (Some k) cs vs ws =
-    (r : Region) × (at n : ℕ) × (value_at cs k ≡ Some (Ptr r at)) × (value_at cs (k + 1) ≡ Some (Num n)) × Overwrites vs r at n ws
+    (r : Region) × (at n : ℕ) × (value_at cs k ≡ Some (Ptr r at)) × (value_at cs (k + 1) ≡ Some (Num n)) ×
+    Overwrites vs r at n ws
 
 -- The instruction at slot p takes the registers cs to ds and the stack's slots vs to ws, and goes
 -- on at slot q. A helper answers one of the numbers that `answer` holds.
-abbrev pub Moves : Option ℕ → Plain → Insn → ℕ → List (Option Value) → List (Option Value) → ℕ → List (Option Value) → List (Option Value) → Type 0
+abbrev pub Moves : Option ℕ → Plain → Insn → ℕ → List (Option Value) → List (Option Value) → ℕ → List (Option Value) →
+    List (Option Value) → Type 0
 Moves room answer (Alu bits operation dst source) p cs vs q ds ws =
-    (x y v : Value) × (value_at cs dst ≡ Some x) × (operand_in cs source ≡ Some y) × (alu_values bits operation x y ≡ Some v) × (q ≡ p + 1) × (ds ≡ with_value cs dst v) × (ws ≡ vs)
+    (x y v : Value) × (value_at cs dst ≡ Some x) × (operand_in cs source ≡ Some y) ×
+    (alu_values bits operation x y ≡ Some v) × (q ≡ p + 1) × (ds ≡ with_value cs dst v) × (ws ≡ vs)
 Moves room answer (Neg bits dst) p cs vs q ds ws =
-    (n : ℕ) × (value_at cs dst ≡ Some (Num n)) × (q ≡ p + 1) × (ds ≡ with_value cs dst (Num (neg_value bits n))) × (ws ≡ vs)
+    (n : ℕ) × (value_at cs dst ≡ Some (Num n)) × (q ≡ p + 1) × (ds ≡ with_value cs dst (Num (neg_value bits n))) ×
+    (ws ≡ vs)
 Moves room answer (Mov bits dst source) p cs vs q ds ws =
-    (y v : Value) × (operand_in cs source ≡ Some y) × (mov_values bits y ≡ Some v) × (q ≡ p + 1) × (ds ≡ with_value cs dst v) × (ws ≡ vs)
+    (y v : Value) × (operand_in cs source ≡ Some y) × (mov_values bits y ≡ Some v) × (q ≡ p + 1) ×
+    (ds ≡ with_value cs dst v) × (ws ≡ vs)
 Moves room answer (MovSigned extension dst src) p cs vs q ds ws =
-    (n : ℕ) × (value_at cs src ≡ Some (Num n)) × (q ≡ p + 1) × (ds ≡ with_value cs dst (Num (signed_move_value extension n))) × (ws ≡ vs)
+    (n : ℕ) × (value_at cs src ≡ Some (Num n)) × (q ≡ p + 1) ×
+    (ds ≡ with_value cs dst (Num (signed_move_value extension n))) × (ws ≡ vs)
 Moves room answer (End order width dst) p cs vs q ds ws =
-    (n : ℕ) × (value_at cs dst ≡ Some (Num n)) × (q ≡ p + 1) × (ds ≡ with_value cs dst (Num (end_value order width n))) × (ws ≡ vs)
+    (n : ℕ) × (value_at cs dst ≡ Some (Num n)) × (q ≡ p + 1) ×
+    (ds ≡ with_value cs dst (Num (end_value order width n))) × (ws ≡ vs)
 Moves room answer (LoadWide dst value) p cs vs q ds ws = (q ≡ p + 2) × (ds ≡ with_value cs dst (Num value)) × (ws ≡ vs)
 Moves room answer (Load width dst base offset) p cs vs q ds ws =
-    (r : Region) × (o : ℕ) × (v : Value) × (value_at cs base ≡ Some (Ptr r o)) × Loads vs r ((o + extended offset) % 2 ^ 64) (byte_count width) v × (q ≡ p + 1) × (ds ≡ with_value cs dst v) × (ws ≡ vs)
+    (r : Region) × (o : ℕ) × (v : Value) × (value_at cs base ≡ Some (Ptr r o)) ×
+    Loads vs r ((o + extended offset) % 2 ^ 64) (byte_count width) v × (q ≡ p + 1) × (ds ≡ with_value cs dst v) ×
+    (ws ≡ vs)
 Moves room answer (LoadSigned width dst base offset) p cs vs q ds ws =
-    (r : Region) × (o n : ℕ) × (value_at cs base ≡ Some (Ptr r o)) × Loads vs r ((o + extended offset) % 2 ^ 64) (signed_byte_count width) (Num n) × (q ≡ p + 1) × (ds ≡ with_value cs dst (Num (signed_load_value width n))) × (ws ≡ vs)
+    (r : Region) × (o n : ℕ) × (value_at cs base ≡ Some (Ptr r o)) ×
+    Loads vs r ((o + extended offset) % 2 ^ 64) (signed_byte_count width) (Num n) × (q ≡ p + 1) ×
+    (ds ≡ with_value cs dst (Num (signed_load_value width n))) × (ws ≡ vs)
 Moves room answer (Store width base offset source) p cs vs q ds ws =
-    (r : Region) × (o : ℕ) × (x : Value) × (value_at cs base ≡ Some (Ptr r o)) × (operand_in cs source ≡ Some x) × Stores vs r ((o + extended offset) % 2 ^ 64) (byte_count width) x ws × (q ≡ p + 1) × (ds ≡ cs)
+    (r : Region) × (o : ℕ) × (x : Value) × (value_at cs base ≡ Some (Ptr r o)) × (operand_in cs source ≡ Some x) ×
+    Stores vs r ((o + extended offset) % 2 ^ 64) (byte_count width) x ws × (q ≡ p + 1) × (ds ≡ cs)
 Moves room answer (Jump offset) p cs vs q ds ws = (q ≡ target p offset) × (ds ≡ cs) × (ws ≡ vs)
 Moves room answer (JumpLong distance) p cs vs q ds ws = (q ≡ target p distance) × (ds ≡ cs) × (ws ≡ vs)
 Moves room answer (Branch bits comparison dst source offset) p cs vs q ds ws =
-    (m n : ℕ) × (value_at cs dst ≡ Some (Num m)) × (operand_in cs source ≡ Some (Num n)) × (q ≡ branch_to (is_taken bits comparison m n) p (extended offset)) × (ds ≡ cs) × (ws ≡ vs)
+    (m n : ℕ) × (value_at cs dst ≡ Some (Num m)) × (operand_in cs source ≡ Some (Num n)) ×
+    (q ≡ branch_to (is_taken bits comparison m n) p (extended offset)) × (ds ≡ cs) × (ws ≡ vs)
 Moves room answer (Call helper) p cs vs q ds ws =
-    (n : ℕ) × Holds answer n × (q ≡ p + 1) × (ds ≡ Some (Num n) ∷ None ∷ None ∷ None ∷ None ∷ None ∷ drop 6 cs) × Overwritten room cs vs ws
+    (n : ℕ) × Holds answer n × (q ≡ p + 1) × (ds ≡ Some (Num n) ∷ None ∷ None ∷ None ∷ None ∷ None ∷ drop 6 cs) ×
+    Overwritten room cs vs ws
 Moves room answer (CallLocal distance) p cs vs q ds ws = ⊥
 Moves room answer Exit p cs vs q ds ws = ⊥
 
@@ -169,7 +187,9 @@ EachFits (x ∷ xs) = KindFits x × EachFits xs
 -- length.
 abbrev pub AllowsLoad : Precision → PlainFrame → PlainKind → ℕ → ℕ → Type 0
 AllowsLoad precision f x distance w =
-    (is_ptr x ≡ true) × (meets Nothing (access_span (stack_place precision x distance) w) 0 f.slots ≡ false) × (kept_kind precision f x distance w ≡ None → meets Pointer (access_span (stack_place precision x distance) w) 0 f.slots ≡ false)
+    (is_ptr x ≡ true) × (meets Nothing (access_span (stack_place precision x distance) w) 0 f.slots ≡ false) ×
+    (kept_kind precision f x distance w ≡ None →
+    meets Pointer (access_span (stack_place precision x distance) w) 0 f.slots ≡ false)
 
 -- a helper's range is given by a pointer and a length
 abbrev pub AllowsRoom : Option ℕ → PlainFrame → Type 0
@@ -178,11 +198,16 @@ AllowsRoom (Some k) f = (is_ptr (kind_at f k) ≡ true) × (is_num (kind_at f (k
 
 -- so of each instruction
 abbrev pub Allows : Precision → Option ℕ → Insn → PlainFrame → Type 0
-Allows precision room (Load width dst base offset) f = AllowsLoad precision f (kind_at f base) (extended offset) (byte_count width)
+Allows precision room (Load width dst base offset) f =
+    AllowsLoad precision f (kind_at f base) (extended offset) (byte_count width)
 Allows precision room (LoadSigned width dst base offset) f =
-    AllowsLoad precision f (kind_at f base) (extended offset) (signed_byte_count width) × (meets Pointer (access_span (stack_place precision (kind_at f base) (extended offset)) (signed_byte_count width)) 0 f.slots ≡ false)
+    AllowsLoad precision f (kind_at f base) (extended offset) (signed_byte_count width) ×
+    (meets Pointer (access_span (stack_place precision (kind_at f base) (extended offset)) (signed_byte_count width))
+    0 f.slots ≡ false)
 Allows precision room (Store width base offset source) f =
-    (is_ptr (kind_at f base) ≡ true) × (is_unset (operand_kind f source) ≡ false) × (kept_kind precision f (kind_at f base) (extended offset) (byte_count width) ≡ None → is_ptr (operand_kind f source) ≡ false)
+    (is_ptr (kind_at f base) ≡ true) × (is_unset (operand_kind f source) ≡ false) ×
+    (kept_kind precision f (kind_at f base) (extended offset) (byte_count width) ≡ None →
+    is_ptr (operand_kind f source) ≡ false)
 Allows precision room (Call helper) f = AllowsRoom room f
 Allows precision room i f = Unit {0}
 
@@ -190,9 +215,12 @@ Allows precision room i f = Unit {0}
 -- have no names that the instruction gives.
 abbrev pub Keeps : Precision → Option ℕ → Plain → Insn → ℕ → PlainFrame → Type 0
 Keeps precision room answer i p f =
-    Fits i → Allows precision room i f → NamesBelow p f → (cs ds vs ws : List (Option Value)) (q : ℕ) → length f.slots ≡ length vs → HoldsEach f.registers cs → HoldsEach f.slots vs → HoldsLinks f cs vs → Moves room answer i p cs vs q ds ws → Reaches (flow precision room answer i p f) q ds ws
+    Fits i → Allows precision room i f → NamesBelow p f → (cs ds vs ws : List (Option Value)) (q : ℕ) →
+    length f.slots ≡ length vs → HoldsEach f.registers cs → HoldsEach f.slots vs → HoldsLinks f cs vs →
+    Moves room answer i p cs vs q ds ws → Reaches (flow precision room answer i p f) q ds ws
 
 -- Each slot that w bytes reach is a number, or they are a slot that has a value.
 abbrev pub LoadIsKnown : List (Option Value) → Region → ℕ → ℕ → Type 0
 LoadIsKnown vs r at w =
-    ((j : ℕ) → j < length vs → Reached r at w j → IsNumber (value_at vs j)) ⊎ ((j : ℕ) × IsSlot vs r at w j × (v : Value) × (value_at vs j ≡ Some v))
+    ((j : ℕ) → j < length vs → Reached r at w j → IsNumber (value_at vs j)) ⊎
+    ((j : ℕ) × IsSlot vs r at w j × (v : Value) × (value_at vs j ≡ Some v))

@@ -1,6 +1,7 @@
 -- What is known of the stack's slots of eight bytes: a kind for each, in a list by slot. In rule
 -- set 1 the list is empty, so that what is said here of slots says nothing there.
-use Rattle.std.specs.Prelude.{ℕ, ◌+◌, ◌*◌, ◌/◌, ◌%◌, ◌==◌, ◌&&◌, nat_lt, List, [], ◌∷◌, Option, Some, None, Bool, true, false, if◌then◌else◌, slice_get, slice_set}
+use Rattle.std.specs.Prelude.{ℕ, ◌+◌, ◌*◌, ◌/◌, ◌%◌, ◌==◌, ◌&&◌, nat_lt, List, [], ◌∷◌, Option, Some, None, Bool, true}
+use Rattle.std.specs.Prelude.{false, if◌then◌else◌, slice_get, slice_set}
 use Rattle.abstract_num.specs.declared.precision.Precision.{Precision}
 use Rattle.abstract_num.specs.Plain.{Plain, any}
 use Rattle.abstract_regs.specs.declared.content.Content.{Content}
@@ -37,7 +38,8 @@ access_span (Some place) w = Some (record { low = place.low; high = place.high +
 -- the slot that an access is: eight bytes at one place, which is a multiple of 8
 abbrev pub whole_slot : Option Plain → ℕ → Option ℕ
 whole_slot None w = None
-whole_slot (Some place) w = if (w == 8) && ((place.low == place.high) && (place.low % 8 == 0)) then Some (place.low / 8) else None
+whole_slot (Some place) w =
+    if (w == 8) && ((place.low == place.high) && (place.low % 8 == 0)) then Some (place.low / 8) else None
 
 -- what is known of the slot that an access is, if slots are known
 abbrev pub slot_kind : List PlainKind → Option ℕ → Option PlainKind

@@ -13,7 +13,8 @@ ghost use Rattle.abstract_regs.specs.Seen.{seen, seen_both};
 ghost use Rattle.abstract_regs.specs.Frame.{kind_at, kept_kind, operand_kind};
 ghost use Rattle.abstract_regs.specs.Kind.{alu_kind};
 ghost use Rattle.abstract_regs.specs.Links.{told};
-ghost use Rattle.abstract_regs.specs.Flow.{edge_to, computed, same_register, with_operand, with_both, along_edge, loaded_kind, edges_of, flow};
+ghost use Rattle.abstract_regs.specs.Flow.{edge_to, computed, same_register, with_operand, with_both, along_edge};
+ghost use Rattle.abstract_regs.specs.Flow.{loaded_kind, edges_of, flow};
 ghost use Rattle.abstract_regs.specs.Moves.{EachFits, Keeps};
 ghost use Rattle.abstract_regs.specs.Edged.{with_edges, refined};
 ghost use Rattle.abstract_regs.specs.declared.kind.Kinds.{Kinds};
@@ -50,7 +51,8 @@ impl Frame {
         fallen: &mut Kinds,
     ) -> Edges
         requires { slot < 2 ^ 32 }
-        ensures table { flow precision room (view answer.now) insn.now slot self.old ≡ with_edges precision result fallen.new (slot + slot_count insn.now) self.new }
+        ensures table { flow precision room (view answer.now) insn.now slot self.old ≡
+            with_edges precision result fallen.new (slot + slot_count insn.now) self.new }
         // A frame along an edge holds after it the values that were held before it.
         ensures keeps { Keeps precision room (view answer.now) insn.now slot self.old }
         ensures fits { EachFits self.old.registers }
@@ -64,9 +66,13 @@ impl Frame {
 
     /// The edges, with the links as they stand.
     #[rattlefmt::skip]
-    fn flow_on(&mut self, precision: Precision, room: Option<u8>, answer: &Number, insn: &Insn, slot: usize, fallen: &mut Kinds) -> Edges
+    fn flow_on(
+        &mut self, precision: Precision, room: Option<u8>, answer: &Number, insn: &Insn, slot: usize,
+        fallen: &mut Kinds,
+    ) -> Edges
         requires { slot < 2 ^ 62 }
-        ensures { edges_of precision room (view answer.now) insn.now slot self.old ≡ with_edges precision result fallen.new (slot + slot_count insn.now) self.new }
+        ensures { edges_of precision room (view answer.now) insn.now slot self.old ≡
+            with_edges precision result fallen.new (slot + slot_count insn.now) self.new }
     {
         match *insn {
             Insn::Alu { bits, operation, dst, source } => {
@@ -107,7 +113,9 @@ impl Frame {
         dst: Register,
         source: &Operand,
     ) -> Edges
-        ensures { (next : ℕ) (kinds : Kinds) → computed next self.old dst (alu_kind precision bits operation (kind_at self.old dst) (operand_kind self.old source.now)) ≡ with_edges precision result kinds next self.new }
+        ensures { (next : ℕ) (kinds : Kinds) →
+            computed next self.old dst (alu_kind precision bits operation (kind_at self.old dst)
+            (operand_kind self.old source.now)) ≡ with_edges precision result kinds next self.new }
     {
         let made = match (self.peek(dst), source) {
             (Kind::Num(x), Operand::Immediate(imm)) => {
@@ -144,7 +152,8 @@ impl Frame {
         dst: Register,
         source: Operand,
     ) -> Option<Kind>
-        ensures { option_map seen result ≡ alu_kind precision bits operation (kind_at self.now dst) (operand_kind self.now source) }
+        ensures { option_map seen result ≡ alu_kind precision bits operation (kind_at self.now dst)
+            (operand_kind self.now source) }
     {
         match source {
             Operand::Immediate(_) => {
@@ -166,7 +175,9 @@ impl Frame {
     /// that many bytes.
     #[inline(always)]
     fn loaded(&self, precision: Precision, width: Width, base: Register, offset: i16) -> Kind
-        ensures { Some (seen result) ≡ loaded_kind (kept_kind precision self.now (kind_at self.now base) (extended offset) (byte_count width)) (option_map plain.Num (tighten precision (ranged 0 (load_high width)))) }
+        ensures { Some (seen result) ≡ loaded_kind
+            (kept_kind precision self.now (kind_at self.now base) (extended offset) (byte_count width))
+            (option_map plain.Num (tighten precision (ranged 0 (load_high width)))) }
     {
         match self.slot(
             precision,
@@ -182,7 +193,8 @@ impl Frame {
     /// Gives a register a kind, and goes on.
     #[inline(always)]
     fn keep(&mut self, dst: Register, kind: Kind) -> Edges
-        ensures { (precision : Precision) (next : ℕ) (kinds : Kinds) → computed next self.old dst (Some (seen kind)) ≡ with_edges precision result kinds next self.new }
+        ensures { (precision : Precision) (next : ℕ) (kinds : Kinds) →
+            computed next self.old dst (Some (seen kind)) ≡ with_edges precision result kinds next self.new }
     {
         self.set(dst, kind);
         Edges::Falls
@@ -192,7 +204,8 @@ impl Frame {
     /// the instruction.
     #[inline(always)]
     fn compute(&mut self, dst: Register, kind: Option<Kind>) -> Edges
-        ensures { (precision : Precision) (next : ℕ) (kinds : Kinds) → computed next self.old dst (option_map seen kind) ≡ with_edges precision result kinds next self.new }
+        ensures { (precision : Precision) (next : ℕ) (kinds : Kinds) →
+            computed next self.old dst (option_map seen kind) ≡ with_edges precision result kinds next self.new }
     {
         match kind {
             None => Edges::Leaves,
@@ -214,7 +227,9 @@ impl Frame {
         target: usize,
         place: &mut Kinds,
     ) -> Edges
-        ensures { (next : ℕ) → edge_to target (along_edge precision bits comparison true dst source.now self.old) ++ edge_to next (along_edge precision bits comparison false dst source.now self.old) ≡ with_edges precision result place.new next self.new }
+        ensures { (next : ℕ) → edge_to target (along_edge precision bits comparison true dst source.now self.old) ++
+            edge_to next (along_edge precision bits comparison false dst source.now self.old) ≡
+            with_edges precision result place.new next self.new }
     {
         let same = is_same_register(dst, source);
         let x = self.at(dst);
@@ -237,7 +252,12 @@ impl Frame {
         fallen: Option<Kinds>,
         place: &mut Kinds,
     ) -> Edges
-        ensures { (next : ℕ) → edge_to target (option_and_then (told precision dst source.now) (option_map (with_both self.old dst source.now) (option_map seen_both taken))) ++ edge_to next (option_and_then (told precision dst source.now) (option_map (with_both self.old dst source.now) (option_map seen_both fallen))) ≡ with_edges precision result place.new next self.new }
+        ensures { (next : ℕ) →
+            edge_to target (option_and_then (told precision dst source.now)
+            (option_map (with_both self.old dst source.now) (option_map seen_both taken))) ++
+            edge_to next (option_and_then (told precision dst source.now)
+            (option_map (with_both self.old dst source.now) (option_map seen_both fallen))) ≡
+            with_edges precision result place.new next self.new }
     {
         match taken {
             None => match fallen {

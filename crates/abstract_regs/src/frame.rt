@@ -1,7 +1,8 @@
 ghost use Rattle.std.specs.Prelude.{◌≡◌, IfOk, OnOk, length, slice_get, slice_set};
 ghost use Rattle.std.specs.Option.{option_map};
 ghost use Rattle.abstract_num.specs.Plain.{view};
-ghost use Rattle.abstract_regs.specs.Frame.{kind_at, or_unset, with_kind, join, entry_frame, after_call, after_answer, after_store, kept_kind, room_span, operand_kind, compared_kind, with_slots};
+ghost use Rattle.abstract_regs.specs.Frame.{kind_at, or_unset, with_kind, join, entry_frame, after_call, after_answer};
+ghost use Rattle.abstract_regs.specs.Frame.{after_store, kept_kind, room_span, operand_kind, compared_kind, with_slots};
 ghost use Rattle.abstract_regs.specs.Slots.{stack_place, stack_range, access_span, spoiled, meets};
 ghost use Rattle.abstract_regs.specs.Moves.{EachFits};
 ghost use Rattle.abstract_regs.specs.Seen.{seen, seen_each};
@@ -34,7 +35,11 @@ impl Model for Frame {
 
     ghost Value = { PlainFrame };
 
-    ghost view = { λ f. record { registers = seen_each f.registers; slots = seen_each f.slots.items; links = f.links.items } };
+    ghost view = { λ f. record {
+      registers = seen_each f.registers;
+      slots = seen_each f.slots.items;
+      links = f.links.items;
+    } };
 }
 
 impl Frame {
@@ -216,7 +221,8 @@ impl Frame {
         distance: u64,
         bytes: usize,
     ) -> bool
-        ensures { result ≡ meets content (access_span (stack_place precision (seen base.now) distance) bytes) 0 self.now.slots }
+        ensures { result ≡ meets content (access_span (stack_place precision (seen base.now) distance) bytes)
+            0 self.now.slots }
     {
         !self.slots.is_empty()
             && meets(
@@ -243,7 +249,8 @@ impl Frame {
         bytes: usize,
         source: Operand,
     )
-        ensures { self.new ≡ after_store precision self.old (kind_at self.old base) distance bytes (operand_kind self.old source) }
+        ensures { self.new ≡ after_store precision self.old (kind_at self.old base) distance bytes
+            (operand_kind self.old source) }
     {
         if !self.slots.is_empty() {
             let place = stack_place(precision, self.peek(base), distance);

@@ -3,7 +3,8 @@ ghost use Rattle.std.specs.Option.{option_map};
 ghost use Rattle.abstract_regs.specs.Seen.{seen, seen_both, view_both};
 ghost use Rattle.abstract_regs.specs.Kind as plain;
 ghost use Rattle.abstract_num.specs.Plain.{view};
-ghost use Rattle.abstract_regs.specs.Kind.{same_num, both_nums, is_unset, is_num, is_ptr, same_region, join_kind, alu_kind, neg_kind, mov_kind, signed_move_kind, end_kind, along_kinds};
+ghost use Rattle.abstract_regs.specs.Kind.{same_num, both_nums, is_unset, is_num, is_ptr, same_region, join_kind};
+ghost use Rattle.abstract_regs.specs.Kind.{alu_kind, neg_kind, mov_kind, signed_move_kind, end_kind, along_kinds};
 
 use abstract_num::{
     Number, Precision, arithmetic, copied, join, negative, ordered, refine, sign_extended, tighten,
@@ -165,7 +166,8 @@ impl Kind {
         x: &Kind,
         y: &Kind,
     ) -> Option<Kinds>
-        ensures { option_map seen_both result ≡ along_kinds precision bits comparison taken same (seen x.now) (seen y.now) }
+        ensures { option_map seen_both result ≡
+            along_kinds precision bits comparison taken same (seen x.now) (seen y.now) }
     {
         match (x, y) {
             (Kind::Num(a), Kind::Num(b)) => {

@@ -1,7 +1,10 @@
 //! Laws of frames, for the proofs of the crates above. Each function does nothing.
 
-ghost use Rattle.abstract_regs.specs.Laws.{LinksCommute, LinksAssociate, LinksOfSame, LinksAreAbove, FlowsKeepLinks, JoinsKeepLinks, FlowsKeepNames, JoinsKeepNames};
-ghost use Rattle.abstract_regs.specs.Laws.{JoinCommutes, JoinAssociates, JoinOfSame, JoinIsAbove, JoinsHold, EntryHolds, AccessesFit, RangesFit, FlowsKeepSlots, JoinsKeepSlots, SlotsAreKnown, LoadsAreKnown, RangesAreKnown};
+ghost use Rattle.abstract_regs.specs.Laws.{LinksCommute, LinksAssociate, LinksOfSame, LinksAreAbove, FlowsKeepLinks};
+ghost use Rattle.abstract_regs.specs.Laws.{JoinsKeepLinks, FlowsKeepNames, JoinsKeepNames};
+ghost use Rattle.abstract_regs.specs.Laws.{JoinCommutes, JoinAssociates, JoinOfSame, JoinIsAbove, JoinsHold};
+ghost use Rattle.abstract_regs.specs.Laws.{EntryHolds, AccessesFit, RangesFit, FlowsKeepSlots, JoinsKeepSlots};
+ghost use Rattle.abstract_regs.specs.Laws.{SlotsAreKnown, LoadsAreKnown, RangesAreKnown};
 
 use abstract_num::keeping_laws;
 

@@ -1,7 +1,8 @@
 ghost use Rattle.std.specs.Prelude.{◌≡◌, ◌+◌, ◌-◌, ◌%◌, ◌^◌};
 ghost use Rattle.abstract_num.specs.UnsignedRows.{digits};
 ghost use Rattle.abstract_regs.specs.Link as plain;
-ghost use Rattle.abstract_regs.specs.Link.{no_link, is_linked, is_whole, has_low, low_form, up_form, sign_form, down_form, form_number, moved_link, same_link, join_link, is_ones};
+ghost use Rattle.abstract_regs.specs.Link.{no_link, is_linked, is_whole, has_low, low_form, up_form, sign_form};
+ghost use Rattle.abstract_regs.specs.Link.{down_form, form_number, moved_link, same_link, join_link, is_ones};
 
 use std::mem::size_of;
 

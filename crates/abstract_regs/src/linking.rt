@@ -7,7 +7,9 @@ ghost use Rattle.abstract_regs.specs.Frame.{kind_at, operand_kind, room_span, wi
 ghost use Rattle.abstract_regs.specs.Slots.{stack_place, access_span};
 ghost use Rattle.abstract_regs.specs.Link.{no_link, link_in, unlinked};
 ghost use Rattle.abstract_regs.specs.Links as plain;
-ghost use Rattle.abstract_regs.specs.Links.{is_touched, is_clobbered, taken, is_short, constant_of, alu_link, computed_link, accessed_slot, copied_link, halved_link, moved_links, extended_links, loaded_links, stored_links, relinked};
+ghost use Rattle.abstract_regs.specs.Links.{is_touched, is_clobbered, taken, is_short, constant_of, alu_link};
+ghost use Rattle.abstract_regs.specs.Links.{computed_link, accessed_slot, copied_link, halved_link, moved_links};
+ghost use Rattle.abstract_regs.specs.Links.{extended_links, loaded_links, stored_links, relinked};
 
 use crate::frame::Frame;
 use crate::kind::Kind;
@@ -249,7 +251,9 @@ impl Frame {
         dst: Register,
         source: &Operand,
     )
-        ensures { self.new ≡ with_links self.old (slice_set self.old.links dst (computed_link bits operation (kind_at self.old dst) (operand_kind self.old source.now) (link_in self.old.links dst))) }
+        ensures { self.new ≡ with_links self.old
+            (slice_set self.old.links dst (computed_link bits operation (kind_at self.old dst)
+            (operand_kind self.old source.now) (link_in self.old.links dst))) }
     {
         let place = usize::from(dst.number());
         let link = computed_link(
@@ -295,7 +299,8 @@ impl Frame {
         slot: u32,
         dst: Register,
     )
-        ensures { self.new ≡ with_links self.old (loaded_links (accessed_slot precision self.old (kind_at self.old base) distance bytes) slot self.old dst) }
+        ensures { self.new ≡ with_links self.old
+            (loaded_links (accessed_slot precision self.old (kind_at self.old base) distance bytes) slot self.old dst) }
     {
         match self.accessed(precision, base, distance, bytes) {
             None => self.free(dst),
@@ -315,7 +320,9 @@ impl Frame {
         source: &Operand,
         slot: u32,
     )
-        ensures { self.new ≡ with_links self.old (stored_links (accessed_slot precision self.old (kind_at self.old base) distance bytes) (access_span (stack_place precision (kind_at self.old base) distance) bytes) source.now slot self.old) }
+        ensures { self.new ≡ with_links self.old
+            (stored_links (accessed_slot precision self.old (kind_at self.old base) distance bytes)
+            (access_span (stack_place precision (kind_at self.old base) distance) bytes) source.now slot self.old) }
     {
         match self.accessed(precision, base, distance, bytes) {
             None => {
@@ -344,7 +351,8 @@ impl Frame {
 
     /// Takes the links away that a helper's call ends.
     fn free_called(&mut self, room: Option<u8>)
-        ensures { self.new ≡ with_links self.old (unlinked (is_touched (room_span self.old room)) 0 (unlinked is_clobbered 0 self.old.links)) }
+        ensures { self.new ≡ with_links self.old
+            (unlinked (is_touched (room_span self.old room)) 0 (unlinked is_clobbered 0 self.old.links)) }
     {
         let span = self.room_span(room);
         unlink(&mut self.links, 0, 6);

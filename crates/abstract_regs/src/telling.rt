@@ -5,7 +5,8 @@ ghost use Rattle.std.specs.Option.{option_map};
 ghost use Rattle.std.specs.Int.{int_shr};
 ghost use Rattle.abstract_num.specs.Plain.{view, Gives};
 ghost use Rattle.abstract_regs.specs.Edged.{left_kinds, if_live, heard, is_told};
-ghost use Rattle.abstract_regs.specs.Links.{apart, at_distance, met_number, tell_whole, half_told, met_half, tell_half, told_number, told_kind, is_named, told_kinds, tell_all, tell, told};
+ghost use Rattle.abstract_regs.specs.Links.{apart, at_distance, met_number, tell_whole, half_told, met_half, tell_half};
+ghost use Rattle.abstract_regs.specs.Links.{told_number, told_kind, is_named, told_kinds, tell_all, tell, told};
 ghost use Rattle.abstract_regs.specs.Link as plain;
 ghost use Rattle.abstract_regs.specs.Seen.{seen, seen_each};
 
@@ -167,7 +168,8 @@ fn tell_kinds(
     kinds: &mut [Kind],
 ) -> bool
     requires { first ≤ 11 }
-    ensures { told_kinds precision (view z) l from links.now first (seen_each kinds.old) ≡ left_kinds result (seen_each kinds.new) }
+    ensures { told_kinds precision (view z) l from links.now first (seen_each kinds.old) ≡
+        left_kinds result (seen_each kinds.new) }
 {
     for i in 0..kinds.len() {
         let place = first + i;

@@ -1,12 +1,14 @@
 -- The one text of a method's instructions, and of a class.
-use Rattle.std.specs.Prelude.{ℕ, ℤ, pos, negsuc, ◌+◌, ◌/◌, ◌%◌, suc, zero, List, [], ◌∷◌, ◌++◌, ◌==◌, if◌then◌else◌, codes}
+use Rattle.std.specs.Prelude.{ℕ, ℤ, pos, negsuc, ◌+◌, ◌/◌, ◌%◌, suc, zero, List, [], ◌∷◌, ◌++◌, ◌==◌, if◌then◌else◌}
+use Rattle.std.specs.Prelude.{codes}
 use Rattle.std.specs.List.{flat_map}
 use Rattle.std.specs.Fmt.{decimal, signed_decimal}
 use Rattle.std.specs.Char.{digit_char}
 use Rattle.bpf_decode.specs.declared.insn.Operand.{Operand}
 use Rattle.bpf_decode.specs.declared.insn.Operand.TheVariants.{Immediate, Register}
 use Rattle.bpf_decode.specs.declared.insn.Insn.{Insn}
-use Rattle.bpf_decode.specs.declared.insn.Insn.TheVariants.{Alu, Neg, Mov, MovSigned, End, LoadWide, Load, LoadSigned, Store, Jump, JumpLong, Branch, Call, CallLocal, Exit}
+use Rattle.bpf_decode.specs.declared.insn.Insn.TheVariants.{Alu, Neg, Mov, MovSigned, End, LoadWide, Load, LoadSigned}
+use Rattle.bpf_decode.specs.declared.insn.Insn.TheVariants.{Store, Jump, JumpLong, Branch, Call, CallLocal, Exit}
 use Rattle.bpf_decode.specs.declared.rule_set.RuleSet.{RuleSet}
 use Rattle.bpf_decode.specs.declared.rule_set.RuleSet.TheVariants.{One, Two, Three}
 use Rattle.bpf_decode.specs.Class.{ClassMethod, Class}
@@ -53,19 +55,26 @@ with_three word a b c = word ++ codes " " ++ a ++ codes ", " ++ b ++ codes ", " 
 
 -- an instruction's line, without its end
 abbrev pub line_of : Insn → List ℕ
-line_of (Alu bits operation dst source) = with_two (word_of (forms.Alu bits operation)) (register_text dst) (source_text source)
+line_of (Alu bits operation dst source) =
+    with_two (word_of (forms.Alu bits operation)) (register_text dst) (source_text source)
 line_of (Neg bits dst) = with_one (word_of (forms.Neg bits)) (register_text dst)
 line_of (Mov bits dst source) = with_two (word_of (forms.Mov bits)) (register_text dst) (source_text source)
-line_of (MovSigned extension dst src) = with_two (word_of (forms.MovSigned extension)) (register_text dst) (register_text src)
+line_of (MovSigned extension dst src) =
+    with_two (word_of (forms.MovSigned extension)) (register_text dst) (register_text src)
 line_of (End order width dst) = with_one (word_of (forms.End order width)) (register_text dst)
 line_of (LoadWide dst value) = with_two (word_of forms.LoadWide) (register_text dst) (wide_text value)
-line_of (Load width dst base offset) = with_two (word_of (forms.Load width)) (register_text dst) (memory_text base offset)
-line_of (LoadSigned width dst base offset) = with_two (word_of (forms.LoadSigned width)) (register_text dst) (memory_text base offset)
-line_of (Store width base offset (Immediate imm)) = with_two (word_of (forms.StoreNumber width)) (memory_text base offset) (signed_decimal imm)
-line_of (Store width base offset (Register src)) = with_two (word_of (forms.StoreRegister width)) (memory_text base offset) (register_text src)
+line_of (Load width dst base offset) =
+    with_two (word_of (forms.Load width)) (register_text dst) (memory_text base offset)
+line_of (LoadSigned width dst base offset) =
+    with_two (word_of (forms.LoadSigned width)) (register_text dst) (memory_text base offset)
+line_of (Store width base offset (Immediate imm)) =
+    with_two (word_of (forms.StoreNumber width)) (memory_text base offset) (signed_decimal imm)
+line_of (Store width base offset (Register src)) =
+    with_two (word_of (forms.StoreRegister width)) (memory_text base offset) (register_text src)
 line_of (Jump offset) = with_one (word_of forms.Jump) (offset_text offset)
 line_of (JumpLong distance) = with_one (word_of forms.JumpLong) (offset_text distance)
-line_of (Branch bits comparison dst source offset) = with_three (word_of (forms.Branch bits comparison)) (register_text dst) (source_text source) (offset_text offset)
+line_of (Branch bits comparison dst source offset) =
+    with_three (word_of (forms.Branch bits comparison)) (register_text dst) (source_text source) (offset_text offset)
 line_of (Call helper) = with_one (word_of forms.Call) (decimal helper)
 line_of (CallLocal distance) = with_one (word_of forms.Call) (codes "local " ++ offset_text distance)
 line_of Exit = word_of forms.Exit
@@ -80,7 +89,8 @@ flags_text flags = if flags == 1 then codes "r" else (if flags == 2 then codes "
 
 -- the line that begins a method, without its end: its name, flags and capacities
 abbrev pub directive_line : ClassMethod → List ℕ
-directive_line m = codes ".method " ++ m.name ++ codes " " ++ flags_text m.flags ++ codes " " ++ decimal m.in_cap ++ codes " " ++ decimal m.out_cap
+directive_line m = codes ".method " ++ m.name ++ codes " " ++ flags_text m.flags ++ codes " " ++ decimal m.in_cap ++
+    codes " " ++ decimal m.out_cap
 
 -- a method: its first line, and its instructions
 abbrev pub method_text : ClassMethod → List ℕ

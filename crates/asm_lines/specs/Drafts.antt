@@ -9,10 +9,13 @@ use Rattle.asm_lines.specs.declared.fault.AsmFault.TheVariants as faults
 use Rattle.asm_lines.specs.declared.draft.Draft.{Draft}
 use Rattle.asm_lines.specs.declared.draft.Draft.TheVariants as drafts
 use Rattle.asm_lines.specs.declared.form.Form.{Form}
-use Rattle.asm_lines.specs.declared.form.Form.TheVariants.{Alu, Neg, Mov, MovSigned, End, LoadWide, Load, LoadSigned, StoreNumber, StoreRegister, Jump, JumpLong, Branch, Call, Exit}
+use Rattle.asm_lines.specs.declared.form.Form.TheVariants.{Alu, Neg, Mov, MovSigned, End, LoadWide, Load, LoadSigned}
+use Rattle.asm_lines.specs.declared.form.Form.TheVariants.{StoreNumber, StoreRegister, Jump, JumpLong, Branch, Call}
+use Rattle.asm_lines.specs.declared.form.Form.TheVariants.{Exit}
 use Rattle.asm_lines.specs.Words.{form_of}
 use Rattle.asm_lines.specs.Texts.{first_word, after_word, lone, pair, triple}
-use Rattle.asm_lines.specs.Operands.{filled, of_one, of_two, of_three, register_of, immediate_of, unsigned_of, source_of, memory_of, near_target_of, far_target_of}
+use Rattle.asm_lines.specs.Operands.{filled, of_one, of_two, of_three, register_of, immediate_of, unsigned_of}
+use Rattle.asm_lines.specs.Operands.{source_of, memory_of, near_target_of, far_target_of}
 
 -- a call's operand: `local` and a distance or a label, or a helper's number
 unfoldable pub call_of : List ℕ → Result Draft AsmFault
@@ -44,19 +47,27 @@ of_none rest d = if length rest == 0 then Ok d else Err faults.Operand
 
 -- the instruction of a form with those operands
 abbrev pub draft : Form → List ℕ → Result Draft AsmFault
-draft (Alu bits operation) rest = filled (λ p. drafts.Plain (insns.Alu bits operation p.0 p.1)) (of_two register_of source_of (pair rest))
+draft (Alu bits operation) rest =
+    filled (λ p. drafts.Plain (insns.Alu bits operation p.0 p.1)) (of_two register_of source_of (pair rest))
 draft (Neg bits) rest = filled (λ dst. drafts.Plain (insns.Neg bits dst)) (of_one register_of (lone rest))
 draft (Mov bits) rest = filled (λ p. drafts.Plain (insns.Mov bits p.0 p.1)) (of_two register_of source_of (pair rest))
-draft (MovSigned extension) rest = filled (λ p. drafts.Plain (insns.MovSigned extension p.0 p.1)) (of_two register_of register_of (pair rest))
+draft (MovSigned extension) rest =
+    filled (λ p. drafts.Plain (insns.MovSigned extension p.0 p.1)) (of_two register_of register_of (pair rest))
 draft (End order width) rest = filled (λ dst. drafts.Plain (insns.End order width dst)) (of_one register_of (lone rest))
-draft LoadWide rest = filled (λ p. drafts.Plain (insns.LoadWide p.0 p.1)) (of_two register_of (unsigned_of 18446744073709551615) (pair rest))
-draft (Load width) rest = filled (λ p. drafts.Plain (insns.Load width p.0 p.1.0 p.1.1)) (of_two register_of memory_of (pair rest))
-draft (LoadSigned width) rest = filled (λ p. drafts.Plain (insns.LoadSigned width p.0 p.1.0 p.1.1)) (of_two register_of memory_of (pair rest))
-draft (StoreNumber width) rest = filled (λ p. drafts.Plain (insns.Store width p.0.0 p.0.1 (Immediate p.1))) (of_two memory_of immediate_of (pair rest))
-draft (StoreRegister width) rest = filled (λ p. drafts.Plain (insns.Store width p.0.0 p.0.1 (Register p.1))) (of_two memory_of register_of (pair rest))
+draft LoadWide rest = filled (λ p. drafts.Plain (insns.LoadWide p.0 p.1))
+    (of_two register_of (unsigned_of 18446744073709551615) (pair rest))
+draft (Load width) rest =
+    filled (λ p. drafts.Plain (insns.Load width p.0 p.1.0 p.1.1)) (of_two register_of memory_of (pair rest))
+draft (LoadSigned width) rest =
+    filled (λ p. drafts.Plain (insns.LoadSigned width p.0 p.1.0 p.1.1)) (of_two register_of memory_of (pair rest))
+draft (StoreNumber width) rest = filled (λ p. drafts.Plain (insns.Store width p.0.0 p.0.1 (Immediate p.1)))
+    (of_two memory_of immediate_of (pair rest))
+draft (StoreRegister width) rest =
+    filled (λ p. drafts.Plain (insns.Store width p.0.0 p.0.1 (Register p.1))) (of_two memory_of register_of (pair rest))
 draft Jump rest = filled drafts.Jump (of_one near_target_of (lone rest))
 draft JumpLong rest = filled drafts.JumpLong (of_one far_target_of (lone rest))
-draft (Branch bits comparison) rest = filled (λ p. drafts.Branch bits comparison p.0 p.1.0 p.1.1) (of_three register_of source_of near_target_of (triple rest))
+draft (Branch bits comparison) rest = filled
+    (λ p. drafts.Branch bits comparison p.0 p.1.0 p.1.1) (of_three register_of source_of near_target_of (triple rest))
 draft Call rest = of_one call_of (lone rest)
 draft Exit rest = of_none rest (drafts.Plain insns.Exit)
 

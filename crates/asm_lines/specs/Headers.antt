@@ -12,4 +12,5 @@ pub record MethodHeader : Type 0 where
 
 -- a name and numbers within the limits that all rule sets have
 abbrev pub is_header : MethodHeader → Bool
-is_header h = is_method_name h.name && are_flags h.flags && between 0 CAPACITY_LIMIT h.in_cap && between 0 CAPACITY_LIMIT h.out_cap
+is_header h = is_method_name h.name && are_flags h.flags && between 0 CAPACITY_LIMIT h.in_cap &&
+    between 0 CAPACITY_LIMIT h.out_cap

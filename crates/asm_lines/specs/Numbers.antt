@@ -1,5 +1,6 @@
 -- Numbers and registers as a text has them.
-use Rattle.std.specs.Prelude.{ℕ, ℤ, pos, neg_ℤ, ◌==◌, ◌&&◌, nat_le, Bool, true, false, List, length, drop, slice_index, Option, Some, None, if◌then◌else◌, Result, Ok, Err}
+use Rattle.std.specs.Prelude.{ℕ, ℤ, pos, neg_ℤ, ◌==◌, ◌&&◌, nat_le, Bool, true, false, List, length, drop, slice_index}
+use Rattle.std.specs.Prelude.{Option, Some, None, if◌then◌else◌, Result, Ok, Err}
 use Rattle.std.specs.Str.Parse.{digits_value}
 use Rattle.text_digits.specs.Digits.{all_digits, is_decimal}
 use Rattle.asm_lines.specs.declared.fault.AsmFault.{AsmFault}
@@ -16,7 +17,8 @@ hex_number ds = if all_digits 16 ds && nat_le (length ds) 16 then Some (digits_v
 
 -- a number without a sign: decimal, or to base 16 after `0x`
 unfoldable pub natural : List ℕ → Option ℕ
-natural text = if slice_index text 0 == 48 && slice_index text 1 == 120 then hex_number (drop 2 text) else decimal_number text
+natural text =
+    if slice_index text 0 == 48 && slice_index text 1 == 120 then hex_number (drop 2 text) else decimal_number text
 
 -- a number without a sign that was read, if it is at most `most`: no number is 2 Operand, a greater
 -- one 3 Range
@@ -43,7 +45,8 @@ plus_within above text = as_nonnegative (natural_within above (natural text))
 
 -- an immediate: `-` before a negative number alone
 unfoldable pub plain_within : ℕ → ℕ → List ℕ → Result Number AsmFault
-plain_within below above text = if slice_index text 0 == 45 then minus_within below (drop 1 text) else plus_within above text
+plain_within below above text =
+    if slice_index text 0 == 45 then minus_within below (drop 1 text) else plus_within above text
 
 -- an offset or a distance: with its sign
 unfoldable pub signed_within : ℕ → ℕ → List ℕ → Result Number AsmFault

@@ -1,5 +1,6 @@
 -- Operands: registers, numbers, places in memory and targets of jumps.
-use Rattle.std.specs.Prelude.{ℕ, ℤ, pos, ◌==◌, ◌&&◌, ◌||◌, ◌-◌, nat_le, Bool, List, length, take, drop, slice_index, Option, Some, None, if◌then◌else◌, Result, Ok, Err}
+use Rattle.std.specs.Prelude.{ℕ, ℤ, pos, ◌==◌, ◌&&◌, ◌||◌, ◌-◌, nat_le, Bool, List, length, take, drop, slice_index}
+use Rattle.std.specs.Prelude.{Option, Some, None, if◌then◌else◌, Result, Ok, Err}
 use Rattle.std.specs.List.{before_first}
 use Rattle.bpf_decode.specs.declared.insn.Operand.{Operand}
 use Rattle.bpf_decode.specs.declared.insn.Operand.TheVariants.{Immediate, Register}
@@ -29,7 +30,8 @@ both (Err f) (Err g) = Err (least f g)
 
 -- a register: `r` and a number from 0 to 10 without leading zeros
 unfoldable pub register_of : List ℕ → Result ℕ AsmFault
-register_of text = if slice_index text 0 == 114 then natural_within 10 (decimal_number (drop 1 text)) else Err faults.Operand
+register_of text =
+    if slice_index text 0 == 114 then natural_within 10 (decimal_number (drop 1 text)) else Err faults.Operand
 
 -- an immediate of 32 bits
 unfoldable pub immediate_of : List ℕ → Result ℤ AsmFault
@@ -49,7 +51,8 @@ unsigned_of most text = filled (λ n. n.magnitude) (plain_within 0 most text)
 
 -- a register or an immediate
 unfoldable pub source_of : List ℕ → Result Operand AsmFault
-source_of text = if slice_index text 0 == 114 then filled Register (register_of text) else filled Immediate (immediate_of text)
+source_of text =
+    if slice_index text 0 == 114 then filled Register (register_of text) else filled Immediate (immediate_of text)
 
 -- `+` or `-`
 abbrev pub is_sign : ℕ → Bool
@@ -61,12 +64,14 @@ offset_or_zero text = if length text == 0 then Ok (pos 0) else offset_of text
 
 -- what stands in brackets
 unfoldable pub place_within : List ℕ → Result (ℕ × ℤ) AsmFault
-place_within inner = both (register_of (before_first is_sign inner)) (offset_or_zero (drop (length (before_first is_sign inner)) inner))
+place_within inner =
+    both (register_of (before_first is_sign inner)) (offset_or_zero (drop (length (before_first is_sign inner)) inner))
 
 -- a place in memory: a register in brackets, with an offset or none
 unfoldable pub memory_of : List ℕ → Result (ℕ × ℤ) AsmFault
 memory_of text =
-    if slice_index text 0 == 91 && slice_index text (length text - 1) == 93 then place_within (take (length text - 2) (drop 1 text)) else Err faults.Operand
+    if slice_index text 0 == 91 && slice_index text (length text - 1) == 93
+    then place_within (take (length text - 2) (drop 1 text)) else Err faults.Operand
 
 -- where a jump goes: a label, or an offset of 16 bits or a distance of 32
 unfoldable pub near_target_of : List ℕ → Result Target AsmFault
@@ -80,10 +85,12 @@ abbrev pub of_one : {A : Type 0} → (List ℕ → Result A AsmFault) → Option
 of_one read None = Err faults.Operand
 of_one read (Some a) = read a
 
-abbrev pub of_two : {A B : Type 0} → (List ℕ → Result A AsmFault) → (List ℕ → Result B AsmFault) → Option (List ℕ × List ℕ) → Result (A × B) AsmFault
+abbrev pub of_two : {A B : Type 0} → (List ℕ → Result A AsmFault) → (List ℕ → Result B AsmFault) →
+    Option (List ℕ × List ℕ) → Result (A × B) AsmFault
 of_two left right None = Err faults.Operand
 of_two left right (Some p) = both (left p.0) (right p.1)
 
-abbrev pub of_three : {A B C : Type 0} → (List ℕ → Result A AsmFault) → (List ℕ → Result B AsmFault) → (List ℕ → Result C AsmFault) → Option (List ℕ × List ℕ × List ℕ) → Result (A × (B × C)) AsmFault
+abbrev pub of_three : {A B C : Type 0} → (List ℕ → Result A AsmFault) → (List ℕ → Result B AsmFault) →
+    (List ℕ → Result C AsmFault) → Option (List ℕ × List ℕ × List ℕ) → Result (A × (B × C)) AsmFault
 of_three left middle right None = Err faults.Operand
 of_three left middle right (Some t) = both (left t.0) (both (middle t.1) (right t.2))

@@ -1,5 +1,6 @@
 -- What a line says.
-use Rattle.std.specs.Prelude.{ℕ, ◌==◌, ◌&&◌, ◌-◌, Bool, List, length, take, slice_index, if◌then◌else◌, Option, Some, None, Result, Ok, Err, codes, map}
+use Rattle.std.specs.Prelude.{ℕ, ◌==◌, ◌&&◌, ◌-◌, Bool, List, length, take, slice_index, if◌then◌else◌, Option, Some}
+use Rattle.std.specs.Prelude.{None, Result, Ok, Err, codes, map}
 use Rattle.std.specs.Str.{bytes_eq}
 use Rattle.std.specs.List.{slice_split}
 use Rattle.asm_lines.specs.declared.fault.AsmFault.{AsmFault}
@@ -17,7 +18,8 @@ use Rattle.bpf_decode.specs.declared.limits.TheConstants.{CAPACITY_LIMIT}
 
 -- flags: `r`, `w` or `rw`
 unfoldable pub flags_of : List ℕ → Option ℕ
-flags_of text = if bytes_eq text (codes "r") then Some 1 else (if bytes_eq text (codes "w") then Some 2 else (if bytes_eq text (codes "rw") then Some 3 else None))
+flags_of text = if bytes_eq text (codes "r") then Some 1
+    else (if bytes_eq text (codes "w") then Some 2 else (if bytes_eq text (codes "rw") then Some 3 else None))
 
 -- the numbers of a method's line, by the limits that all rule sets have, with the name and the
 -- flags before them
@@ -25,17 +27,20 @@ abbrev pub header_with : Bool → List ℕ → Option ℕ → List ℕ → Resul
 header_with named name None caps = Err faults.Operand
 header_with named name (Some flags) caps =
     if named then
-    filled (λ p. record { name = name; flags = flags; in_cap = p.0; out_cap = p.1 }) (both (unsigned_of CAPACITY_LIMIT (first_word caps)) (unsigned_of CAPACITY_LIMIT (after_word caps)))
+    filled (λ p. record { name = name; flags = flags; in_cap = p.0; out_cap = p.1 })
+    (both (unsigned_of CAPACITY_LIMIT (first_word caps)) (unsigned_of CAPACITY_LIMIT (after_word caps)))
     else Err faults.Operand
 
 -- what stands after `.method`: a name, flags, and the capacities of input and output
 unfoldable pub header_of : List ℕ → Result MethodHeader AsmFault
 header_of text =
-    header_with (is_method_name (first_word text)) (first_word text) (flags_of (first_word (after_word text))) (after_word (after_word text))
+    header_with (is_method_name (first_word text)) (first_word text) (flags_of (first_word (after_word text)))
+    (after_word (after_word text))
 
 -- what stands after `.rules`: 2 or 3, since a class of rule set 1 has no such line
 abbrev pub rules_of : List ℕ → Result RuleSet AsmFault
-rules_of text = if bytes_eq text (codes "2") then Ok Two else (if bytes_eq text (codes "3") then Ok Three else Err faults.Operand)
+rules_of text =
+    if bytes_eq text (codes "2") then Ok Two else (if bytes_eq text (codes "3") then Ok Three else Err faults.Operand)
 
 -- a label's line: its name and a colon
 unfoldable pub is_label_line : List ℕ → Bool

@@ -1,5 +1,6 @@
 -- Lines, words and operands: how a text is cut.
-use Rattle.std.specs.Prelude.{ℕ, ◌==◌, ◌&&◌, ◌||◌, nat_lt, Bool, false, List, [], ◌∷◌, length, drop, slice_index, Option, Some, None, is_some, if◌then◌else◌}
+use Rattle.std.specs.Prelude.{ℕ, ◌==◌, ◌&&◌, ◌||◌, nat_lt, Bool, false, List, [], ◌∷◌, length, drop, slice_index}
+use Rattle.std.specs.Prelude.{Option, Some, None, is_some, if◌then◌else◌}
 use Rattle.std.specs.List.{position_or_len, before_first, after_first}
 use Rattle.std.specs.Option.{option_map, option_and_then}
 use Rattle.bpf_decode.specs.Limits.{between, are_name_bytes}
@@ -41,7 +42,8 @@ after_word text = trim_start (drop (length (before_first is_blank text)) text)
 -- the text before and after the first comma, if there is one
 unfoldable pub cut : List ℕ → Option (List ℕ × List ℕ)
 cut text =
-    if nat_lt (position_or_len (λ c. c == 44) text) (length text) then Some (before_first (λ c. c == 44) text, after_first (λ c. c == 44) text) else None
+    if nat_lt (position_or_len (λ c. c == 44) text) (length text)
+    then Some (before_first (λ c. c == 44) text, after_first (λ c. c == 44) text) else None
 
 -- one operand, and two and three with commas between them; blanks may stand around each
 unfoldable pub lone : List ℕ → Option (List ℕ)

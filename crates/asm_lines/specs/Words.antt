@@ -7,7 +7,8 @@ use Rattle.bpf_decode.specs.declared.access.SignedWidth.TheVariants as signed
 use Rattle.bpf_decode.specs.declared.operation.OpWidth.{OpWidth}
 use Rattle.bpf_decode.specs.declared.operation.OpWidth.TheVariants.{Bits32, Bits64}
 use Rattle.bpf_decode.specs.declared.operation.Arithmetic.{Arithmetic}
-use Rattle.bpf_decode.specs.declared.operation.Arithmetic.TheVariants.{Add, Sub, Mul, Div, SignedDiv, Or, And, Lsh, Rsh, Mod, SignedMod, Xor, Arsh}
+use Rattle.bpf_decode.specs.declared.operation.Arithmetic.TheVariants.{Add, Sub, Mul, Div, SignedDiv, Or, And, Lsh, Rsh}
+use Rattle.bpf_decode.specs.declared.operation.Arithmetic.TheVariants.{Mod, SignedMod, Xor, Arsh}
 use Rattle.bpf_decode.specs.declared.operation.SignedMove.{SignedMove}
 use Rattle.bpf_decode.specs.declared.operation.SignedMove.TheVariants.{Byte64, Half64, Word64, Byte32, Half32}
 use Rattle.bpf_decode.specs.declared.operation.ByteOrder.{ByteOrder}
@@ -15,9 +16,13 @@ use Rattle.bpf_decode.specs.declared.operation.ByteOrder.TheVariants.{ToLittle, 
 use Rattle.bpf_decode.specs.declared.operation.EndWidth.{EndWidth}
 use Rattle.bpf_decode.specs.declared.operation.EndWidth.TheVariants.{End16, End32, End64}
 use Rattle.bpf_decode.specs.declared.operation.Comparison.{Comparison}
-use Rattle.bpf_decode.specs.declared.operation.Comparison.TheVariants.{Equal, Greater, GreaterEqual, SharesBits, NotEqual, SignedGreater, SignedGreaterEqual, Less, LessEqual, SignedLess, SignedLessEqual}
+use Rattle.bpf_decode.specs.declared.operation.Comparison.TheVariants.{Equal, Greater, GreaterEqual, SharesBits}
+use Rattle.bpf_decode.specs.declared.operation.Comparison.TheVariants.{NotEqual, SignedGreater, SignedGreaterEqual}
+use Rattle.bpf_decode.specs.declared.operation.Comparison.TheVariants.{Less, LessEqual, SignedLess, SignedLessEqual}
 use Rattle.asm_lines.specs.declared.form.Form.{Form}
-use Rattle.asm_lines.specs.declared.form.Form.TheVariants.{Alu, Neg, Mov, MovSigned, End, LoadWide, Load, LoadSigned, StoreNumber, StoreRegister, Jump, JumpLong, Branch, Call, Exit}
+use Rattle.asm_lines.specs.declared.form.Form.TheVariants.{Alu, Neg, Mov, MovSigned, End, LoadWide, Load, LoadSigned}
+use Rattle.asm_lines.specs.declared.form.Form.TheVariants.{StoreNumber, StoreRegister, Jump, JumpLong, Branch, Call}
+use Rattle.asm_lines.specs.declared.form.Form.TheVariants.{Exit}
 
 -- arithmetic (RFC 9669 section 4.1)
 unfoldable pub arithmetic_word : OpWidth → Arithmetic → List ℕ

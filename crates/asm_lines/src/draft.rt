@@ -1,5 +1,6 @@
 ghost use Rattle.std.specs.Prelude.{◌≡◌, IsFalse};
-ghost use Rattle.asm_lines.specs.Operands.{filled, of_one, of_two, of_three, register_of, immediate_of, unsigned_of, source_of, memory_of, near_target_of, far_target_of};
+ghost use Rattle.asm_lines.specs.Operands.{filled, of_one, of_two, of_three, register_of, immediate_of, unsigned_of};
+ghost use Rattle.asm_lines.specs.Operands.{source_of, memory_of, near_target_of, far_target_of};
 ghost use Rattle.asm_lines.specs.Drafts.{draft, call_of, instruction_of, has_target};
 ghost use Rattle.asm_lines.specs.Texts.{lone, pair, triple};
 
@@ -146,10 +147,8 @@ fn call(text: &[u8]) -> Result<Draft, AsmFault>
 fn load(width: Width, rest: &[u8]) -> Result<Insn, AsmFault>
     ensures { filled Draft.Plain result ≡ draft (Form.Load width) rest.now }
 {
-    match register_and_memory(rest) {
-        Ok((dst, (base, offset))) => Ok(Insn::Load { width, dst, base, offset }),
-        Err(fault) => Err(fault),
-    }
+    let (dst, (base, offset)) = register_and_memory(rest)?;
+    Ok(Insn::Load { width, dst, base, offset })
 }
 
 /// A load with sign extension.
@@ -157,10 +156,8 @@ fn load(width: Width, rest: &[u8]) -> Result<Insn, AsmFault>
 fn load_signed(width: SignedWidth, rest: &[u8]) -> Result<Insn, AsmFault>
     ensures { filled Draft.Plain result ≡ draft (Form.LoadSigned width) rest.now }
 {
-    match register_and_memory(rest) {
-        Ok((dst, (base, offset))) => Ok(Insn::LoadSigned { width, dst, base, offset }),
-        Err(fault) => Err(fault),
-    }
+    let (dst, (base, offset)) = register_and_memory(rest)?;
+    Ok(Insn::LoadSigned { width, dst, base, offset })
 }
 
 /// A store of a number.
@@ -168,10 +165,8 @@ fn load_signed(width: SignedWidth, rest: &[u8]) -> Result<Insn, AsmFault>
 fn store_number(width: Width, rest: &[u8]) -> Result<Insn, AsmFault>
     ensures { filled Draft.Plain result ≡ draft (Form.StoreNumber width) rest.now }
 {
-    match memory_and_number(rest) {
-        Ok(((base, offset), imm)) => Ok(Insn::Store { width, base, offset, source: Operand::Immediate(imm) }),
-        Err(fault) => Err(fault),
-    }
+    let ((base, offset), imm) = memory_and_number(rest)?;
+    Ok(Insn::Store { width, base, offset, source: Operand::Immediate(imm) })
 }
 
 /// A store of a register.
@@ -179,10 +174,8 @@ fn store_number(width: Width, rest: &[u8]) -> Result<Insn, AsmFault>
 fn store_register(width: Width, rest: &[u8]) -> Result<Insn, AsmFault>
     ensures { filled Draft.Plain result ≡ draft (Form.StoreRegister width) rest.now }
 {
-    match memory_and_register(rest) {
-        Ok(((base, offset), src)) => Ok(Insn::Store { width, base, offset, source: Operand::Register(src) }),
-        Err(fault) => Err(fault),
-    }
+    let ((base, offset), src) = memory_and_register(rest)?;
+    Ok(Insn::Store { width, base, offset, source: Operand::Register(src) })
 }
 
 /// A form without a target, with its operands.
@@ -192,12 +185,24 @@ fn plain(form: Form, rest: &[u8]) -> Result<Insn, AsmFault>
     ensures { filled Draft.Plain result ≡ draft form rest.now }
 {
     match form {
-        Form::Alu(bits, operation) => match register_and_source(rest) { Ok((dst, source)) => Ok(Insn::Alu { bits, operation, dst, source }), Err(fault) => Err(fault) },
-        Form::Neg(bits) => match one_register(rest) { Ok(dst) => Ok(Insn::Neg { bits, dst }), Err(fault) => Err(fault) },
-        Form::Mov(bits) => match register_and_source(rest) { Ok((dst, source)) => Ok(Insn::Mov { bits, dst, source }), Err(fault) => Err(fault) },
-        Form::MovSigned(extension) => match two_registers(rest) { Ok((dst, src)) => Ok(Insn::MovSigned { extension, dst, src }), Err(fault) => Err(fault) },
-        Form::End(order, width) => match one_register(rest) { Ok(dst) => Ok(Insn::End { order, width, dst }), Err(fault) => Err(fault) },
-        Form::LoadWide => match register_and_wide(rest) { Ok((dst, value)) => Ok(Insn::LoadWide { dst, value }), Err(fault) => Err(fault) },
+        Form::Alu(bits, operation) => {
+            let (dst, source) = register_and_source(rest)?;
+            Ok(Insn::Alu { bits, operation, dst, source })
+        }
+        Form::Neg(bits) => Ok(Insn::Neg { bits, dst: one_register(rest)? }),
+        Form::Mov(bits) => {
+            let (dst, source) = register_and_source(rest)?;
+            Ok(Insn::Mov { bits, dst, source })
+        }
+        Form::MovSigned(extension) => {
+            let (dst, src) = two_registers(rest)?;
+            Ok(Insn::MovSigned { extension, dst, src })
+        }
+        Form::End(order, width) => Ok(Insn::End { order, width, dst: one_register(rest)? }),
+        Form::LoadWide => {
+            let (dst, value) = register_and_wide(rest)?;
+            Ok(Insn::LoadWide { dst, value })
+        }
         Form::Load(width) => load(width, rest),
         Form::LoadSigned(width) => load_signed(width, rest),
         Form::StoreNumber(width) => store_number(width, rest),
@@ -214,11 +219,17 @@ fn with_operands(form: Form, rest: &[u8]) -> Result<Draft, AsmFault>
     ensures { result ≡ draft form rest.now }
 {
     match form {
-        Form::Jump => match one_near(rest) { Ok(target) => Ok(Draft::Jump(target)), Err(fault) => Err(fault) },
-        Form::JumpLong => match one_far(rest) { Ok(target) => Ok(Draft::JumpLong(target)), Err(fault) => Err(fault) },
-        Form::Branch(bits, comparison) => match branch_operands(rest) { Ok((dst, (source, target))) => Ok(Draft::Branch(bits, comparison, dst, source, target)), Err(fault) => Err(fault) },
+        Form::Jump => Ok(Draft::Jump(one_near(rest)?)),
+        Form::JumpLong => Ok(Draft::JumpLong(one_far(rest)?)),
+        Form::Branch(bits, comparison) => {
+            let (dst, (source, target)) = branch_operands(rest)?;
+            Ok(Draft::Branch(bits, comparison, dst, source, target))
+        }
         Form::Call => match lone(rest) { Some(a) => call(a), None => Err(AsmFault::Operand) },
-        Form::Alu(_, _) | Form::Neg(_) | Form::Mov(_) | Form::MovSigned(_) | Form::End(_, _) | Form::LoadWide | Form::Load(_) | Form::LoadSigned(_) | Form::StoreNumber(_) | Form::StoreRegister(_) | Form::Exit => match plain(form, rest) { Ok(insn) => Ok(Draft::Plain(insn)), Err(fault) => Err(fault) },
+        Form::Alu(_, _) | Form::Neg(_) | Form::Mov(_) | Form::MovSigned(_) | Form::End(_, _) | Form::LoadWide
+        | Form::Load(_) | Form::LoadSigned(_) | Form::StoreNumber(_) | Form::StoreRegister(_) | Form::Exit => {
+            Ok(Draft::Plain(plain(form, rest)?))
+        }
     }
 }
 

@@ -21,7 +21,8 @@ impl<'a> Model for Header<'a> {
 
     ghost view = { λ h. record { name = h.name; flags = h.flags; in_cap = h.in_cap; out_cap = h.out_cap } };
 
-    ghost invariant = { λ h. IsTrue (is_header (record { name = h.name; flags = h.flags; in_cap = h.in_cap; out_cap = h.out_cap })) };
+    ghost invariant = { λ h.
+        IsTrue (is_header (record { name = h.name; flags = h.flags; in_cap = h.in_cap; out_cap = h.out_cap })) };
 }
 
 impl<'a> Header<'a> {

@@ -1,6 +1,7 @@
 ghost use Rattle.std.specs.Prelude.{◌≡◌, ◌≤◌, ◌<◌, ◌^◌, Some};
 ghost use Rattle.std.specs.Str.Parse.{digits_value};
-ghost use Rattle.asm_lines.specs.Numbers.{decimal_number, hex_number, natural, natural_within, minus_within, plus_within, plain_within, signed_within, value_of, is_within};
+ghost use Rattle.asm_lines.specs.Numbers.{decimal_number, hex_number, natural, natural_within, minus_within};
+ghost use Rattle.asm_lines.specs.Numbers.{plus_within, plain_within, signed_within, value_of, is_within};
 
 use crate::fault::AsmFault;
 use text_digits::{are_digits, is_decimal, value_within};

@@ -2,7 +2,9 @@
 
 ghost use Rattle.std.specs.Prelude.{◌≡◌, ◌≤◌, ◌<◌, IfOk, length};
 ghost use Rattle.std.specs.List.{position_or_len};
-ghost use Rattle.asm_lines.specs.Operands.{least, both, register_of, immediate_of, offset_of, distance_of, unsigned_of, source_of, is_sign, offset_or_zero, place_within, memory_of, near_target_of, far_target_of};
+ghost use Rattle.asm_lines.specs.Operands.{least, both, register_of, immediate_of, offset_of, distance_of, unsigned_of};
+ghost use Rattle.asm_lines.specs.Operands.{source_of, is_sign, offset_or_zero, place_within, memory_of, near_target_of};
+ghost use Rattle.asm_lines.specs.Operands.{far_target_of};
 
 use crate::fault::AsmFault;
 use crate::number::{decimal_within, plain, signed};
@@ -44,7 +46,9 @@ pub(crate) fn register(text: &[u8]) -> Result<Register, AsmFault>
 }
 
 /// An immediate.
-#[tactic(auto, unfolding(crate::specs::Operands::immediate_of), using(crate::proofs::NumberLemmas::plain_fits, crate::proofs::NumberLemmas::signed_fits))]
+#[rattlefmt::skip]
+#[tactic(auto, unfolding(crate::specs::Operands::immediate_of),
+    using(crate::proofs::NumberLemmas::plain_fits, crate::proofs::NumberLemmas::signed_fits))]
 pub(crate) fn immediate(text: &[u8]) -> Result<i32, AsmFault>
     ensures { result ≡ immediate_of text.now }
 {
@@ -55,7 +59,9 @@ pub(crate) fn immediate(text: &[u8]) -> Result<i32, AsmFault>
 }
 
 /// An offset of 16 bits.
-#[tactic(auto, unfolding(crate::specs::Operands::offset_of), using(crate::proofs::NumberLemmas::plain_fits, crate::proofs::NumberLemmas::signed_fits))]
+#[rattlefmt::skip]
+#[tactic(auto, unfolding(crate::specs::Operands::offset_of),
+    using(crate::proofs::NumberLemmas::plain_fits, crate::proofs::NumberLemmas::signed_fits))]
 fn offset(text: &[u8]) -> Result<i16, AsmFault>
     ensures { result ≡ offset_of text.now }
 {
@@ -66,7 +72,9 @@ fn offset(text: &[u8]) -> Result<i16, AsmFault>
 }
 
 /// A distance of 32 bits.
-#[tactic(auto, unfolding(crate::specs::Operands::distance_of), using(crate::proofs::NumberLemmas::plain_fits, crate::proofs::NumberLemmas::signed_fits))]
+#[rattlefmt::skip]
+#[tactic(auto, unfolding(crate::specs::Operands::distance_of),
+    using(crate::proofs::NumberLemmas::plain_fits, crate::proofs::NumberLemmas::signed_fits))]
 fn distance(text: &[u8]) -> Result<i32, AsmFault>
     ensures { result ≡ distance_of text.now }
 {
@@ -77,7 +85,9 @@ fn distance(text: &[u8]) -> Result<i32, AsmFault>
 }
 
 /// A number from 0 to `most`.
-#[tactic(auto, unfolding(crate::specs::Operands::unsigned_of), using(crate::proofs::NumberLemmas::unsigned_fits, crate::proofs::NumberLemmas::signed_fits))]
+#[rattlefmt::skip]
+#[tactic(auto, unfolding(crate::specs::Operands::unsigned_of),
+    using(crate::proofs::NumberLemmas::unsigned_fits, crate::proofs::NumberLemmas::signed_fits))]
 pub(crate) fn unsigned(text: &[u8], most: u64) -> Result<u64, AsmFault>
     ensures read { result ≡ unsigned_of most text.now }
     ensures within { IfOk result (λ n. n ≤ most) }

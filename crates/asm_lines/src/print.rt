@@ -1,7 +1,10 @@
 //! The one text of instructions and classes: what the disassembler gives.
 
 ghost use Rattle.std.specs.Prelude.{◌≡◌, ◌++◌, ◌<◌, IfOk, OnOk, string_bytes, codes};
-ghost use Rattle.asm_lines.specs.Canonical.{register_text, source_text, offset_text, memory_text, hex_digits, wide_text, line_of, canonical_text, with_one, with_two, with_three, directive_line, methods_text, rules_text, class_text, slot_line, code_with_slots, methods_with_slots, class_with_slots};
+ghost use Rattle.asm_lines.specs.Canonical.{register_text, source_text, offset_text, memory_text, hex_digits};
+ghost use Rattle.asm_lines.specs.Canonical.{wide_text, line_of, canonical_text, with_one, with_two, with_three};
+ghost use Rattle.asm_lines.specs.Canonical.{directive_line, methods_text, rules_text, class_text, slot_line};
+ghost use Rattle.asm_lines.specs.Canonical.{code_with_slots, methods_with_slots, class_with_slots};
 ghost use Rattle.asm_lines.specs.Printing.{item_text};
 ghost use Rattle.asm_lines.specs.Words.{word_of};
 
@@ -133,7 +136,8 @@ fn push_one(out: &mut String, form: Form, dst: Register) -> Result<(), AllocErro
 
 /// A word, a register and an operand.
 fn push_two(out: &mut String, form: Form, dst: Register, item: Item) -> Result<(), AllocError>
-    ensures { OnOk result (string_bytes out.new ≡ string_bytes out.old ++ with_two (word_of form) (register_text dst) (item_text item)) }
+    ensures { OnOk result (string_bytes out.new ≡ string_bytes out.old ++
+        with_two (word_of form) (register_text dst) (item_text item)) }
 {
     push_one(out, form, dst)?;
     push_next(out, item)
@@ -146,7 +150,8 @@ fn push_registers(
     dst: Register,
     src: Register,
 ) -> Result<(), AllocError>
-    ensures { OnOk result (string_bytes out.new ≡ string_bytes out.old ++ with_two (word_of form) (register_text dst) (register_text src)) }
+    ensures { OnOk result (string_bytes out.new ≡ string_bytes out.old ++
+        with_two (word_of form) (register_text dst) (register_text src)) }
 {
     push_one(out, form, dst)?;
     out.push_str(", ")?;
@@ -161,7 +166,8 @@ fn push_branch(
     source: Operand,
     offset: i16,
 ) -> Result<(), AllocError>
-    ensures { OnOk result (string_bytes out.new ≡ string_bytes out.old ++ with_three (word_of form) (register_text dst) (source_text source) (offset_text offset)) }
+    ensures { OnOk result (string_bytes out.new ≡ string_bytes out.old ++
+        with_three (word_of form) (register_text dst) (source_text source) (offset_text offset)) }
 {
     push_two(out, form, dst, Item::Source(source))?;
     push_next(out, Item::Offset(i32::from(offset)))
@@ -175,7 +181,8 @@ fn push_store(
     offset: i16,
     source: Operand,
 ) -> Result<(), AllocError>
-    ensures { OnOk result (string_bytes out.new ≡ string_bytes out.old ++ with_two (word_of form) (memory_text base offset) (source_text source)) }
+    ensures { OnOk result (string_bytes out.new ≡ string_bytes out.old ++
+        with_two (word_of form) (memory_text base offset) (source_text source)) }
 {
     push_lone(out, form, Item::Memory(base, offset))?;
     push_next(out, Item::Source(source))
@@ -187,21 +194,27 @@ fn push_insn(out: &mut String, insn: Insn) -> Result<(), AllocError>
     ensures { OnOk result (string_bytes out.new ≡ string_bytes out.old ++ line_of insn) }
 {
     match insn {
-        Insn::Alu { bits, operation, dst, source } => push_two(out, Form::Alu(bits, operation), dst, Item::Source(source)),
+        Insn::Alu { bits, operation, dst, source } =>
+            push_two(out, Form::Alu(bits, operation), dst, Item::Source(source)),
         Insn::Neg { bits, dst } => push_one(out, Form::Neg(bits), dst),
         Insn::Mov { bits, dst, source } => push_two(out, Form::Mov(bits), dst, Item::Source(source)),
         Insn::MovSigned { extension, dst, src } => push_registers(out, Form::MovSigned(extension), dst, src),
         Insn::End { order, width, dst } => push_one(out, Form::End(order, width), dst),
         Insn::LoadWide { dst, value } => push_two(out, Form::LoadWide, dst, Item::Wide(value)),
         Insn::Load { width, dst, base, offset } => push_two(out, Form::Load(width), dst, Item::Memory(base, offset)),
-        Insn::LoadSigned { width, dst, base, offset } => push_two(out, Form::LoadSigned(width), dst, Item::Memory(base, offset)),
+        Insn::LoadSigned { width, dst, base, offset } =>
+            push_two(out, Form::LoadSigned(width), dst, Item::Memory(base, offset)),
         Insn::Store { width, base, offset, source } => {
-            let form = match source { Operand::Immediate(_) => Form::StoreNumber(width), Operand::Register(_) => Form::StoreRegister(width) };
+            let form = match source {
+                Operand::Immediate(_) => Form::StoreNumber(width),
+                Operand::Register(_) => Form::StoreRegister(width),
+            };
             push_store(out, form, base, offset, source)
         }
         Insn::Jump { offset } => push_lone(out, Form::Jump, Item::Offset(i32::from(offset))),
         Insn::JumpLong { distance } => push_lone(out, Form::JumpLong, Item::Offset(distance)),
-        Insn::Branch { bits, comparison, dst, source, offset } => push_branch(out, Form::Branch(bits, comparison), dst, source, offset),
+        Insn::Branch { bits, comparison, dst, source, offset } =>
+            push_branch(out, Form::Branch(bits, comparison), dst, source, offset),
         Insn::Call { helper } => push_lone(out, Form::Call, Item::Helper(helper)),
         Insn::CallLocal { distance } => push_lone(out, Form::Call, Item::Local(distance)),
         Insn::Exit => out.push_str(Form::Exit.word()),

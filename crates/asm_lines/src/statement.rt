@@ -73,7 +73,8 @@ fn read_rules(text: &[u8]) -> Result<RuleSet, AsmFault>
 /// A label's name, if that is what the line has.
 #[tactic(auto, unfolding(crate::specs::Statements::is_label_line))]
 fn label_name(text: &[u8]) -> Option<&[u8]>
-    ensures { option_map (λ n. n.now) result ≡ (if is_label_line text.now then Some (take (length text.now - 1) text.now) else None) }
+    ensures { option_map (λ n. n.now) result ≡
+        (if is_label_line text.now then Some (take (length text.now - 1) text.now) else None) }
 {
     match text {
         [name @ .., b':'] if is_label_name(name) => Some(name),

@@ -3,7 +3,8 @@
 ghost use Rattle.std.specs.Prelude.{◌≡◌, ◌+◌, ◌==◌, ◌||◌, ◌≤◌, length};
 ghost use Rattle.std.specs.List.{position_or_len};
 ghost use Rattle.std.specs.Option.{option_map};
-ghost use Rattle.asm_lines.specs.Texts.{is_blank, trim_start, trim_end, trim, content, first_word, after_word, cut, lone, pair, triple, is_label_name};
+ghost use Rattle.asm_lines.specs.Texts.{is_blank, trim_start, trim_end, trim, content, first_word, after_word, cut};
+ghost use Rattle.asm_lines.specs.Texts.{lone, pair, triple, is_label_name};
 
 use bpf_decode::are_name_bytes;
 
@@ -28,7 +29,9 @@ fn trim_start(text: &[u8]) -> &[u8]
     rest
 }
 
-#[tactic(auto, unfolding(crate::specs::Texts::trim_end), using(crate::proofs::TextLemmas::trim_end_shorter, crate::proofs::TextLemmas::trim_end_same))]
+#[rattlefmt::skip]
+#[tactic(auto, unfolding(crate::specs::Texts::trim_end),
+    using(crate::proofs::TextLemmas::trim_end_shorter, crate::proofs::TextLemmas::trim_end_same))]
 fn trim_end(text: &[u8]) -> &[u8]
     ensures { result.now ≡ trim_end text.now }
 {

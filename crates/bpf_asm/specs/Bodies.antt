@@ -1,5 +1,6 @@
 -- Methods: labels are resolved, and the lines read in order up to the first that is refused.
-use Rattle.std.specs.Prelude.{ℕ, ℤ, pos, negsuc, ◌+◌, ◌-ℤ◌, ◌&&◌, nat_le, nat_lt, int_le, Bool, true, false, List, [], ◌∷◌, ◌++◌, is_some, count_by, if◌then◌else◌, Option, Some, None, Result, Ok, Err}
+use Rattle.std.specs.Prelude.{ℕ, ℤ, pos, negsuc, ◌+◌, ◌-ℤ◌, ◌&&◌, nat_le, nat_lt, int_le, Bool, true, false, List, []}
+use Rattle.std.specs.Prelude.{◌∷◌, ◌++◌, is_some, count_by, if◌then◌else◌, Option, Some, None, Result, Ok, Err}
 use Rattle.std.specs.Str.{bytes_eq}
 use Rattle.bpf_decode.specs.declared.insn.Insn.{Insn}
 use Rattle.bpf_decode.specs.declared.insn.Insn.TheVariants as insns
@@ -73,13 +74,15 @@ abbrev pub finished : List Statement → ℕ → Draft → Result Insn AsmFault
 finished all slot (drafts.Plain insn) = Ok insn
 finished all slot (drafts.Jump target) = filled insns.Jump (near all slot target)
 finished all slot (drafts.JumpLong target) = filled insns.JumpLong (far all slot target)
-finished all slot (drafts.Branch bits comparison dst source target) = filled (insns.Branch bits comparison dst source) (near all slot target)
+finished all slot (drafts.Branch bits comparison dst source target) =
+    filled (insns.Branch bits comparison dst source) (near all slot target)
 finished all slot (drafts.CallLocal target) = filled insns.CallLocal (far all slot target)
 
 -- an instruction's line: its own fault, or 3 Range if it passes 4,096 slots, or that of its label
 abbrev pub instruction_at : List Statement → ℕ → Result Draft AsmFault → Result (Option Insn) AsmFault
 instruction_at all slot (Err fault) = Err fault
-instruction_at all slot (Ok d) = if nat_le (slot + draft_slots (Ok d)) SLOT_LIMIT then filled Some (finished all slot d) else Err faults.Range
+instruction_at all slot (Ok d) =
+    if nat_le (slot + draft_slots (Ok d)) SLOT_LIMIT then filled Some (finished all slot d) else Err faults.Range
 
 -- what a line at a slot gives: an instruction or nothing. `before` has the method's lines above it:
 -- a label that stands among them already is 4 Label
@@ -91,14 +94,16 @@ line_at all before slot (Directive header) = Err faults.Word
 line_at all before slot (Instruction d) = instruction_at all slot d
 
 -- on to the next line, or the refusal of this one
-abbrev pub proceed : ℕ → Result (Option Insn) AsmFault → Result (List Insn) AsmError → (Insn → Result (List Insn) AsmError) → Result (List Insn) AsmError
+abbrev pub proceed : ℕ → Result (Option Insn) AsmFault → Result (List Insn) AsmError →
+    (Insn → Result (List Insn) AsmError) → Result (List Insn) AsmError
 proceed line (Err fault) without with_insn = Err (record { line = line; fault = fault })
 proceed line (Ok None) without with_insn = without
 proceed line (Ok (Some insn)) without with_insn = with_insn insn
 
 -- the instructions of lines in order: `line` is the number of the next, `slot` the next slot,
 -- `done` what stands above
-unfoldable pub body_from : List Statement → List Statement → ℕ → ℕ → List Insn → List Statement → Result (List Insn) AsmError
+unfoldable pub body_from : List Statement → List Statement → ℕ → ℕ → List Insn → List Statement →
+    Result (List Insn) AsmError
 body_from all before line slot done [] = Ok done
 body_from all before line slot done (s ∷ rest) =
     proceed line (line_at all before slot s)

@@ -1,6 +1,7 @@
 -- Classes: the rule set, and methods read one after the other, up to the first line that is
 -- refused.
-use Rattle.std.specs.Prelude.{ℕ, ◌+◌, ◌==◌, ◌&&◌, ◌||◌, not, nat_le, Bool, true, false, List, [], ◌∷◌, ◌++◌, length, if◌then◌else◌, Option, Some, None, Result, Ok, Err}
+use Rattle.std.specs.Prelude.{ℕ, ◌+◌, ◌==◌, ◌&&◌, ◌||◌, not, nat_le, Bool, true, false, List, [], ◌∷◌, ◌++◌, length}
+use Rattle.std.specs.Prelude.{if◌then◌else◌, Option, Some, None, Result, Ok, Err}
 use Rattle.std.specs.List.{before_first}
 use Rattle.bpf_decode.specs.declared.insn.Insn.{Insn}
 use Rattle.bpf_decode.specs.declared.rule_set.RuleSet.{RuleSet}
@@ -46,7 +47,8 @@ opening_fault rules done bare h =
 
 -- a method of that header and those instructions
 abbrev pub method_with : MethodHeader → List Insn → ClassMethod
-method_with h insns = record { name = h.name; flags = h.flags; in_cap = h.in_cap; out_cap = h.out_cap; instructions = insns }
+method_with h insns =
+    record { name = h.name; flags = h.flags; in_cap = h.in_cap; out_cap = h.out_cap; instructions = insns }
 
 -- that method, or what is refused of its lines
 abbrev pub with_body : MethodHeader → Result (List Insn) AsmError → Result ClassMethod AsmError
@@ -59,12 +61,15 @@ unless_fault None line m = m
 unless_fault (Some fault) line m = Err (record { line = line; fault = fault })
 
 -- the method that begins at a line, with its lines below
-abbrev pub method_at : RuleSet → List ClassMethod → ℕ → Result MethodHeader AsmFault → List Statement → Result ClassMethod AsmError
+abbrev pub method_at : RuleSet → List ClassMethod → ℕ → Result MethodHeader AsmFault → List Statement →
+    Result ClassMethod AsmError
 method_at rules done line (Err fault) lines = Err (record { line = line; fault = fault })
-method_at rules done line (Ok h) lines = unless_fault (opening_fault rules done (not (has_instruction lines)) h) line (with_body h (body (line + 1) lines))
+method_at rules done line (Ok h) lines =
+    unless_fault (opening_fault rules done (not (has_instruction lines)) h) line (with_body h (body (line + 1) lines))
 
 -- the methods after a right one, or the refusal of a wrong one
-abbrev pub next_method : Result ClassMethod AsmError → (ClassMethod → Result (List ClassMethod) AsmError) → Result (List ClassMethod) AsmError
+abbrev pub next_method : Result ClassMethod AsmError → (ClassMethod → Result (List ClassMethod) AsmError) →
+    Result (List ClassMethod) AsmError
 next_method (Err e) others = Err e
 next_method (Ok m) others = others m
 
@@ -74,11 +79,15 @@ next_method (Ok m) others = others m
 unfoldable pub class_from : RuleSet → List ClassMethod → ℕ → List Statement → Result (List ClassMethod) AsmError
 class_from rules done line [] = if length done == 0 then Err (record { line = 1; fault = faults.Range }) else Ok done
 class_from rules done line (Directive header ∷ rest) =
-    next_method (method_at rules done line header (before_first is_directive rest)) (λ m. class_from rules (done ++ (m ∷ [])) (line + 1) rest)
+    next_method (method_at rules done line header (before_first is_directive rest))
+    (λ m. class_from rules (done ++ (m ∷ [])) (line + 1) rest)
 class_from rules done line (Empty ∷ rest) = class_from rules done (line + 1) rest
-class_from rules done line (Label name ∷ rest) = if length done == 0 then Err (record { line = line; fault = faults.Word }) else class_from rules done (line + 1) rest
-class_from rules done line (Rules other ∷ rest) = if length done == 0 then Err (record { line = line; fault = faults.Word }) else class_from rules done (line + 1) rest
-class_from rules done line (Instruction d ∷ rest) = if length done == 0 then Err (record { line = line; fault = faults.Word }) else class_from rules done (line + 1) rest
+class_from rules done line (Label name ∷ rest) = if length done == 0
+    then Err (record { line = line; fault = faults.Word }) else class_from rules done (line + 1) rest
+class_from rules done line (Rules other ∷ rest) = if length done == 0
+    then Err (record { line = line; fault = faults.Word }) else class_from rules done (line + 1) rest
+class_from rules done line (Instruction d ∷ rest) = if length done == 0
+    then Err (record { line = line; fault = faults.Word }) else class_from rules done (line + 1) rest
 
 -- the class of that rule set and those methods
 abbrev pub with_rules : RuleSet → Result (List ClassMethod) AsmError → Result Class AsmError
@@ -110,7 +119,8 @@ bare_class_fault (Instruction d ∷ rest) = faults.Range
 
 -- what `assemble_class` answers
 abbrev pub class_assembled : List Statement → Result Class AsmError
-class_assembled lines = if has_instruction lines then ruled_from 1 lines else Err (record { line = 1; fault = bare_class_fault lines })
+class_assembled lines =
+    if has_instruction lines then ruled_from 1 lines else Err (record { line = 1; fault = bare_class_fault lines })
 
 -- Reading a class's text: the class, or the first line that is refused and the least fault there.
 unfoldable pub read_class_text : List ℕ → Result Class AsmError

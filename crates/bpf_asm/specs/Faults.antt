@@ -1,7 +1,8 @@
 -- Why a text is refused, apart from its grammar: "line n has fault f" as a relation, and the first
 -- fault of a text. A line's faults are those of its place, whatever is wrong elsewhere; a line that
 -- is none of its form has its own (Shapes).
-use Rattle.std.specs.Prelude.{◌≡◌, ◌⊎◌, ℕ, ℤ, pos, ◌+◌, ◌-ℤ◌, ◌<◌, ◌≤◌, Bool, true, false, List, [], ◌∷◌, ◌++◌, Option, Some, None, IsSome, Result, Ok, Err, FitsSigned}
+use Rattle.std.specs.Prelude.{◌≡◌, ◌⊎◌, ℕ, ℤ, pos, ◌+◌, ◌-ℤ◌, ◌<◌, ◌≤◌, Bool, true, false, List, [], ◌∷◌, ◌++◌, Option}
+use Rattle.std.specs.Prelude.{Some, None, IsSome, Result, Ok, Err, FitsSigned}
 use Rattle.std.specs.Int.{w16, w32}
 use Rattle.std.specs.List.{before_first}
 use Rattle.bpf_decode.specs.declared.limits.TheConstants.{METHOD_LIMIT, SLOT_LIMIT}
@@ -53,7 +54,8 @@ LineFault all above slot (Label name) f = IsSome (slot_of_label name 0 above) ×
 LineFault all above slot (Rules rules) f = f ≡ faults.Word
 LineFault all above slot (Directive header) f = f ≡ faults.Word
 LineFault all above slot (Instruction (Err g)) f = f ≡ g
-LineFault all above slot (Instruction (Ok d)) f = ((SLOT_LIMIT < slot + draft_slots (Ok d)) × (f ≡ faults.Range)) ⊎ DraftFault all slot d f
+LineFault all above slot (Instruction (Ok d)) f =
+    ((SLOT_LIMIT < slot + draft_slots (Ok d)) × (f ≡ faults.Range)) ⊎ DraftFault all slot d f
 
 -- the slot after a line
 abbrev pub slot_behind : ℕ → Statement → ℕ
@@ -67,7 +69,8 @@ slot_behind slot (Instruction d) = slot + draft_slots d
 abbrev pub LinesHaveFault : List Statement → List Statement → ℕ → ℕ → List Statement → ℕ → AsmFault → Type 0
 LinesHaveFault all above line slot [] n f = ⊥
 LinesHaveFault all above line slot (s ∷ ss) n f =
-    ((n ≡ line) × LineFault all above slot s f) ⊎ LinesHaveFault all (above ++ (s ∷ [])) (line + 1) (slot_behind slot s) ss n f
+    ((n ≡ line) × LineFault all above slot s f) ⊎
+    LinesHaveFault all (above ++ (s ∷ [])) (line + 1) (slot_behind slot s) ss n f
 
 -- if no line has an instruction, the first one is out of range
 abbrev pub IsBare : List Statement → ℕ → AsmFault → Type 0
@@ -102,11 +105,28 @@ set_after before (Err f) = before
 
 -- the place of the next line; `below` are all of them
 abbrev pub next_place : Place → Statement → List Statement → Place
-next_place p (Directive (Ok h)) below = record { ruled = p.ruled; rules = p.rules; methods = p.methods + 1; name = h.name; lines = before_first is_directive below; above = []; slot = 0 }
-next_place p (Directive (Err f)) below = record { ruled = p.ruled; rules = p.rules; methods = p.methods + 1; name = p.name; lines = before_first is_directive below; above = []; slot = 0 }
+next_place p (Directive (Ok h)) below = record {
+  ruled = p.ruled;
+  rules = p.rules;
+  methods = p.methods + 1;
+  name = h.name;
+  lines = before_first is_directive below;
+  above = [];
+  slot = 0;
+}
+next_place p (Directive (Err f)) below = record {
+  ruled = p.ruled;
+  rules = p.rules;
+  methods = p.methods + 1;
+  name = p.name;
+  lines = before_first is_directive below;
+  above = [];
+  slot = 0;
+}
 next_place p Empty below = record p { above = p.above ++ (Empty ∷ []) }
 next_place p (Label name) below = record p { above = p.above ++ (Label name ∷ []) }
-next_place p (Rules rules) below = record p { ruled = true; rules = set_after p.rules rules; above = p.above ++ (Rules rules ∷ []) }
+next_place p (Rules rules) below =
+    record p { ruled = true; rules = set_after p.rules rules; above = p.above ++ (Rules rules ∷ []) }
 next_place p (Instruction d) below = record p { above = p.above ++ (Instruction d ∷ []); slot = p.slot + draft_slots d }
 
 -- a header with a capacity that the rule set doesn't allow
@@ -130,7 +150,8 @@ RulesOperand (Err g) f = f ≡ g
 -- a `.rules` line: one after another or after a `.method`; one before the first `.method` that is
 -- of the wrong form
 abbrev pub RulesFault : Place → Result RuleSet AsmFault → AsmFault → Type 0
-RulesFault p rules f = (((p.ruled ≡ true) ⊎ (1 ≤ p.methods)) × (f ≡ faults.Word)) ⊎ ((p.methods ≡ 0) × RulesOperand rules f)
+RulesFault p rules f =
+    (((p.ruled ≡ true) ⊎ (1 ≤ p.methods)) × (f ≡ faults.Word)) ⊎ ((p.methods ≡ 0) × RulesOperand rules f)
 
 -- what stands before the first `.method`
 abbrev pub EarlyFault : Place → AsmFault → Type 0
@@ -147,7 +168,8 @@ ClassLineFault p (Directive header) below f = OpeningFault p header below f
 -- of lines that begin at a place and with that number, line n has fault f
 abbrev pub ClassLinesHaveFault : Place → ℕ → List Statement → ℕ → AsmFault → Type 0
 ClassLinesHaveFault p line [] n f = ⊥
-ClassLinesHaveFault p line (s ∷ ss) n f = ((n ≡ line) × ClassLineFault p s ss f) ⊎ ClassLinesHaveFault (next_place p s ss) (line + 1) ss n f
+ClassLinesHaveFault p line (s ∷ ss) n f =
+    ((n ≡ line) × ClassLineFault p s ss f) ⊎ ClassLinesHaveFault (next_place p s ss) (line + 1) ss n f
 
 -- line n of a class's text has fault f
 abbrev pub HasClassFault : List Statement → ℕ → AsmFault → Type 0

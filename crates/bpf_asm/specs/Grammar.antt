@@ -1,6 +1,7 @@
 -- The grammar of one method's text and of a class's, as relations: what each line says, labels that
 -- stand once, and distances that reach them.
-use Rattle.std.specs.Prelude.{◌≡◌, ℕ, ℤ, pos, ◌+◌, ◌-ℤ◌, ◌≤◌, true, length, List, [], ◌∷◌, ◌++◌, Some, None, Result, Ok, Err, FitsSigned}
+use Rattle.std.specs.Prelude.{◌≡◌, ℕ, ℤ, pos, ◌+◌, ◌-ℤ◌, ◌≤◌, true, length, List, [], ◌∷◌, ◌++◌, Some, None, Result, Ok}
+use Rattle.std.specs.Prelude.{Err, FitsSigned}
 use Rattle.std.specs.Int.{w16, w32}
 use Rattle.bpf_decode.specs.declared.insn.Insn.{Insn}
 use Rattle.bpf_decode.specs.declared.insn.Insn.TheVariants as insns
@@ -48,7 +49,8 @@ Reaches all slot (targets.Slots z) distance = z ≡ distance
 Reaches all slot (targets.Label name) distance = ReachesLabel all slot name distance
 
 -- an instruction with a distance that fits
-pub record GoesBy (all : List Statement) (slot : ℕ) (target : Target) (Fits : ℤ → Type 0) (with_distance : ℤ → Insn) (i : Insn) : Type 0 where
+pub record GoesBy (all : List Statement) (slot : ℕ) (target : Target) (Fits : ℤ → Type 0) (with_distance : ℤ →
+    Insn) (i : Insn) : Type 0 where
   pub distance : ℤ
   pub is_insn : with_distance distance ≡ i
   pub reaches : Reaches all slot target distance
@@ -59,7 +61,8 @@ abbrev pub SaysInsn : List Statement → ℕ → Result Draft AsmFault → Insn 
 SaysInsn all slot (Ok (drafts.Plain insn)) i = insn ≡ i
 SaysInsn all slot (Ok (drafts.Jump target)) i = GoesBy all slot target (FitsSigned w16) insns.Jump i
 SaysInsn all slot (Ok (drafts.JumpLong target)) i = GoesBy all slot target (FitsSigned w32) insns.JumpLong i
-SaysInsn all slot (Ok (drafts.Branch bits comparison dst source target)) i = GoesBy all slot target (FitsSigned w16) (insns.Branch bits comparison dst source) i
+SaysInsn all slot (Ok (drafts.Branch bits comparison dst source target)) i =
+    GoesBy all slot target (FitsSigned w16) (insns.Branch bits comparison dst source) i
 SaysInsn all slot (Ok (drafts.CallLocal target)) i = GoesBy all slot target (FitsSigned w32) insns.CallLocal i
 SaysInsn all slot (Err fault) i = ⊥
 
@@ -120,7 +123,8 @@ SayMethods (Label name ∷ ss) ms = SayMethods ss ms
 SayMethods (Rules rules ∷ ss) ms = SayMethods ss ms
 SayMethods (Instruction d ∷ ss) ms = SayMethods ss ms
 SayMethods (Directive header ∷ ss) [] = ⊥
-SayMethods (Directive header ∷ ss) (m ∷ ms) = HasHeader header m × AreMethodLines (before_first is_directive ss) m.instructions × SayMethods ss ms
+SayMethods (Directive header ∷ ss) (m ∷ ms) =
+    HasHeader header m × AreMethodLines (before_first is_directive ss) m.instructions × SayMethods ss ms
 
 -- each name is above the one before it
 abbrev pub NamesAbove : List ℕ → List ClassMethod → Type 0

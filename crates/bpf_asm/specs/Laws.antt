@@ -13,15 +13,18 @@ use Rattle.bpf_decode.specs.declared.limits.TheConstants.{SLOT_LIMIT}
 
 -- the canonical text of instructions is read as those instructions
 abbrev pub TextsGiveBack : Type 0
-TextsGiveBack = (is : List Insn) → AllFit is → 1 ≤ slot_total is → slot_total is ≤ SLOT_LIMIT → read_text (canonical_text is) ≡ Ok is
+TextsGiveBack = (is : List Insn) → AllFit is → 1 ≤ slot_total is → slot_total is ≤ SLOT_LIMIT →
+    read_text (canonical_text is) ≡ Ok is
 
 -- and is in the grammar
 abbrev pub TextsAreInGrammar : Type 0
-TextsAreInGrammar = (is : List Insn) → AllFit is → 1 ≤ slot_total is → slot_total is ≤ SLOT_LIMIT → IsMethodText (canonical_text is) is
+TextsAreInGrammar =
+    (is : List Insn) → AllFit is → 1 ≤ slot_total is → slot_total is ≤ SLOT_LIMIT → IsMethodText (canonical_text is) is
 
 -- the canonical text of a class is read as that class
 abbrev pub ClassTextsGiveBack : Type 0
-ClassTextsGiveBack = (c : Class) → IsClass c.methods → AreWithinSet c.rules c.methods → read_class_text (class_text c) ≡ Ok c
+ClassTextsGiveBack =
+    (c : Class) → IsClass c.methods → AreWithinSet c.rules c.methods → read_class_text (class_text c) ≡ Ok c
 
 -- and is in the grammar
 abbrev pub ClassTextsAreInGrammar : Type 0
@@ -29,11 +32,13 @@ ClassTextsAreInGrammar = (c : Class) → IsClass c.methods → AreWithinSet c.ru
 
 -- the text of a class with slots is read as that class
 abbrev pub SlotTextsGiveBack : Type 0
-SlotTextsGiveBack = (c : Class) → IsClass c.methods → AreWithinSet c.rules c.methods → read_class_text (class_with_slots c) ≡ Ok c
+SlotTextsGiveBack =
+    (c : Class) → IsClass c.methods → AreWithinSet c.rules c.methods → read_class_text (class_with_slots c) ≡ Ok c
 
 -- and is in the grammar
 abbrev pub SlotTextsAreInGrammar : Type 0
-SlotTextsAreInGrammar = (c : Class) → IsClass c.methods → AreWithinSet c.rules c.methods → IsClassText (class_with_slots c) c
+SlotTextsAreInGrammar =
+    (c : Class) → IsClass c.methods → AreWithinSet c.rules c.methods → IsClassText (class_with_slots c) c
 
 -- Each text says one list of lines, and only one.
 pub record SaysOnce (text : List ℕ) : Type 0 where

@@ -12,7 +12,8 @@ use Rattle.bpf_asm.specs.Bodies.{is_label, line_slots}
 -- the slot and the line at which a label stands first, among lines that begin at a slot and a line
 abbrev pub first_place : List ℕ → ℕ → ℕ → List Statement → Option (ℕ × ℕ)
 first_place name slot line [] = None
-first_place name slot line (s ∷ ss) = if is_label name s then Some (slot, line) else first_place name (slot + line_slots s) (suc line) ss
+first_place name slot line (s ∷ ss) =
+    if is_label name s then Some (slot, line) else first_place name (slot + line_slots s) (suc line) ss
 
 -- what a map has of a name
 abbrev pub place_in : BTreeMap (Bor (List ℕ)) (ℕ × ℕ) → List ℕ → Option (ℕ × ℕ)
@@ -29,4 +30,5 @@ or_else None o = o
 
 -- new has a name's place besides what old has
 abbrev pub IsNoted : BTreeMap (Bor (List ℕ)) (ℕ × ℕ) → BTreeMap (Bor (List ℕ)) (ℕ × ℕ) → List ℕ → ℕ × ℕ → Type 0
-IsNoted old new name place = (q : List ℕ) → place_in new q ≡ or_else (place_in old q) (if bytes_eq name q then Some place else None)
+IsNoted old new name place =
+    (q : List ℕ) → place_in new q ≡ or_else (place_in old q) (if bytes_eq name q then Some place else None)

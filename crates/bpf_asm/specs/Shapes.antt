@@ -7,11 +7,14 @@ use Rattle.asm_lines.specs.declared.draft.Draft.{Draft}
 use Rattle.asm_lines.specs.declared.fault.AsmFault.{AsmFault}
 use Rattle.asm_lines.specs.declared.fault.AsmFault.TheVariants as faults
 use Rattle.asm_lines.specs.declared.form.Form.{Form}
-use Rattle.asm_lines.specs.declared.form.Form.TheVariants.{Alu, Neg, Mov, MovSigned, End, LoadWide, Load, LoadSigned, StoreNumber, StoreRegister, Jump, JumpLong, Branch, Call, Exit}
+use Rattle.asm_lines.specs.declared.form.Form.TheVariants.{Alu, Neg, Mov, MovSigned, End, LoadWide, Load, LoadSigned}
+use Rattle.asm_lines.specs.declared.form.Form.TheVariants.{StoreNumber, StoreRegister, Jump, JumpLong, Branch, Call}
+use Rattle.asm_lines.specs.declared.form.Form.TheVariants.{Exit}
 use Rattle.asm_lines.specs.Headers.{MethodHeader}
 use Rattle.asm_lines.specs.Texts.{is_label_name}
 use Rattle.asm_lines.specs.Words.{word_of}
-use Rattle.bpf_asm.specs.Syntax.{HasWord, IsDecimal, IsInteger, IsSigned, One, Two, Three, AreFlags, IsDraftText, IsRuleSet, IsDirectiveText}
+use Rattle.bpf_asm.specs.Syntax.{HasWord, IsDecimal, IsInteger, IsSigned, One, Two, Three, AreFlags, IsDraftText}
+use Rattle.bpf_asm.specs.Syntax.{IsRuleSet, IsDirectiveText}
 
 -- ---- operands, whatever their numbers
 
@@ -64,7 +67,8 @@ abbrev pub OfTwo : (List ℕ → Type 0) → (List ℕ → Type 0) → List ℕ 
 OfTwo Left Right rest = Two {A = Unit {0}} {B = Unit {0}} (λ text _. Left text) (λ text _. Right text) rest tt tt
 
 abbrev pub OfThree : (List ℕ → Type 0) → (List ℕ → Type 0) → (List ℕ → Type 0) → List ℕ → Type 0
-OfThree Left Middle Right rest = Three {A = Unit {0}} {B = Unit {0}} {C = Unit {0}} (λ text _. Left text) (λ text _. Middle text) (λ text _. Right text) rest tt tt tt
+OfThree Left Middle Right rest = Three {A = Unit {0}} {B = Unit {0}} {C = Unit {0}} (λ text _. Left text)
+    (λ text _. Middle text) (λ text _. Right text) rest tt tt tt
 
 -- the operands of a form
 abbrev pub AnyOperands : Form → List ℕ → Type 0

@@ -1,6 +1,7 @@
 -- What a line is made of, as relations: its comment and blanks, its words, its operands and their
 -- numbers.
-use Rattle.std.specs.Prelude.{◌≡◌, ◌⊎◌, ℕ, ℤ, pos, negsuc, ◌==◌, ◌||◌, ◌≤◌, ◌-◌, not, suc, true, false, List, [], ◌∷◌, ◌++◌, length, slice_index, FitsSigned, codes}
+use Rattle.std.specs.Prelude.{◌≡◌, ◌⊎◌, ℕ, ℤ, pos, negsuc, ◌==◌, ◌||◌, ◌≤◌, ◌-◌, not, suc, true, false, List, [], ◌∷◌}
+use Rattle.std.specs.Prelude.{◌++◌, length, slice_index, FitsSigned, codes}
 use Rattle.std.specs.List.{list_all}
 use Rattle.std.specs.Int.{w16, w32}
 use Rattle.std.specs.Str.Parse.{digits_value}
@@ -174,7 +175,8 @@ pub record One {A : Type 0} (Is : List ℕ → A → Type 0) (text : List ℕ) (
   pub is : Is inner a
 
 -- two operands with a comma between them
-pub record Two {A B : Type 0} (IsA : List ℕ → A → Type 0) (IsB : List ℕ → B → Type 0) (text : List ℕ) (a : A) (b : B) : Type 0 where
+pub record Two {A B : Type 0} (IsA : List ℕ → A → Type 0) (IsB : List ℕ → B →
+    Type 0) (text : List ℕ) (a : A) (b : B) : Type 0 where
   pub left : List ℕ
   pub right : List ℕ
   pub whole : text ≡ left ++ (44 ∷ right)
@@ -182,7 +184,8 @@ pub record Two {A B : Type 0} (IsA : List ℕ → A → Type 0) (IsB : List ℕ 
   pub other : One IsB right b
 
 -- three operands with commas between them
-pub record Three {A B C : Type 0} (IsA : List ℕ → A → Type 0) (IsB : List ℕ → B → Type 0) (IsC : List ℕ → C → Type 0) (text : List ℕ) (a : A) (b : B) (c : C) : Type 0 where
+pub record Three {A B C : Type 0} (IsA : List ℕ → A → Type 0) (IsB : List ℕ → B → Type 0) (IsC : List ℕ → C →
+    Type 0) (text : List ℕ) (a : A) (b : B) (c : C) : Type 0 where
   pub left : List ℕ
   pub right : List ℕ
   pub whole : text ≡ left ++ (44 ∷ right)
@@ -193,16 +196,24 @@ pub record Three {A B C : Type 0} (IsA : List ℕ → A → Type 0) (IsB : List 
 
 -- an instruction that goes nowhere else by a distance: its word, and its operands after it
 abbrev pub IsPlainText : Insn → List ℕ → List ℕ → Type 0
-IsPlainText (insns.Alu bits operation dst source) word rest = (word ≡ word_of (forms.Alu bits operation)) × Two IsRegister IsSource rest dst source
+IsPlainText (insns.Alu bits operation dst source) word rest =
+    (word ≡ word_of (forms.Alu bits operation)) × Two IsRegister IsSource rest dst source
 IsPlainText (insns.Neg bits dst) word rest = (word ≡ word_of (forms.Neg bits)) × One IsRegister rest dst
-IsPlainText (insns.Mov bits dst source) word rest = (word ≡ word_of (forms.Mov bits)) × Two IsRegister IsSource rest dst source
-IsPlainText (insns.MovSigned extension dst src) word rest = (word ≡ word_of (forms.MovSigned extension)) × Two IsRegister IsRegister rest dst src
+IsPlainText (insns.Mov bits dst source) word rest =
+    (word ≡ word_of (forms.Mov bits)) × Two IsRegister IsSource rest dst source
+IsPlainText (insns.MovSigned extension dst src) word rest =
+    (word ≡ word_of (forms.MovSigned extension)) × Two IsRegister IsRegister rest dst src
 IsPlainText (insns.End order width dst) word rest = (word ≡ word_of (forms.End order width)) × One IsRegister rest dst
-IsPlainText (insns.LoadWide dst value) word rest = (word ≡ word_of forms.LoadWide) × Two IsRegister (IsUnsigned 18446744073709551615) rest dst value
-IsPlainText (insns.Load width dst base offset) word rest = (word ≡ word_of (forms.Load width)) × Two IsRegister IsPlace rest dst (base, offset)
-IsPlainText (insns.LoadSigned width dst base offset) word rest = (word ≡ word_of (forms.LoadSigned width)) × Two IsRegister IsPlace rest dst (base, offset)
-IsPlainText (insns.Store width base offset (Immediate imm)) word rest = (word ≡ word_of (forms.StoreNumber width)) × Two IsPlace IsImmediate rest (base, offset) imm
-IsPlainText (insns.Store width base offset (Register src)) word rest = (word ≡ word_of (forms.StoreRegister width)) × Two IsPlace IsRegister rest (base, offset) src
+IsPlainText (insns.LoadWide dst value) word rest =
+    (word ≡ word_of forms.LoadWide) × Two IsRegister (IsUnsigned 18446744073709551615) rest dst value
+IsPlainText (insns.Load width dst base offset) word rest =
+    (word ≡ word_of (forms.Load width)) × Two IsRegister IsPlace rest dst (base, offset)
+IsPlainText (insns.LoadSigned width dst base offset) word rest =
+    (word ≡ word_of (forms.LoadSigned width)) × Two IsRegister IsPlace rest dst (base, offset)
+IsPlainText (insns.Store width base offset (Immediate imm)) word rest =
+    (word ≡ word_of (forms.StoreNumber width)) × Two IsPlace IsImmediate rest (base, offset) imm
+IsPlainText (insns.Store width base offset (Register src)) word rest =
+    (word ≡ word_of (forms.StoreRegister width)) × Two IsPlace IsRegister rest (base, offset) src
 IsPlainText (insns.Call helper) word rest = (word ≡ word_of forms.Call) × One (IsUnsigned 4294967295) rest helper
 IsPlainText insns.Exit word rest = (word ≡ word_of forms.Exit) × (rest ≡ [])
 IsPlainText (insns.Jump offset) word rest = ⊥
@@ -215,7 +226,8 @@ abbrev pub IsDraftText : Draft → List ℕ → List ℕ → Type 0
 IsDraftText (drafts.Plain insn) word rest = IsPlainText insn word rest
 IsDraftText (drafts.Jump target) word rest = (word ≡ word_of forms.Jump) × One IsNearTarget rest target
 IsDraftText (drafts.JumpLong target) word rest = (word ≡ word_of forms.JumpLong) × One IsFarTarget rest target
-IsDraftText (drafts.Branch bits comparison dst source target) word rest = (word ≡ word_of (forms.Branch bits comparison)) × Three IsRegister IsSource IsNearTarget rest dst source target
+IsDraftText (drafts.Branch bits comparison dst source target) word rest =
+    (word ≡ word_of (forms.Branch bits comparison)) × Three IsRegister IsSource IsNearTarget rest dst source target
 IsDraftText (drafts.CallLocal target) word rest = (word ≡ word_of forms.Call) × One IsLocal rest target
 
 -- an instruction's line, by its content

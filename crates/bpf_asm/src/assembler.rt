@@ -26,7 +26,8 @@ fn bare_fault(lines: &[Statement]) -> AsmFault
 /// One method's instructions, from the statements of its lines.
 fn assembled(alloc: Global, lines: &[Statement]) -> Result<Vec<Insn>, AsmError>
     requires { length lines.now + 1 < 2 ^ 64 }
-    ensures { MatchResult result (λ v. assembled lines.now ≡ Ok v.items) (λ e. (e ≡ no_memory) ⊎ (assembled lines.now ≡ Err e)) }
+    ensures { MatchResult result (λ v. assembled lines.now ≡ Ok v.items) (λ e. (e ≡ no_memory) ⊎
+        (assembled lines.now ≡ Err e)) }
 {
     // A text without an instruction is refused at line 1, whatever else it has.
     if has_instruction(lines) {
@@ -41,7 +42,8 @@ fn assembled(alloc: Global, lines: &[Statement]) -> Result<Vec<Insn>, AsmError>
 /// The instructions of one method's text, as `read_text` reads it.
 #[tactic(auto, unfolding(crate::specs::Bodies::read_text))]
 fn read_text(alloc: Global, text: &str) -> Result<Vec<Insn>, AsmError>
-    ensures { MatchResult result (λ v. read_text text.now ≡ Ok v.items) (λ e. (e ≡ no_memory) ⊎ (read_text text.now ≡ Err e)) }
+    ensures { MatchResult result (λ v. read_text text.now ≡ Ok v.items) (λ e. (e ≡ no_memory) ⊎
+        (read_text text.now ≡ Err e)) }
 {
     let lines = statements(alloc, text)?;
     assembled(alloc, &lines)

@@ -1,10 +1,12 @@
 //! The lines of a method become instructions: labels become distances of jumps.
 
-ghost use Rattle.std.specs.Prelude.{◌≡◌, ◌≤◌, ◌<◌, ◌^◌, ◌+◌, ◌-ℤ◌, ◌⊎◌, ◌≤ℤ◌, pos, [], IfOk, OnOk, MatchResult, length, is_some, take, count_by};
+ghost use Rattle.std.specs.Prelude.{◌≡◌, ◌≤◌, ◌<◌, ◌^◌, ◌+◌, ◌-ℤ◌, ◌⊎◌, ◌≤ℤ◌, pos, [], IfOk, OnOk, MatchResult, length};
+ghost use Rattle.std.specs.Prelude.{is_some, take, count_by};
 ghost use Rattle.std.specs.Option.{ForSome};
 ghost use Rattle.bpf_decode.specs.Instruction.{slot_count, slot_total};
 ghost use Rattle.asm_lines.specs.Fault.{no_memory};
-ghost use Rattle.bpf_asm.specs.Bodies.{draft_slots, line_slots, distance_within, resolved, near, far, finished, instruction_at, line_at, body, is_instruction, has_instruction};
+ghost use Rattle.bpf_asm.specs.Bodies.{draft_slots, line_slots, distance_within, resolved, near, far, finished};
+ghost use Rattle.bpf_asm.specs.Bodies.{instruction_at, line_at, body, is_instruction, has_instruction};
 
 use crate::labels::Labels;
 use asm_lines::{AsmError, AsmFault, Draft, Statement, Target};
@@ -107,10 +109,13 @@ fn finished(labels: &Labels, slot: usize, draft: &Draft) -> Result<Insn, AsmFaul
 {
     match draft {
         Draft::Plain(insn) => Ok(*insn),
-        Draft::Jump(target) => match near(labels, slot, target) { Ok(offset) => Ok(Insn::Jump { offset }), Err(fault) => Err(fault) },
-        Draft::JumpLong(target) => match far(labels, slot, target) { Ok(distance) => Ok(Insn::JumpLong { distance }), Err(fault) => Err(fault) },
-        Draft::Branch(bits, comparison, dst, source, target) => match near(labels, slot, target) { Ok(offset) => Ok(Insn::Branch { bits: *bits, comparison: *comparison, dst: *dst, source: *source, offset }), Err(fault) => Err(fault) },
-        Draft::CallLocal(target) => match far(labels, slot, target) { Ok(distance) => Ok(Insn::CallLocal { distance }), Err(fault) => Err(fault) },
+        Draft::Jump(target) => Ok(Insn::Jump { offset: near(labels, slot, target)? }),
+        Draft::JumpLong(target) => Ok(Insn::JumpLong { distance: far(labels, slot, target)? }),
+        Draft::Branch(bits, comparison, dst, source, target) => match near(labels, slot, target) {
+            Ok(offset) => Ok(Insn::Branch { bits: *bits, comparison: *comparison, dst: *dst, source: *source, offset }),
+            Err(fault) => Err(fault),
+        },
+        Draft::CallLocal(target) => Ok(Insn::CallLocal { distance: far(labels, slot, target)? }),
     }
 }
 
@@ -175,7 +180,8 @@ fn push_body(
     requires room { first + length lines.now < 2 ^ 64 }
     requires same { labels.now ≡ lines.now }
     requires empty { insns.old.items ≡ [] }
-    ensures read { MatchResult result (λ _. body first lines.now ≡ Ok insns.new.items) (λ e. (e ≡ no_memory) ⊎ (body first lines.now ≡ Err e)) }
+    ensures read { MatchResult result (λ _. body first lines.now ≡ Ok insns.new.items) (λ e. (e ≡ no_memory) ⊎
+        (body first lines.now ≡ Err e)) }
     ensures slots { OnOk result (slot_total insns.new.items ≤ SLOT_LIMIT) }
     ensures some { OnOk result (count_by is_instruction lines.now ≤ slot_total insns.new.items) }
 {
@@ -208,7 +214,8 @@ pub(crate) fn read_body(
     lines: &[Statement],
 ) -> Result<Vec<Insn>, AsmError>
     requires { first + length lines.now < 2 ^ 64 }
-    ensures read { MatchResult result (λ v. body first lines.now ≡ Ok v.items) (λ e. (e ≡ no_memory) ⊎ (body first lines.now ≡ Err e)) }
+    ensures read { MatchResult result (λ v. body first lines.now ≡ Ok v.items) (λ e. (e ≡ no_memory) ⊎
+        (body first lines.now ≡ Err e)) }
     ensures slots { IfOk result (λ v. slot_total v.items ≤ SLOT_LIMIT) }
     ensures some { IfOk result (λ v. count_by is_instruction lines.now ≤ slot_total v.items) }
 {

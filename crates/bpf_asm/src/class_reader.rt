@@ -1,6 +1,7 @@
 //! From the text of a whole class to its image: its rule set, and its methods in their order.
 
-ghost use Rattle.std.specs.Prelude.{◌≡◌, ◌⊎◌, ◌+◌, ◌<◌, ◌≤◌, ◌^◌, ℕ, true, List, [], Ok, Err, IfOk, OnOk, IfErr, MatchResult, length, drop};
+ghost use Rattle.std.specs.Prelude.{◌≡◌, ◌⊎◌, ◌+◌, ◌<◌, ◌≤◌, ◌^◌, ℕ, true, List, [], Ok, Err, IfOk, OnOk, IfErr};
+ghost use Rattle.std.specs.Prelude.{MatchResult, length, drop};
 ghost use Rattle.std.specs.List.{position_or_len};
 ghost use Rattle.bpf_decode.specs.ImageReading.{is_above, method_after, methods_after};
 ghost use Rattle.bpf_decode.specs.Class.{Class};
@@ -9,7 +10,9 @@ ghost use Rattle.bpf_asm.specs.Grammar.{IsClassText};
 ghost use Rattle.asm_lines.specs.Fault.{no_memory};
 ghost use Rattle.bpf_asm.specs.Faults.{RefusesClassText, IsFaultlessClass};
 ghost use Rattle.bpf_asm.specs.Bodies.{body, has_instruction};
-ghost use Rattle.bpf_asm.specs.Classes.{is_directive, last_name, is_within_set, opening_fault, with_body, method_at, class_from, with_rules, ruled_from, bare_class_fault, class_assembled, read_class_text};
+ghost use Rattle.bpf_asm.specs.Classes.{is_directive, last_name, is_within_set, opening_fault, with_body, method_at};
+ghost use Rattle.bpf_asm.specs.Classes.{class_from, with_rules, ruled_from, bare_class_fault, class_assembled};
+ghost use Rattle.bpf_asm.specs.Classes.{read_class_text};
 
 use crate::body::{has_instruction, read_body};
 use asm_lines::{AsmError, AsmFault, Header, Statement, statements};
@@ -85,8 +88,10 @@ fn with_body(
 ) -> Result<Method, AsmError>
     requires room { first + length lines.now < 2 ^ 64 }
     requires some { has_instruction lines.now ≡ true }
-    ensures read { MatchResult result (λ m. with_body header.now (body first lines.now) ≡ Ok m) (λ e. (e ≡ no_memory) ⊎ (with_body header.now (body first lines.now) ≡ Err e)) }
-    ensures right { IfOk result (λ m. (rules : RuleSet) (before : List ℕ) → is_within_set rules header.now ≡ true → is_above before header.now.name ≡ true → method_after rules before m ≡ Ok m) }
+    ensures read { MatchResult result (λ m. with_body header.now (body first lines.now) ≡ Ok m) (λ e. (e ≡ no_memory) ⊎
+        (with_body header.now (body first lines.now) ≡ Err e)) }
+    ensures right { IfOk result (λ m. (rules : RuleSet) (before : List ℕ) → is_within_set rules header.now ≡ true →
+        is_above before header.now.name ≡ true → method_after rules before m ≡ Ok m) }
 {
     let insns = match read_body(alloc, first, lines) {
         Ok(insns) => insns,
@@ -111,7 +116,9 @@ fn method_at(
     lines: &[Statement],
 ) -> Result<Method, AsmError>
     requires { line + 1 + length lines.now < 2 ^ 64 }
-    ensures read { MatchResult result (λ m. method_at above.entry.rules above.entry.done.now line header.now lines.now ≡ Ok m) (λ e. (e ≡ no_memory) ⊎ (method_at above.entry.rules above.entry.done.now line header.now lines.now ≡ Err e)) }
+    ensures read { MatchResult result (λ m. method_at above.entry.rules above.entry.done.now line header.now lines.now ≡
+        Ok m) (λ e. (e ≡ no_memory) ⊎
+        (method_at above.entry.rules above.entry.done.now line header.now lines.now ≡ Err e)) }
     ensures right { IfOk result (λ m. method_after above.entry.rules (last_name [] above.entry.done.now) m ≡ Ok m) }
     ensures room { IfOk result (λ _. length above.entry.done.now < METHOD_LIMIT) }
 {
@@ -159,7 +166,9 @@ fn push_line(
     requires inside { index < length lines.now }
     requires right { methods_after rules 0 [] methods.old.items ≡ Ok methods.old.items }
     requires few { length methods.old.items ≤ METHOD_LIMIT }
-    ensures read { MatchResult result (λ _. class_from rules methods.old.items (index + 1) (drop index lines.now) ≡ class_from rules methods.new.items (index + 1 + 1) (drop (index + 1) lines.now)) (λ e. (e ≡ no_memory) ⊎ (class_from rules methods.old.items (index + 1) (drop index lines.now) ≡ Err e)) }
+    ensures read { MatchResult result (λ _. class_from rules methods.old.items (index + 1) (drop index lines.now) ≡
+        class_from rules methods.new.items (index + 1 + 1) (drop (index + 1) lines.now)) (λ e. (e ≡ no_memory) ⊎
+        (class_from rules methods.old.items (index + 1) (drop index lines.now) ≡ Err e)) }
     ensures right { OnOk result (methods_after rules 0 [] methods.new.items ≡ Ok methods.new.items) }
     ensures few { OnOk result (length methods.new.items ≤ METHOD_LIMIT) }
 {
@@ -199,7 +208,8 @@ fn push_line(
 #[tactic(auto, unfolding(crate::specs::Classes::ruled_from))]
 fn rules_of(lines: &[Statement]) -> Result<(RuleSet, usize), AsmError>
     requires { length lines.now + 2 < 2 ^ 64 }
-    ensures read { MatchResult result (λ r. ruled_from 1 lines.now ≡ with_rules r.0 (class_from r.0 [] (r.1 + 1) (drop r.1 lines.now))) (λ e. ruled_from 1 lines.now ≡ Err e) }
+    ensures read { MatchResult result (λ r. ruled_from 1 lines.now ≡
+        with_rules r.0 (class_from r.0 [] (r.1 + 1) (drop r.1 lines.now))) (λ e. ruled_from 1 lines.now ≡ Err e) }
     ensures inside { IfOk result (λ r. r.1 ≤ length lines.now) }
 {
     let mut index = 0;
@@ -231,7 +241,8 @@ fn methods_of(
 ) -> Result<Vec<Method>, AsmError>
     requires room { length lines.now + 2 < 2 ^ 64 }
     requires inside { first ≤ length lines.now }
-    ensures read { MatchResult result (λ v. class_from rules [] (first + 1) (drop first lines.now) ≡ Ok v.items) (λ e. (e ≡ no_memory) ⊎ (class_from rules [] (first + 1) (drop first lines.now) ≡ Err e)) }
+    ensures read { MatchResult result (λ v. class_from rules [] (first + 1) (drop first lines.now) ≡ Ok v.items)
+        (λ e. (e ≡ no_memory) ⊎ (class_from rules [] (first + 1) (drop first lines.now) ≡ Err e)) }
     ensures right { IfOk result (λ v. methods_after rules 0 [] v.items ≡ Ok v.items) }
     ensures some { IfOk result (λ v. 1 ≤ length v.items) }
     ensures few { IfOk result (λ v. length v.items ≤ METHOD_LIMIT) }
@@ -255,7 +266,8 @@ fn methods_of(
 #[tactic(auto, using(crate::proofs::ClassLemmas::is_class))]
 fn class_assembled(alloc: Global, lines: &[Statement]) -> Result<ClassImage, AsmError>
     requires { length lines.now + 2 < 2 ^ 64 }
-    ensures { MatchResult result (λ c. class_assembled lines.now ≡ Ok c) (λ e. (e ≡ no_memory) ⊎ (class_assembled lines.now ≡ Err e)) }
+    ensures { MatchResult result (λ c. class_assembled lines.now ≡ Ok c) (λ e. (e ≡ no_memory) ⊎
+        (class_assembled lines.now ≡ Err e)) }
 {
     if !has_instruction(lines) {
         return Err(AsmError {
@@ -278,7 +290,8 @@ fn class_assembled(alloc: Global, lines: &[Statement]) -> Result<ClassImage, Asm
 /// The class of a text, as `read_class_text` reads it.
 #[tactic(auto, unfolding(crate::specs::Classes::read_class_text))]
 fn read_class_text(alloc: Global, text: &str) -> Result<ClassImage, AsmError>
-    ensures { MatchResult result (λ c. read_class_text text.now ≡ Ok c) (λ e. (e ≡ no_memory) ⊎ (read_class_text text.now ≡ Err e)) }
+    ensures { MatchResult result (λ c. read_class_text text.now ≡ Ok c) (λ e. (e ≡ no_memory) ⊎
+        (read_class_text text.now ≡ Err e)) }
 {
     let lines = statements(alloc, text)?;
     class_assembled(alloc, &lines)

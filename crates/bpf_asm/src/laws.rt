@@ -1,6 +1,7 @@
 //! Laws of the definitions that the contracts cite.
 
-ghost use Rattle.bpf_asm.specs.Laws.{TextsGiveBack, TextsAreInGrammar, ClassTextsGiveBack, ClassTextsAreInGrammar, SlotTextsGiveBack, SlotTextsAreInGrammar, TextsSayLines};
+ghost use Rattle.bpf_asm.specs.Laws.{TextsGiveBack, TextsAreInGrammar, ClassTextsGiveBack, ClassTextsAreInGrammar};
+ghost use Rattle.bpf_asm.specs.Laws.{SlotTextsGiveBack, SlotTextsAreInGrammar, TextsSayLines};
 
 /// The canonical text of instructions within the limits is read as those instructions, and is in
 /// the grammar: `assemble` inverts `disassemble`, and no two lists have one canonical text.

@@ -70,7 +70,8 @@ heads_bytes Three = 0 ∷ 0 ∷ []
 abbrev pub method_bytes : RuleSet → ClassMethod → List ℕ
 method_bytes rules m =
     (length m.name ∷ m.name)
-    ++ (m.flags ∷ little_bytes 2 m.in_cap ++ little_bytes 2 m.out_cap ++ little_bytes 2 (slot_total m.instructions) ++ spelling m.instructions ++ heads_bytes rules)
+    ++ (m.flags ∷ little_bytes 2 m.in_cap ++ little_bytes 2 m.out_cap ++ little_bytes 2 (slot_total m.instructions) ++
+    spelling m.instructions ++ heads_bytes rules)
 
 -- a class as it is written: by which rules it is verified, and its methods
 pub record Class : Type 0 where
@@ -85,7 +86,8 @@ magic Three = codes "RCL3"
 
 -- a class's bytes: its magic, the number of methods, a zero number, and each method
 abbrev pub image_bytes : Class → List ℕ
-image_bytes c = magic c.rules ++ little_bytes 2 (length c.methods) ++ (0 ∷ 0 ∷ flat_map (method_bytes c.rules) c.methods)
+image_bytes c =
+    magic c.rules ++ little_bytes 2 (length c.methods) ++ (0 ∷ 0 ∷ flat_map (method_bytes c.rules) c.methods)
 
 -- The grammar of images: the bytes spell the class, and nothing else.
 pub record IsImage (bytes : List ℕ) (c : Class) : Type 0 where

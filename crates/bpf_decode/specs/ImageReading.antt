@@ -1,10 +1,12 @@
 -- Reading a class image from left to right, with the first refusal that is met.
-use Rattle.std.specs.Prelude.{◌≡◌, ◌<◌, ℕ, zero, suc, ◌+◌, ◌*◌, ◌==◌, ◌⊎◌, nat_le, nat_eq, Bool, List, [], ◌∷◌, length, take, drop, codes, Result, Ok, Err, if◌then◌else◌}
+use Rattle.std.specs.Prelude.{◌≡◌, ◌<◌, ℕ, zero, suc, ◌+◌, ◌*◌, ◌==◌, ◌⊎◌, nat_le, nat_eq, Bool, List, [], ◌∷◌, length}
+use Rattle.std.specs.Prelude.{take, drop, codes, Result, Ok, Err, if◌then◌else◌}
 use Rattle.std.specs.Cmp.Lexicographic.{slice_cmp, pointwise}
 use Rattle.std.specs.Ordering.{nat_cmp, is_lt}
 use Rattle.byteorder.specs.Endian.{little_number}
 use Rattle.bpf_decode.specs.declared.decode_error.DecodeError.{DecodeError}
-use Rattle.bpf_decode.specs.declared.decode_error.DecodeError.TheVariants.{Truncated, Magic, Name, Order, Flags, Limit, Trailing, NoMemory}
+use Rattle.bpf_decode.specs.declared.decode_error.DecodeError.TheVariants.{Truncated, Magic, Name, Order, Flags, Limit}
+use Rattle.bpf_decode.specs.declared.decode_error.DecodeError.TheVariants.{Trailing, NoMemory}
 use Rattle.bpf_decode.specs.declared.image_error.ImageError.{ImageError}
 use Rattle.bpf_decode.specs.declared.insn.Insn.{Insn}
 use Rattle.bpf_decode.specs.Instruction.{slot_total}
@@ -12,7 +14,8 @@ use Rattle.bpf_decode.specs.declared.image.Header.{Header}
 use Rattle.bpf_decode.specs.declared.rule_set.RuleSet.{RuleSet}
 use Rattle.bpf_decode.specs.declared.rule_set.RuleSet.TheVariants.{One, Two, Three}
 use Rattle.bpf_decode.specs.Class.{ClassMethod, Class}
-use Rattle.bpf_decode.specs.Limits.{is_method_count, is_name_length, are_name_bytes, are_flags, is_capacity, is_slot_count}
+use Rattle.bpf_decode.specs.Limits.{is_method_count, is_name_length, are_name_bytes, are_flags, is_capacity}
+use Rattle.bpf_decode.specs.Limits.{is_slot_count}
 use Rattle.bpf_decode.specs.Reading.{◌>>=◌, checked, code_of}
 
 -- the name is above the one before it, by bytes; every name is above the empty one
@@ -117,11 +120,14 @@ after methods (Err e) = Err (record { methods = methods; error = e })
 -- n methods, when that many were read before, the last of that name
 unfoldable pub methods_at : RuleSet → ℕ → ℕ → List ℕ → List ℕ → Result (List ClassMethod × List ℕ) ImageError
 methods_at rules zero done before bytes = Ok ([], bytes)
-methods_at rules (suc n) done before bytes = after done (method_at rules before bytes) >>= λ first. methods_at rules n (done + 1) first.0.name first.1 >>= λ others. Ok (first.0 ∷ others.0, others.1)
+methods_at rules (suc n) done before bytes =
+    after done (method_at rules before bytes) >>= λ first. methods_at rules n (done + 1) first.0.name first.1 >>=
+    λ others. Ok (first.0 ∷ others.0, others.1)
 
 -- all of the bytes
 unfoldable pub image_of : List ℕ → Result Class ImageError
-image_of bytes = after 0 (header_at bytes) >>= λ h. methods_at h.0.rules h.0.count 0 [] h.1 >>= λ ms. after h.0.count (checked (length ms.1 == 0) Trailing (record { rules = h.0.rules; methods = ms.0 }))
+image_of bytes = after 0 (header_at bytes) >>= λ h. methods_at h.0.rules h.0.count 0 [] h.1 >>=
+    λ ms. after h.0.count (checked (length ms.1 == 0) Trailing (record { rules = h.0.rules; methods = ms.0 }))
 
 -- What reading an image returned is what the definition gives, unless memory ran out.
 abbrev pub GivesImage : {X Y : Type 0} → (X → Y) → Result X ImageError → Result Y ImageError → Type 0
@@ -137,7 +143,8 @@ pub record ReadsSoFar (rules : RuleSet) (count : ℕ) (bytes : List ℕ) (n : �
 
 -- a refusal is the one that reading the methods gives, or want of memory at one of them
 abbrev pub RefusesMethods : RuleSet → ℕ → List ℕ → ImageError → Type 0
-RefusesMethods rules count bytes e = ((e.error ≡ NoMemory) × ReadsSoFar rules count bytes e.methods) ⊎ (methods_at rules count 0 [] bytes ≡ Err e)
+RefusesMethods rules count bytes e =
+    ((e.error ≡ NoMemory) × ReadsSoFar rules count bytes e.methods) ⊎ (methods_at rules count 0 [] bytes ≡ Err e)
 
 -- n methods of an image are read whole, and it is to have more
 pub record ReadsMethods (bytes : List ℕ) (n : ℕ) : Type 0 where
@@ -166,7 +173,9 @@ method_after rules before m = do
 -- the same of methods: `done` stand before them, the last of which has the name `before`
 unfoldable pub methods_after : RuleSet → ℕ → List ℕ → List ClassMethod → Result (List ClassMethod) ImageError
 methods_after rules done before [] = Ok []
-methods_after rules done before (m ∷ ms) = after done (method_after rules before m) >>= λ first. methods_after rules (done + 1) m.name ms >>= λ others. Ok (first ∷ others)
+methods_after rules done before (m ∷ ms) =
+    after done (method_after rules before m) >>= λ first. methods_after rules (done + 1) m.name ms >>=
+    λ others. Ok (first ∷ others)
 
 -- methods that are a class's, or the first refusal in the order of an image's fields
 unfoldable pub methods_of : RuleSet → List ClassMethod → Result (List ClassMethod) ImageError

@@ -1,7 +1,8 @@
 -- What a class's numbers and names may be, as tests. The numbers are the constants of
 -- src/limits.rt.
 use Rattle.std.specs.Prelude.{ℕ, ◌==◌, ◌&&◌, ◌||◌, nat_le, Bool, true, List, [], ◌∷◌, length}
-use Rattle.bpf_decode.specs.declared.limits.TheConstants.{METHOD_LIMIT, NAME_LIMIT, NARROW_CAPACITY_LIMIT, CAPACITY_LIMIT, SLOT_LIMIT}
+use Rattle.bpf_decode.specs.declared.limits.TheConstants.{METHOD_LIMIT, NAME_LIMIT, NARROW_CAPACITY_LIMIT}
+use Rattle.bpf_decode.specs.declared.limits.TheConstants.{CAPACITY_LIMIT, SLOT_LIMIT}
 use Rattle.bpf_decode.specs.declared.rule_set.RuleSet.{RuleSet}
 use Rattle.bpf_decode.specs.declared.rule_set.RuleSet.TheVariants.{One, Two, Three}
 

@@ -1,5 +1,6 @@
 -- Reading code from left to right, with the first refusal that is met.
-use Rattle.std.specs.Prelude.{◌≡◌, ℕ, zero, suc, ◌+◌, ◌*◌, ◌/◌, ◌%◌, ◌==◌, ◌&&◌, ◌⊎◌, nat_le, Bool, List, [], ◌∷◌, length, drop, Result, Ok, Err, if◌then◌else◌}
+use Rattle.std.specs.Prelude.{◌≡◌, ℕ, zero, suc, ◌+◌, ◌*◌, ◌/◌, ◌%◌, ◌==◌, ◌&&◌, ◌⊎◌, nat_le, Bool, List, [], ◌∷◌}
+use Rattle.std.specs.Prelude.{length, drop, Result, Ok, Err, if◌then◌else◌}
 use Rattle.std.specs.Option.{ok_or}
 use Rattle.bpf_decode.specs.declared.decode_error.DecodeError.{DecodeError}
 use Rattle.bpf_decode.specs.declared.decode_error.DecodeError.TheVariants as errors
@@ -49,7 +50,8 @@ width_of read = read >>= λ i. Ok (slot_count i)
 -- at most n instructions, from that slot on
 unfoldable pub insns_at : ℕ → ℕ → List ℕ → Result (List Insn) DecodeError
 insns_at zero slot bytes = Ok []
-insns_at (suc n) slot bytes = if length bytes == 0 then Ok [] else (insn_at slot bytes >>= λ i. insns_at n (slot + slot_count i) (drop (8 * slot_count i) bytes) >>= λ is. Ok (i ∷ is))
+insns_at (suc n) slot bytes = if length bytes == 0 then Ok [] else
+    (insn_at slot bytes >>= λ i. insns_at n (slot + slot_count i) (drop (8 * slot_count i) bytes) >>= λ is. Ok (i ∷ is))
 
 -- all of the bytes, as instructions
 unfoldable pub code_of : List ℕ → Result (List Insn) DecodeError

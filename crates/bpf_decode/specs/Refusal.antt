@@ -3,7 +3,9 @@ use Rattle.std.specs.Prelude.{ℕ, List, [], ◌++◌, codes, Option, Some, None
 use Rattle.std.specs.Fmt.{decimal}
 use Rattle.bpf_decode.specs.declared.decode_error.DecodeError.{DecodeError}
 use Rattle.bpf_decode.specs.declared.image_error.ImageError.{ImageError}
-use Rattle.bpf_decode.specs.declared.decode_error.DecodeError.TheVariants.{Truncated, Magic, Opcode, Register, NonzeroField, WideHalf, Name, Order, Flags, Limit, Trailing, NoMemory}
+use Rattle.bpf_decode.specs.declared.decode_error.DecodeError.TheVariants.{Truncated, Magic, Opcode, Register}
+use Rattle.bpf_decode.specs.declared.decode_error.DecodeError.TheVariants.{NonzeroField, WideHalf, Name, Order, Flags}
+use Rattle.bpf_decode.specs.declared.decode_error.DecodeError.TheVariants.{Limit, Trailing, NoMemory}
 
 -- the numbers of the refusals, and their names
 abbrev pub number_of : DecodeError → ℕ
@@ -60,4 +62,5 @@ slot_text (Some slot) = codes ", slot " ++ decimal slot
 
 -- an image's refusal: the methods read whole before it, its slot, and its text
 abbrev pub image_text_of : ImageError → List ℕ
-image_text_of e = codes "image refused after " ++ decimal e.methods ++ codes " methods" ++ slot_text (slot_of e.error) ++ codes ": " ++ text_of e.error
+image_text_of e = codes "image refused after " ++ decimal e.methods ++ codes " methods" ++
+    slot_text (slot_of e.error) ++ codes ": " ++ text_of e.error

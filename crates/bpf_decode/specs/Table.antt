@@ -1,6 +1,7 @@
 -- The table of opcodes (RFC 9669 sections 4 and 5): each row's opcode, its fields and its
 -- instruction.
-use Rattle.std.specs.Prelude.{ℕ, ◌+◌, ◌*◌, ◌/◌, ◌%◌, ◌^◌, ◌==◌, ◌&&◌, ◌||◌, nat_le, Bool, List, [], ◌∷◌, Option, Some, None, option_map, option_and_then, if◌then◌else◌}
+use Rattle.std.specs.Prelude.{ℕ, ◌+◌, ◌*◌, ◌/◌, ◌%◌, ◌^◌, ◌==◌, ◌&&◌, ◌||◌, nat_le, Bool, List, [], ◌∷◌, Option, Some}
+use Rattle.std.specs.Prelude.{None, option_map, option_and_then, if◌then◌else◌}
 use Rattle.std.specs.List.{find}
 use Rattle.std.specs.Int.{w16, w32, cast_signed}
 use Rattle.bpf_decode.specs.declared.access.Width.TheVariants.{Byte, Half, Word, Double}
@@ -12,10 +13,15 @@ use Rattle.bpf_decode.specs.declared.insn.Operand.TheVariants.{Immediate, Regist
 use Rattle.bpf_decode.specs.declared.insn.Insn.{Insn}
 use Rattle.bpf_decode.specs.declared.insn.Insn.TheVariants as insns
 use Rattle.bpf_decode.specs.declared.row.OpcodeRow.{OpcodeRow}
-use Rattle.bpf_decode.specs.declared.row.OpcodeRow.TheVariants.{AluImmediate, AluRegister, Neg, MovImmediate, MovRegister, End, Wide, Load, LoadSigned, StoreImmediate, StoreRegister, Jump, JumpLong, BranchImmediate, BranchRegister, Call, Exit}
+use Rattle.bpf_decode.specs.declared.row.OpcodeRow.TheVariants.{AluImmediate, AluRegister, Neg, MovImmediate}
+use Rattle.bpf_decode.specs.declared.row.OpcodeRow.TheVariants.{MovRegister, End, Wide, Load, LoadSigned}
+use Rattle.bpf_decode.specs.declared.row.OpcodeRow.TheVariants.{StoreImmediate, StoreRegister, Jump, JumpLong}
+use Rattle.bpf_decode.specs.declared.row.OpcodeRow.TheVariants.{BranchImmediate, BranchRegister, Call, Exit}
 use Rattle.bpf_decode.specs.Fields.{Fields, fields_of}
-use Rattle.bpf_decode.specs.Instruction.{slot, imm_field, alu_class, jump_class, operation_code, order_opcode, comparison_code, size_code, signed_size_code}
-use Rattle.bpf_decode.specs.Opcodes.{operation_of, offset_selects, selected, order_of, imm_selects, end_width_of, move_selects, signed_move_of, comparison_of}
+use Rattle.bpf_decode.specs.Instruction.{slot, imm_field, alu_class, jump_class, operation_code, order_opcode}
+use Rattle.bpf_decode.specs.Instruction.{comparison_code, size_code, signed_size_code}
+use Rattle.bpf_decode.specs.Opcodes.{operation_of, offset_selects, selected, order_of, imm_selects, end_width_of}
+use Rattle.bpf_decode.specs.Opcodes.{move_selects, signed_move_of, comparison_of}
 
 -- a row's opcode
 abbrev pub opcode : OpcodeRow → ℕ
@@ -43,12 +49,14 @@ alu_row bits source code =
     if code == 0x8 then (if source == 0 then Some (Neg bits) else None) else
     if code == 0xb then (if source == 0 then Some (MovImmediate bits) else Some (MovRegister bits)) else
     if code == 0xd then option_map End (order_of bits source) else
-    if source == 0 then option_map (AluImmediate bits) (operation_of code) else option_map (AluRegister bits) (operation_of code)
+    if source == 0 then option_map (AluImmediate bits) (operation_of code)
+    else option_map (AluRegister bits) (operation_of code)
 
 -- of JMP and JMP32 as comparisons
 abbrev pub branch_row : OpWidth → ℕ → ℕ → Option OpcodeRow
 branch_row bits source code =
-    if source == 0 then option_map (BranchImmediate bits) (comparison_of code) else option_map (BranchRegister bits) (comparison_of code)
+    if source == 0 then option_map (BranchImmediate bits) (comparison_of code)
+    else option_map (BranchRegister bits) (comparison_of code)
 
 -- and every other row, by opcode
 abbrev pub rows : List OpcodeRow
@@ -103,21 +111,26 @@ high_half row bytes = Some 0
 
 -- the instruction of a row
 abbrev pub instruction : OpcodeRow → Fields → ℕ → Insn
-instruction (AluImmediate bits operation) f high = insns.Alu bits (selected operation f.offset) f.dst (Immediate (cast_signed w32 f.imm))
+instruction (AluImmediate bits operation) f high =
+    insns.Alu bits (selected operation f.offset) f.dst (Immediate (cast_signed w32 f.imm))
 instruction (AluRegister bits operation) f high = insns.Alu bits (selected operation f.offset) f.dst (Register f.src)
 instruction (Neg bits) f high = insns.Neg bits f.dst
 instruction (MovImmediate bits) f high = insns.Mov bits f.dst (Immediate (cast_signed w32 f.imm))
-instruction (MovRegister bits) f high = if f.offset == 0 then insns.Mov bits f.dst (Register f.src) else insns.MovSigned (signed_move_of bits f.offset) f.dst f.src
+instruction (MovRegister bits) f high = if f.offset == 0 then insns.Mov bits f.dst (Register f.src)
+    else insns.MovSigned (signed_move_of bits f.offset) f.dst f.src
 instruction (End order) f high = insns.End order (end_width_of f.imm) f.dst
 instruction Wide f high = insns.LoadWide f.dst (f.imm + high * 2 ^ 32)
 instruction (Load width) f high = insns.Load width f.dst f.src (cast_signed w16 f.offset)
 instruction (LoadSigned width) f high = insns.LoadSigned width f.dst f.src (cast_signed w16 f.offset)
-instruction (StoreImmediate width) f high = insns.Store width f.dst (cast_signed w16 f.offset) (Immediate (cast_signed w32 f.imm))
+instruction (StoreImmediate width) f high =
+    insns.Store width f.dst (cast_signed w16 f.offset) (Immediate (cast_signed w32 f.imm))
 instruction (StoreRegister width) f high = insns.Store width f.dst (cast_signed w16 f.offset) (Register f.src)
 instruction Jump f high = insns.Jump (cast_signed w16 f.offset)
 instruction JumpLong f high = insns.JumpLong (cast_signed w32 f.imm)
-instruction (BranchImmediate bits comparison) f high = insns.Branch bits comparison f.dst (Immediate (cast_signed w32 f.imm)) (cast_signed w16 f.offset)
-instruction (BranchRegister bits comparison) f high = insns.Branch bits comparison f.dst (Register f.src) (cast_signed w16 f.offset)
+instruction (BranchImmediate bits comparison) f high =
+    insns.Branch bits comparison f.dst (Immediate (cast_signed w32 f.imm)) (cast_signed w16 f.offset)
+instruction (BranchRegister bits comparison) f high =
+    insns.Branch bits comparison f.dst (Register f.src) (cast_signed w16 f.offset)
 instruction Call f high = if f.src == 0 then insns.Call f.imm else insns.CallLocal (cast_signed w32 f.imm)
 instruction Exit f high = insns.Exit
 

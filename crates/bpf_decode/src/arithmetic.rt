@@ -4,7 +4,8 @@
 ghost use Rattle.std.specs.Prelude.{◌≡◌, ◌<◌, ◌%◌, ◌^◌};
 ghost use Rattle.bpf_decode.specs.Instruction.{signed_byte_count};
 ghost use Rattle.std.specs.Int.{w32, w64};
-ghost use Rattle.bpf_decode.specs.Arithmetic.{signed_load_value, computed, alu_value, neg_value, mov_value, signed_move_value, end_value, compared, is_taken};
+ghost use Rattle.bpf_decode.specs.Arithmetic.{signed_load_value, computed, alu_value, neg_value, mov_value};
+ghost use Rattle.bpf_decode.specs.Arithmetic.{signed_move_value, end_value, compared, is_taken};
 
 use crate::access::SignedWidth;
 use crate::operation::{Arithmetic, ByteOrder, Comparison, EndWidth, OpWidth, SignedMove};
@@ -22,13 +23,17 @@ pub fn compute64(operation: Arithmetic, m: u64, n: u64) -> u64
         Arithmetic::Sub => m.wrapping_sub(n),
         Arithmetic::Mul => m.wrapping_mul(n),
         Arithmetic::Div => { if n == 0 { 0 } else { m / n } }
-        Arithmetic::SignedDiv => { if n == 0 { 0 } else { m.cast_signed().wrapping_div(n.cast_signed()).cast_unsigned() } }
+        Arithmetic::SignedDiv => {
+            if n == 0 { 0 } else { m.cast_signed().wrapping_div(n.cast_signed()).cast_unsigned() }
+        }
         Arithmetic::Or => m | n,
         Arithmetic::And => m & n,
         Arithmetic::Lsh => m << (n % 64),
         Arithmetic::Rsh => m >> (n % 64),
         Arithmetic::Mod => { if n == 0 { m } else { m % n } }
-        Arithmetic::SignedMod => { if n == 0 { m } else { m.cast_signed().wrapping_rem(n.cast_signed()).cast_unsigned() } }
+        Arithmetic::SignedMod => {
+            if n == 0 { m } else { m.cast_signed().wrapping_rem(n.cast_signed()).cast_unsigned() }
+        }
         Arithmetic::Xor => m ^ n,
         Arithmetic::Arsh => (m.cast_signed() >> (n % 64)).cast_unsigned(),
     }
@@ -45,13 +50,17 @@ pub fn compute32(operation: Arithmetic, m: u32, n: u32) -> u32
         Arithmetic::Sub => m.wrapping_sub(n),
         Arithmetic::Mul => m.wrapping_mul(n),
         Arithmetic::Div => { if n == 0 { 0 } else { m / n } }
-        Arithmetic::SignedDiv => { if n == 0 { 0 } else { m.cast_signed().wrapping_div(n.cast_signed()).cast_unsigned() } }
+        Arithmetic::SignedDiv => {
+            if n == 0 { 0 } else { m.cast_signed().wrapping_div(n.cast_signed()).cast_unsigned() }
+        }
         Arithmetic::Or => m | n,
         Arithmetic::And => m & n,
         Arithmetic::Lsh => m << (n % 32),
         Arithmetic::Rsh => m >> (n % 32),
         Arithmetic::Mod => { if n == 0 { m } else { m % n } }
-        Arithmetic::SignedMod => { if n == 0 { m } else { m.cast_signed().wrapping_rem(n.cast_signed()).cast_unsigned() } }
+        Arithmetic::SignedMod => {
+            if n == 0 { m } else { m.cast_signed().wrapping_rem(n.cast_signed()).cast_unsigned() }
+        }
         Arithmetic::Xor => m ^ n,
         Arithmetic::Arsh => (m.cast_signed() >> (n % 32)).cast_unsigned(),
     }

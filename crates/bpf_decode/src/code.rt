@@ -1,7 +1,8 @@
 //! Code as bytes: reading, and the one spelling.
 
 ghost use Rattle.std.specs.Prelude.{◌≡◌, ◌≤◌, ◌<◌, ◌++◌, List, length, IfOk, IfErr, OnOk, true};
-ghost use Rattle.bpf_decode.specs.Instruction.{IsCode, AllFit, Fits, OperandFits, slot, bytes_of, spelling, slot_count, slot_total};
+ghost use Rattle.bpf_decode.specs.Instruction.{IsCode, AllFit, Fits, OperandFits, slot, bytes_of, spelling, slot_count};
+ghost use Rattle.bpf_decode.specs.Instruction.{slot_total};
 ghost use Rattle.bpf_decode.specs.Table.{opcode, operand_slot};
 ghost use Rattle.bpf_decode.specs.Reading.{Gives, width_of, insn_at, code_of, count_of};
 ghost use Rattle.bpf_decode.specs.declared.insn.Insn.{Insn};
@@ -131,7 +132,8 @@ fn row_slot(row: OpcodeRow, dst: u8, src: u8, offset: u16, imm: u32) -> Slot
 /// register.
 #[rattlefmt::skip]
 fn operand_slot(immediate: OpcodeRow, register: OpcodeRow, dst: Register, source: Operand, offset: u16) -> Slot
-    ensures spelled { operand_slot (opcode immediate) (opcode register) dst source offset ≡ slot result.opcode result.dst result.src result.offset result.imm }
+    ensures spelled { operand_slot (opcode immediate) (opcode register) dst source offset ≡
+        slot result.opcode result.dst result.src result.offset result.imm }
     ensures dst { result.dst < 16 }
     ensures src { result.src < 16 }
     ensures fit { (dst ≤ 10) × OperandFits source }
@@ -145,25 +147,36 @@ fn operand_slot(immediate: OpcodeRow, register: OpcodeRow, dst: Register, source
 /// The first slot of an instruction.
 #[rattlefmt::skip]
 fn first_slot(insn: Insn) -> Slot
-    ensures spelled { slot_count insn ≡ 1 → bytes_of insn ≡ slot result.opcode result.dst result.src result.offset result.imm }
+    ensures spelled { slot_count insn ≡ 1 →
+        bytes_of insn ≡ slot result.opcode result.dst result.src result.offset result.imm }
     ensures dst { result.dst < 16 }
     ensures src { result.src < 16 }
     ensures fit { Fits insn }
 {
     match insn {
-        Insn::Alu { bits, operation, dst, source } => operand_slot(OpcodeRow::AluImmediate(bits, operation), OpcodeRow::AluRegister(bits, operation), dst, source, operation.offset()),
+        Insn::Alu { bits, operation, dst, source } =>
+            operand_slot(OpcodeRow::AluImmediate(bits, operation), OpcodeRow::AluRegister(bits, operation), dst, source,
+                operation.offset()),
         Insn::Neg { bits, dst } => row_slot(OpcodeRow::Neg(bits), dst.number(), 0, 0, 0),
-        Insn::Mov { bits, dst, source } => operand_slot(OpcodeRow::MovImmediate(bits), OpcodeRow::MovRegister(bits), dst, source, 0),
-        Insn::MovSigned { extension, dst, src } => row_slot(OpcodeRow::MovRegister(extension.bits()), dst.number(), src.number(), extension.offset(), 0),
+        Insn::Mov { bits, dst, source } =>
+            operand_slot(OpcodeRow::MovImmediate(bits), OpcodeRow::MovRegister(bits), dst, source, 0),
+        Insn::MovSigned { extension, dst, src } =>
+            row_slot(OpcodeRow::MovRegister(extension.bits()), dst.number(), src.number(), extension.offset(), 0),
         Insn::End { order, width, dst } => row_slot(OpcodeRow::End(order), dst.number(), 0, 0, width.bits()),
         // Its second slot, with the high half, is written by `put_wide`.
         Insn::LoadWide { dst, value } => row_slot(OpcodeRow::Wide, dst.number(), 0, 0, low(value)),
-        Insn::Load { width, dst, base, offset } => row_slot(OpcodeRow::Load(width), dst.number(), base.number(), offset.cast_unsigned(), 0),
-        Insn::LoadSigned { width, dst, base, offset } => row_slot(OpcodeRow::LoadSigned(width), dst.number(), base.number(), offset.cast_unsigned(), 0),
-        Insn::Store { width, base, offset, source } => operand_slot(OpcodeRow::StoreImmediate(width), OpcodeRow::StoreRegister(width), base, source, offset.cast_unsigned()),
+        Insn::Load { width, dst, base, offset } =>
+            row_slot(OpcodeRow::Load(width), dst.number(), base.number(), offset.cast_unsigned(), 0),
+        Insn::LoadSigned { width, dst, base, offset } =>
+            row_slot(OpcodeRow::LoadSigned(width), dst.number(), base.number(), offset.cast_unsigned(), 0),
+        Insn::Store { width, base, offset, source } =>
+            operand_slot(OpcodeRow::StoreImmediate(width), OpcodeRow::StoreRegister(width), base, source,
+                offset.cast_unsigned()),
         Insn::Jump { offset } => row_slot(OpcodeRow::Jump, 0, 0, offset.cast_unsigned(), 0),
         Insn::JumpLong { distance } => row_slot(OpcodeRow::JumpLong, 0, 0, 0, distance.cast_unsigned()),
-        Insn::Branch { bits, comparison, dst, source, offset } => operand_slot(OpcodeRow::BranchImmediate(bits, comparison), OpcodeRow::BranchRegister(bits, comparison), dst, source, offset.cast_unsigned()),
+        Insn::Branch { bits, comparison, dst, source, offset } =>
+            operand_slot(OpcodeRow::BranchImmediate(bits, comparison), OpcodeRow::BranchRegister(bits, comparison), dst,
+                source, offset.cast_unsigned()),
         Insn::Call { helper } => row_slot(OpcodeRow::Call, 0, 0, 0, helper),
         Insn::CallLocal { distance } => row_slot(OpcodeRow::Call, 0, 1, 0, distance.cast_unsigned()),
         Insn::Exit => row_slot(OpcodeRow::Exit, 0, 0, 0, 0),

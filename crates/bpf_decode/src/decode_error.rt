@@ -85,7 +85,8 @@ impl DecodeError {
         ensures { result ≡ slot_of self }
     {
         match self {
-            DecodeError::Opcode(slot) | DecodeError::Register(slot) | DecodeError::NonzeroField(slot) | DecodeError::WideHalf(slot) => Some(slot),
+            DecodeError::Opcode(slot) | DecodeError::Register(slot) | DecodeError::NonzeroField(slot)
+            | DecodeError::WideHalf(slot) => Some(slot),
             DecodeError::Truncated | DecodeError::Magic | DecodeError::Name | DecodeError::Order => None,
             DecodeError::Flags | DecodeError::Limit | DecodeError::Trailing | DecodeError::NoMemory => None,
         }

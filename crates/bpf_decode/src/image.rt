@@ -2,11 +2,14 @@
 
 ghost use Rattle.std.specs.Prelude.{◌≡◌, ◌++◌, [], length, string_bytes, IsTrue, IfOk, IfErr, OnOk};
 ghost use Rattle.std.specs.List.{flat_map};
-ghost use Rattle.bpf_decode.specs.Class.{Class, IsMethod, IsClass, AreWithinSet, IsImage, heads_bytes, method_bytes, magic, image_bytes};
+ghost use Rattle.bpf_decode.specs.Class.{Class, IsMethod, IsClass, AreWithinSet, IsImage, heads_bytes, method_bytes};
+ghost use Rattle.bpf_decode.specs.Class.{magic, image_bytes};
 ghost use Rattle.byteorder.specs.Endian.{little_bytes};
 ghost use Rattle.bpf_decode.specs.Reading.{Reads, Gives};
 ghost use Rattle.bpf_decode.specs.Limits.{are_name_bytes};
-ghost use Rattle.bpf_decode.specs.ImageReading.{GivesImage, RefusesMethods, RefusesImage, byte_at, number_at, bytes_at, name_at, flags_at, capacity_at, code_at, heads_at, method_at, methods_at, rules_of, rules_at, header_at, image_of};
+ghost use Rattle.bpf_decode.specs.ImageReading.{GivesImage, RefusesMethods, RefusesImage, byte_at, number_at, bytes_at};
+ghost use Rattle.bpf_decode.specs.ImageReading.{name_at, flags_at, capacity_at, code_at, heads_at, method_at};
+ghost use Rattle.bpf_decode.specs.ImageReading.{methods_at, rules_of, rules_at, header_at, image_of};
 ghost use Rattle.bpf_decode.specs.declared.decode_error.DecodeError.TheVariants.{NoMemory};
 
 use crate::class_image::ClassImage;

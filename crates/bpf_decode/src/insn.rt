@@ -110,6 +110,7 @@ pub fn width(insn: &Insn) -> usize
         Insn::LoadWide { .. } => 2,
         Insn::Alu { .. } | Insn::Neg { .. } | Insn::Mov { .. } | Insn::MovSigned { .. } | Insn::End { .. } => 1,
         Insn::Load { .. } | Insn::LoadSigned { .. } | Insn::Store { .. } => 1,
-        Insn::Jump { .. } | Insn::JumpLong { .. } | Insn::Branch { .. } | Insn::Call { .. } | Insn::CallLocal { .. } | Insn::Exit => 1,
+        Insn::Jump { .. } | Insn::JumpLong { .. } | Insn::Branch { .. } | Insn::Call { .. } | Insn::CallLocal { .. }
+        | Insn::Exit => 1,
     }
 }

@@ -32,9 +32,11 @@ pub fn one_spelling()
 /// written as the same bytes.
 pub fn round_trip()
     ensures written { (bytes : List ℕ) (c : Class) → IsImage bytes c → image_of bytes ≡ Ok c }
-    ensures read { (bytes written : List ℕ) (c : Class) → ((i : ℕ) → get_or bytes i 0 < 256) → image_of bytes ≡ Ok c → IsImage written c → written ≡ bytes }
+    ensures read { (bytes written : List ℕ) (c : Class) → ((i : ℕ) → get_or bytes i 0 < 256) → image_of bytes ≡ Ok c →
+        IsImage written c → written ≡ bytes }
     ensures written_code { (bytes : List ℕ) (is : List Insn) → IsCode bytes is → code_of bytes ≡ Ok is }
-    ensures read_code { (bytes written : List ℕ) (is : List Insn) → ((i : ℕ) → get_or bytes i 0 < 256) → code_of bytes ≡ Ok is → IsCode written is → written ≡ bytes }
+    ensures read_code { (bytes written : List ℕ) (is : List Insn) → ((i : ℕ) → get_or bytes i 0 < 256) →
+        code_of bytes ≡ Ok is → IsCode written is → written ≡ bytes }
 {}
 
 /// No image has more than `IMAGE_LIMIT` bytes. So it is enough to read `IMAGE_LIMIT + 1` bytes of a

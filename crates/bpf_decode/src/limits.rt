@@ -1,7 +1,8 @@
 //! The limits of a class's numbers and names.
 
 ghost use Rattle.std.specs.Prelude.{◌≡◌};
-ghost use Rattle.bpf_decode.specs.Limits.{is_method_count, is_name_length, is_name_byte, are_name_bytes, is_method_name, are_flags, capacity_limit, is_capacity, is_slot_count};
+ghost use Rattle.bpf_decode.specs.Limits.{is_method_count, is_name_length, is_name_byte, are_name_bytes};
+ghost use Rattle.bpf_decode.specs.Limits.{is_method_name, are_flags, capacity_limit, is_capacity, is_slot_count};
 ghost use Rattle.bpf_decode.specs.ImageReading.{is_above};
 
 use crate::rule_set::RuleSet;

@@ -33,7 +33,13 @@ impl Model for Method {
 
     ghost Value = { ClassMethod };
 
-    ghost view = { λ m. record { name = string_bytes m.name; flags = m.flags; in_cap = m.in_cap; out_cap = m.out_cap; instructions = m.instructions.items } };
+    ghost view = { λ m. record {
+      name = string_bytes m.name;
+      flags = m.flags;
+      in_cap = m.in_cap;
+      out_cap = m.out_cap;
+      instructions = m.instructions.items;
+    } };
 }
 
 impl Method {
@@ -46,7 +52,13 @@ impl Method {
         out_cap: u16,
         instructions: Vec<Insn>,
     ) -> Method
-        ensures { result ≡ record { name = string_bytes name; flags = flags; in_cap = in_cap; out_cap = out_cap; instructions = instructions.items } }
+        ensures { result ≡ record {
+          name = string_bytes name;
+          flags = flags;
+          in_cap = in_cap;
+          out_cap = out_cap;
+          instructions = instructions.items;
+        } }
     {
         Method {
             name,

@@ -1,8 +1,11 @@
 //! The operations that instructions name: widths, arithmetic, moves, byte orders, comparisons.
 
 ghost use Rattle.std.specs.Prelude.{◌≡◌};
-ghost use Rattle.bpf_decode.specs.Instruction.{alu_class, jump_class, operation_code, operation_offset, signed_move_bits, signed_move_offset, order_opcode, end_bits, comparison_code};
-ghost use Rattle.bpf_decode.specs.Opcodes.{operation_of, offset_selects, selected, order_of, imm_selects, end_width_of, move_selects, signed_move_of, comparison_of};
+ghost use Rattle.bpf_decode.specs.Instruction.{alu_class, jump_class, operation_code, operation_offset};
+ghost use Rattle.bpf_decode.specs.Instruction.{signed_move_bits, signed_move_offset, order_opcode, end_bits};
+ghost use Rattle.bpf_decode.specs.Instruction.{comparison_code};
+ghost use Rattle.bpf_decode.specs.Opcodes.{operation_of, offset_selects, selected, order_of, imm_selects, end_width_of};
+ghost use Rattle.bpf_decode.specs.Opcodes.{move_selects, signed_move_of, comparison_of};
 
 /// The width of an operation: all 64 bits of a register, or the low 32, and arithmetic zeroes the
 /// rest (RFC 9669 section 3.3: ALU64 and JMP, or ALU and JMP32).
@@ -82,7 +85,8 @@ impl Arithmetic {
         match self {
             Arithmetic::SignedDiv | Arithmetic::SignedMod => 1,
             Arithmetic::Div | Arithmetic::Mod => 0,
-            Arithmetic::Add | Arithmetic::Sub | Arithmetic::Mul | Arithmetic::Or | Arithmetic::And | Arithmetic::Lsh | Arithmetic::Rsh | Arithmetic::Xor | Arithmetic::Arsh => 0,
+            Arithmetic::Add | Arithmetic::Sub | Arithmetic::Mul | Arithmetic::Or | Arithmetic::And | Arithmetic::Lsh
+            | Arithmetic::Rsh | Arithmetic::Xor | Arithmetic::Arsh => 0,
         }
     }
 
@@ -115,7 +119,8 @@ impl Arithmetic {
         match self {
             Arithmetic::Div | Arithmetic::Mod => offset <= 1,
             Arithmetic::SignedDiv | Arithmetic::SignedMod => offset == 1,
-            Arithmetic::Add | Arithmetic::Sub | Arithmetic::Mul | Arithmetic::Or | Arithmetic::And | Arithmetic::Lsh | Arithmetic::Rsh | Arithmetic::Xor | Arithmetic::Arsh => offset == 0,
+            Arithmetic::Add | Arithmetic::Sub | Arithmetic::Mul | Arithmetic::Or | Arithmetic::And | Arithmetic::Lsh
+            | Arithmetic::Rsh | Arithmetic::Xor | Arithmetic::Arsh => offset == 0,
         }
     }
 
@@ -180,7 +185,10 @@ impl SignedMove {
         ensures { result ≡ signed_move_of bits offset }
     {
         match bits {
-            OpWidth::Bits64 => if offset == 8 { SignedMove::Byte64 } else if offset == 16 { SignedMove::Half64 } else { SignedMove::Word64 },
+            OpWidth::Bits64 =>
+                if offset == 8 { SignedMove::Byte64 }
+                else if offset == 16 { SignedMove::Half64 }
+                else { SignedMove::Word64 },
             OpWidth::Bits32 => if offset == 8 { SignedMove::Byte32 } else { SignedMove::Half32 },
         }
     }

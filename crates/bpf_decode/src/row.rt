@@ -1,7 +1,8 @@
 //! The table of opcodes, by which code is both read and spelled.
 
 ghost use Rattle.std.specs.Prelude.{◌≡◌, ◌<◌, ◌/◌, ◌%◌};
-ghost use Rattle.bpf_decode.specs.Table.{opcode, row_of, alu_row, branch_row, other_row, fields_allowed, high_half, instruction};
+ghost use Rattle.bpf_decode.specs.Table.{opcode, row_of, alu_row, branch_row, other_row, fields_allowed, high_half};
+ghost use Rattle.bpf_decode.specs.Table.{instruction};
 
 use crate::access::{SignedWidth, Width};
 use crate::insn::{Insn, Operand};
@@ -194,8 +195,10 @@ impl OpcodeRow {
             },
             OpcodeRow::AluImmediate(_, _) | OpcodeRow::AluRegister(_, _) | OpcodeRow::Neg(_) => Some(0),
             OpcodeRow::MovImmediate(_) | OpcodeRow::MovRegister(_) | OpcodeRow::End(_) => Some(0),
-            OpcodeRow::Load(_) | OpcodeRow::LoadSigned(_) | OpcodeRow::StoreImmediate(_) | OpcodeRow::StoreRegister(_) => Some(0),
-            OpcodeRow::Jump | OpcodeRow::JumpLong | OpcodeRow::BranchImmediate(_, _) | OpcodeRow::BranchRegister(_, _) => Some(0),
+            OpcodeRow::Load(_) | OpcodeRow::LoadSigned(_) | OpcodeRow::StoreImmediate(_)
+            | OpcodeRow::StoreRegister(_) => Some(0),
+            OpcodeRow::Jump | OpcodeRow::JumpLong | OpcodeRow::BranchImmediate(_, _)
+            | OpcodeRow::BranchRegister(_, _) => Some(0),
             OpcodeRow::Call | OpcodeRow::Exit => Some(0),
         }
     }
@@ -210,22 +213,28 @@ impl OpcodeRow {
         let offset = slot.offset.cast_signed();
         let imm = slot.imm.cast_signed();
         match self {
-            OpcodeRow::AluImmediate(bits, operation) => Insn::Alu { bits, operation: operation.selected(slot.offset), dst, source: Operand::Immediate(imm) },
-            OpcodeRow::AluRegister(bits, operation) => Insn::Alu { bits, operation: operation.selected(slot.offset), dst, source: Operand::Register(src) },
+            OpcodeRow::AluImmediate(bits, operation) =>
+                Insn::Alu { bits, operation: operation.selected(slot.offset), dst, source: Operand::Immediate(imm) },
+            OpcodeRow::AluRegister(bits, operation) =>
+                Insn::Alu { bits, operation: operation.selected(slot.offset), dst, source: Operand::Register(src) },
             OpcodeRow::Neg(bits) => Insn::Neg { bits, dst },
             OpcodeRow::MovImmediate(bits) => Insn::Mov { bits, dst, source: Operand::Immediate(imm) },
             OpcodeRow::MovRegister(bits) if slot.offset == 0 => Insn::Mov { bits, dst, source: Operand::Register(src) },
-            OpcodeRow::MovRegister(bits) => Insn::MovSigned { extension: SignedMove::selected(bits, slot.offset), dst, src },
+            OpcodeRow::MovRegister(bits) =>
+                Insn::MovSigned { extension: SignedMove::selected(bits, slot.offset), dst, src },
             OpcodeRow::End(order) => Insn::End { order, width: EndWidth::selected(slot.imm), dst },
             OpcodeRow::Wide => Insn::LoadWide { dst, value: u64::from(slot.imm) + (u64::from(high) << 32) },
             OpcodeRow::Load(width) => Insn::Load { width, dst, base: src, offset },
             OpcodeRow::LoadSigned(width) => Insn::LoadSigned { width, dst, base: src, offset },
-            OpcodeRow::StoreImmediate(width) => Insn::Store { width, base: dst, offset, source: Operand::Immediate(imm) },
+            OpcodeRow::StoreImmediate(width) =>
+                Insn::Store { width, base: dst, offset, source: Operand::Immediate(imm) },
             OpcodeRow::StoreRegister(width) => Insn::Store { width, base: dst, offset, source: Operand::Register(src) },
             OpcodeRow::Jump => Insn::Jump { offset },
             OpcodeRow::JumpLong => Insn::JumpLong { distance: imm },
-            OpcodeRow::BranchImmediate(bits, comparison) => Insn::Branch { bits, comparison, dst, source: Operand::Immediate(imm), offset },
-            OpcodeRow::BranchRegister(bits, comparison) => Insn::Branch { bits, comparison, dst, source: Operand::Register(src), offset },
+            OpcodeRow::BranchImmediate(bits, comparison) =>
+                Insn::Branch { bits, comparison, dst, source: Operand::Immediate(imm), offset },
+            OpcodeRow::BranchRegister(bits, comparison) =>
+                Insn::Branch { bits, comparison, dst, source: Operand::Register(src), offset },
             OpcodeRow::Call if slot.src == 0 => Insn::Call { helper: slot.imm },
             OpcodeRow::Call => Insn::CallLocal { distance: imm },
             OpcodeRow::Exit => Insn::Exit,

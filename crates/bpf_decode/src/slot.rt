@@ -38,7 +38,8 @@ impl Slot {
     pub(crate) fn put(self, out: &mut Vec<u8>) -> Result<(), AllocError>
         requires dst { self.dst < 16 }
         requires src { self.src < 16 }
-        ensures { OnOk result (out.new.items ≡ out.old.items ++ slot self.opcode self.dst self.src self.offset self.imm) }
+        ensures { OnOk result (out.new.items ≡ out.old.items ++
+            slot self.opcode self.dst self.src self.offset self.imm) }
     {
         let mut bytes = [self.opcode, self.dst + 16 * self.src, 0, 0, 0, 0, 0, 0];
         LittleEndian::write_u16(&mut bytes[2..4], self.offset);

@@ -1,6 +1,7 @@
 -- The slots of the typed machine's stack: eight cells each, at the places that are multiples of 8.
 -- What stands in them, and what accesses leave of it.
-use Rattle.std.specs.Prelude.{◌≡◌, ℕ, zero, suc, ◌+◌, ◌*◌, ◌^◌, ◌<◌, ◌≤◌, List, [], ◌∷◌, Option, Some, None, take, drop, length, replicate, slice_get}
+use Rattle.std.specs.Prelude.{◌≡◌, ℕ, zero, suc, ◌+◌, ◌*◌, ◌^◌, ◌<◌, ◌≤◌, List, [], ◌∷◌, Option, Some, None, take, drop}
+use Rattle.std.specs.Prelude.{length, replicate, slice_get}
 use Rattle.bpf_decode.specs.declared.value.Value.{Value}
 use Rattle.bpf_decode.specs.declared.value.Value.TheVariants.{Num, Ptr}
 use Rattle.bpf_decode.specs.declared.region.Region.{Region}
@@ -46,11 +47,13 @@ IsNumber (Some (Ptr r at)) = ⊥
 
 -- The values by slot are those of the slots.
 abbrev pub SlotsHaveValues : Type 0
-SlotsHaveValues = (count : ℕ) (cs : List Cell) (j : ℕ) → j < count → slice_get (slot_values count cs) j ≡ Some (slot_value cs j)
+SlotsHaveValues =
+    (count : ℕ) (cs : List Cell) (j : ℕ) → j < count → slice_get (slot_values count cs) j ≡ Some (slot_value cs j)
 
 -- As a method begins, each slot is the number 0.
 abbrev pub SlotsBeginAtZero : Type 0
-SlotsBeginAtZero = (count : ℕ) → IsStack count (as_cells (replicate (8 * count) 0)) × (slot_values count (as_cells (replicate (8 * count) 0)) ≡ replicate count (Some (Num 0)))
+SlotsBeginAtZero = (count : ℕ) → IsStack count (as_cells (replicate (8 * count) 0)) ×
+    (slot_values count (as_cells (replicate (8 * count) 0)) ≡ replicate count (Some (Num 0)))
 
 -- cells that are bytes alone
 pub record AreNumbers (cs : List Cell) (w : ℕ) : Type 0 where
@@ -62,7 +65,8 @@ pub record AreNumbers (cs : List Cell) (w : ℕ) : Type 0 where
 -- An access to slots that are numbers meets bytes alone.
 abbrev pub NumbersAreRead : Type 0
 NumbersAreRead =
-    (count : ℕ) (cs : List Cell) → IsStack count cs → (at w : ℕ) → at + w ≤ 8 * count → ((j : ℕ) → j < count → Touches at w j → IsNumber (slot_value cs j)) →
+    (count : ℕ) (cs : List Cell) → IsStack count cs → (at w : ℕ) → at + w ≤ 8 * count →
+    ((j : ℕ) → j < count → Touches at w j → IsNumber (slot_value cs j)) →
     AreNumbers (take w (drop at cs)) w
 
 -- what a write of w cells at a place leaves
@@ -80,7 +84,8 @@ pub record LeavesNumbers (count : ℕ) (cs : List Cell) (at : ℕ) (bytes : List
 -- That is so of each write of bytes within the stack.
 abbrev pub BytesAreWritten : Type 0
 BytesAreWritten =
-    (count : ℕ) (cs : List Cell) → IsStack count cs → (at : ℕ) (bytes : List ℕ) → at + length bytes ≤ 8 * count → AreBytes bytes →
+    (count : ℕ) (cs : List Cell) → IsStack count cs → (at : ℕ) (bytes : List ℕ) → at + length bytes ≤ 8 * count →
+    AreBytes bytes →
     LeavesNumbers count cs at bytes (over cs at (as_cells bytes))
 
 -- A place that is written over a slot stands there, and the other slots are as they were.

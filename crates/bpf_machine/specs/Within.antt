@@ -17,11 +17,14 @@ pub record IsWithinLimits (caps : Caps) (outcome : Outcome) : Type 0 where
 -- them.
 abbrev pub OutcomesAreWithinLimits : Type 0
 OutcomesAreWithinLimits =
-    (caps : Caps) (lay : Layout) (code : List ℕ) (before : PlainObject) (caller : ℕ) (input : List ℕ) (count : ℕ) (outcome : Outcome) (steps : ℕ) →
+    (caps : Caps) (lay : Layout) (code : List ℕ) (before : PlainObject) (caller : ℕ) (input : List ℕ) (count : ℕ)
+    (outcome : Outcome) (steps : ℕ) →
     AreCapacities caps → IsObject before → AreBytes input → length input ≤ caps.in_cap →
-    run caps lay code before count (entry caps lay before caller input) ≡ Ended outcome steps → IsWithinLimits caps outcome
+    run caps lay code before count (entry caps lay before caller input) ≡ Ended outcome steps →
+    IsWithinLimits caps outcome
 
 -- The outcome of every call that is within the limits.
 abbrev pub CallsAreWithinLimits : Type 0
 CallsAreWithinLimits =
-    (m : ClassMethod) → AreCapacities (caps_of m) → (object : PlainObject) (caller : ℕ) (input : List ℕ) → IsCall m object caller input → IsWithinLimits (caps_of m) (call_outcome m object caller input)
+    (m : ClassMethod) → AreCapacities (caps_of m) → (object : PlainObject) (caller : ℕ) (input : List ℕ) →
+    IsCall m object caller input → IsWithinLimits (caps_of m) (call_outcome m object caller input)

@@ -1,9 +1,14 @@
 //! Laws of the machine, for the proofs of the crates above. Each function does nothing.
 
-ghost use Rattle.bpf_machine.specs.Safe.{Simulates, EndsAlwaysIsSafe, RunsAreChains, StuckRunsAreChains, UnfinishedRunsAreChains, BytesAreInstructions, ElsewhereIsStuck, HasLayout, OutcomesAreOne};
-ghost use Rattle.bpf_machine.specs.Address.{PlacesAreAddresses, NoByteElsewhere, LoadsAreOfAddresses, SignedLoadsAreOfAddresses, StoresAreAtAddresses, RangesAreOfAddresses, RoomsAreAtAddresses, OpeningIsAtAddresses};
+ghost use Rattle.bpf_machine.specs.Safe.{Simulates, EndsAlwaysIsSafe, RunsAreChains, StuckRunsAreChains};
+ghost use Rattle.bpf_machine.specs.Safe.{UnfinishedRunsAreChains, BytesAreInstructions, ElsewhereIsStuck, HasLayout};
+ghost use Rattle.bpf_machine.specs.Safe.{OutcomesAreOne};
+ghost use Rattle.bpf_machine.specs.Address.{PlacesAreAddresses, NoByteElsewhere, LoadsAreOfAddresses};
+ghost use Rattle.bpf_machine.specs.Address.{SignedLoadsAreOfAddresses, StoresAreAtAddresses, RangesAreOfAddresses};
+ghost use Rattle.bpf_machine.specs.Address.{RoomsAreAtAddresses, OpeningIsAtAddresses};
 ghost use Rattle.bpf_machine.specs.Lists.{EndsHaveLists, ListsAreOne};
-ghost use Rattle.bpf_machine.specs.Slots.{SlotsHaveValues, SlotsBeginAtZero, NumbersAreRead, BytesAreWritten, PlacesAreWritten, NumbersAreTheirBytes};
+ghost use Rattle.bpf_machine.specs.Slots.{SlotsHaveValues, SlotsBeginAtZero, NumbersAreRead, BytesAreWritten};
+ghost use Rattle.bpf_machine.specs.Slots.{PlacesAreWritten, NumbersAreTheirBytes};
 ghost use Rattle.bpf_machine.specs.Within.{OutcomesAreWithinLimits, CallsAreWithinLimits};
 
 use helpers::{edits_lead, effects_are_within_limits};

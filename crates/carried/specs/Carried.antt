@@ -11,7 +11,8 @@ use Rattle.group_world.specs.declared.message.Packet.{Packet}
 use Rattle.group_world.specs.declared.event.Event.{Event}
 use Rattle.group_world.specs.declared.event.Event.TheVariants as event
 use Rattle.carried.specs.declared.message.CarriedKind.{CarriedKind}
-use Rattle.carried.specs.declared.message.CarriedKind.TheVariants.{Query, Log, Install, Installed, AskActivate, Activated, Rep, Ack, Reply}
+use Rattle.carried.specs.declared.message.CarriedKind.TheVariants.{Query, Log, Install, Installed, AskActivate}
+use Rattle.carried.specs.declared.message.CarriedKind.TheVariants.{Activated, Rep, Ack, Reply}
 use Rattle.carried.specs.declared.message.CarriedMessage.{CarriedMessage}
 use Rattle.carried.specs.declared.operation.Carried.{Carried}
 use Rattle.carried.specs.declared.operation.Carried.TheVariants as carried
@@ -58,7 +59,8 @@ reported_of (carried.Message m) = reported_by m.kind
 -- UNPACKING. A list has its beginning from the receiver's own log; if that is too short, it is
 -- lost.
 abbrev pub whole_list : List ClientRequest → ℕ → Packed → Option MessageKind
-whole_list local interval log = if nat_lt (length local) log.common then None else Some (sent.Log interval (spread local log))
+whole_list local interval log =
+    if nat_lt (length local) log.common then None else Some (sent.Log interval (spread local log))
 
 -- what a message says to a node with that log
 abbrev pub kind_of : List ClientRequest → CarriedKind → Option MessageKind

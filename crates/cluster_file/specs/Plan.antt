@@ -1,5 +1,6 @@
 -- What a cluster file says: its cluster, its clients' calls, its maps; or its first malformed line.
-use Rattle.std.specs.Prelude.{◌≡◌, ◌++◌, ℕ, suc, ◌&&◌, nat_le, if◌then◌else◌, List, [], ◌∷◌, Option, Some, None, Result, Ok, Err, codes}
+use Rattle.std.specs.Prelude.{◌≡◌, ◌++◌, ℕ, suc, ◌&&◌, nat_le, if◌then◌else◌, List, [], ◌∷◌, Option, Some, None, Result}
+use Rattle.std.specs.Prelude.{Ok, Err, codes}
 use Rattle.std.specs.Option.{option_map, option_and_then}
 use Rattle.std.specs.Str.{bytes_eq}
 use Rattle.file_words.specs.Words.{words, ended_lines_of, number_in, numbers_in, id_in, object_in, bytes_in, class_of}
@@ -27,7 +28,14 @@ ended numbers (word ∷ words) = None
 abbrev pub last_in : ℕ → ℕ → ℕ → List (List ℕ) → Option ClusterNumbers
 last_in nodes replicas groups words =
     option_and_then (λ shards. option_and_then (λ workers. option_and_then
-    (λ tries. ended record { nodes = nodes; replicas = replicas; groups = groups; shards = shards.0; workers = workers.0; tries = tries.0 } tries.1)
+    (λ tries. ended record {
+      nodes = nodes;
+      replicas = replicas;
+      groups = groups;
+      shards = shards.0;
+      workers = workers.0;
+      tries = tries.0;
+    } tries.1)
     (field_in (codes "tries") workers.1)) (field_in (codes "workers") shards.1)) (field_in (codes "shards") words)
 
 -- the six numbers, by their keys in this order
@@ -44,13 +52,21 @@ first_line (word ∷ words) = if bytes_eq word (codes "cluster") then numbers_in
 
 -- A CLIENT: one of those named so far, or the next one, up to the 64th.
 abbrev pub client_in : ℕ → List ℕ → Option ℕ
-client_in clients word = option_and_then (λ n. if nat_le n (suc clients) && nat_le n 64 then Some n else None) (id_in word)
+client_in clients word =
+    option_and_then (λ n. if nat_le n (suc clients) && nat_le n 64 then Some n else None) (id_in word)
 
 -- the words of a call after its client: object, class, method, input
 abbrev pub call_of : List (List ℕ) → ℕ → List (List ℕ) → Option PlannedCall
 call_of names client (object ∷ class ∷ method ∷ input ∷ []) =
     option_and_then
-    (λ o. option_map (λ bytes. record { client = client; object = o; class = class_of 0 names class; word = class; method = method; input = bytes }) (bytes_in input))
+    (λ o. option_map (λ bytes. record {
+      client = client;
+      object = o;
+      class = class_of 0 names class;
+      word = class;
+      method = method;
+      input = bytes;
+    }) (bytes_in input))
     (object_in object)
 call_of names client _ = None
 
@@ -91,7 +107,8 @@ go_on number rest (Some step) = before_steps step (rest step)
 abbrev pub steps_of : List (List ℕ) → ℕ → ℕ → List (List ℕ) → Result (List PlannedStep) ℕ
 steps_of names number clients [] = Ok []
 steps_of names number clients (line ∷ lines) =
-    go_on (suc number) (λ step. steps_of names (suc number) (clients_after clients step) lines) (step_of names (suc number) clients line)
+    go_on (suc number) (λ step. steps_of names (suc number) (clients_after clients step) lines)
+    (step_of names (suc number) clients line)
 
 -- THE FILE, if the classes have these names: its plan, or the number of its first malformed line.
 pub record FilePlan : Type 0 where
@@ -116,7 +133,8 @@ plan_of names text = plan_in names (ended_lines_of text)
 abbrev pub calls_of : ℕ → List PlannedStep → List PlannedCall
 calls_of client [] = []
 calls_of client (Map line nodes ∷ steps) = calls_of client steps
-calls_of client (Call call ∷ steps) = if nat_le call.client client && nat_le client call.client then call ∷ calls_of client steps else calls_of client steps
+calls_of client (Call call ∷ steps) = if nat_le call.client client && nat_le client call.client
+    then call ∷ calls_of client steps else calls_of client steps
 
 -- the number of clients that all steps name
 abbrev pub clients_in : ℕ → List PlannedStep → ℕ

@@ -17,4 +17,5 @@ IsReading (Err line) (APlan p) = ⊥
 -- the steps of the lines were added, and they name this number of clients; or a line is malformed
 abbrev pub StepsRead : List (List ℕ) → List (List ℕ) → List PlannedStep → List PlannedStep → Ended → Type 0
 StepsRead names lines old new (AtBad line) = steps_of names 1 0 lines ≡ Err line
-StepsRead names lines old new (All clients) = (steps : List PlannedStep) × (steps_of names 1 0 lines ≡ Ok steps) × (new ≡ old ++ steps) × (clients ≡ clients_in 0 steps)
+StepsRead names lines old new (All clients) = (steps : List PlannedStep) × (steps_of names 1 0 lines ≡ Ok steps) ×
+    (new ≡ old ++ steps) × (clients ≡ clients_in 0 steps)

@@ -22,14 +22,17 @@ digits_or_dash (digit ∷ digits) = digit ∷ digits
 -- the end of a call: ` place 0 code 0 output -`, or ` refused 7 InputTooLong`
 abbrev pub end_text : CallEnd → List ℕ
 end_text (Replied place code output) =
-    codes " place " ++ (decimal place ++ (codes " code " ++ (signed_decimal (cast_signed w64 code) ++ (codes " output " ++ (digits_or_dash (encode_lower output) ++ codes "\n")))))
+    codes " place " ++
+    (decimal place ++ (codes " code " ++ (signed_decimal (cast_signed w64 code) ++
+    (codes " output " ++ (digits_or_dash (encode_lower output) ++ codes "\n")))))
 end_text (Refused reason) = codes " refused " ++ (reason ++ codes "\n")
 
 -- the request of a call, if it is shown: the group of the object, and the request in the words of
 -- the file, ` group 12 request a lock lock -`; bytes other than printable ASCII are escaped
 abbrev pub asked_text : ℕ → PlannedCall → List ℕ
 asked_text groups call =
-    codes " group " ++ (decimal (group_of call.object groups) ++ (codes " request " ++ (escaped call.object ++ (codes " " ++ (escaped call.word
+    codes " group " ++ (decimal (group_of call.object groups) ++
+    (codes " request " ++ (escaped call.object ++ (codes " " ++ (escaped call.word
     ++ (codes " " ++ (escaped call.method ++ (codes " " ++ digits_or_dash (encode_lower call.input)))))))))
 
 -- nothing if it isn't shown
@@ -50,12 +53,14 @@ call_line groups client number call end = head_text client number ++ (asked_if g
 abbrev pub call_lines : Option ℕ → ℕ → ℕ → List PlannedCall → List CallEnd → List ℕ
 call_lines groups client number [] ends = []
 call_lines groups client number (call ∷ calls) [] = []
-call_lines groups client number (call ∷ calls) (end ∷ ends) = call_line groups client number call end ++ call_lines groups client (suc number) calls ends
+call_lines groups client number (call ∷ calls) (end ∷ ends) =
+    call_line groups client number call end ++ call_lines groups client (suc number) calls ends
 
 -- ALL LINES of these steps: client by client from the given one on, each client's calls from 0 on.
 abbrev pub all_lines : Option ℕ → List PlannedStep → ℕ → List (List CallEnd) → List ℕ
 all_lines groups steps client [] = []
-all_lines groups steps client (ends ∷ others) = call_lines groups client 0 (calls_of client steps) ends ++ all_lines groups steps (suc client) others
+all_lines groups steps client (ends ∷ others) =
+    call_lines groups client 0 (calls_of client steps) ends ++ all_lines groups steps (suc client) others
 
 -- The text of a malformed line and of a refused one, each printed alone: `line 3: bad`,
 -- `line 3: refused 1 NoneUp`.

@@ -84,7 +84,8 @@ fn read_steps(
     lines: &[&str],
     steps: &mut Vec<PlannedStep>,
 ) -> Result<Ended, AllocError>
-    ensures { IfOk result (λ e. StepsRead (map (λ n. n.now) names.now) (map (λ l. l.now) lines.now) steps.old.items steps.new.items e) }
+    ensures { IfOk result
+        (λ e. StepsRead (map (λ n. n.now) names.now) (map (λ l. l.now) lines.now) steps.old.items steps.new.items e) }
 {
     let mut clients = 0;
     // The first line is read already, so these begin with line 2.

@@ -22,7 +22,14 @@ impl Model for PlannedCall {
 
     ghost Value = { PlannedCall };
 
-    ghost view = { λ c. record { client = c.client; object = c.object; class = c.class; word = string_bytes c.word; method = string_bytes c.method; input = c.input.items } };
+    ghost view = { λ c. record {
+      client = c.client;
+      object = c.object;
+      class = c.class;
+      word = string_bytes c.word;
+      method = string_bytes c.method;
+      input = c.input.items;
+    } };
 }
 
 impl PlannedCall {

@@ -4,7 +4,8 @@ ghost use Rattle.std.specs.Prelude.{◌≡◌, ◌++◌, IfOk, IfSome, IsTrue, O
 ghost use Rattle.std.specs.Int.{w64, cast_unsigned};
 ghost use Rattle.placement.specs.Placement.{is_group_count};
 ghost use Rattle.escaped_text.specs.Escaped.{escaped};
-ghost use Rattle.cluster_file.specs.Text.{Replied, Refused, asked_text, bad_line, digits_or_dash, end_text, head_text, refused_line};
+ghost use Rattle.cluster_file.specs.Text.{Replied, Refused, asked_text, bad_line, digits_or_dash, end_text, head_text};
+ghost use Rattle.cluster_file.specs.Text.{refused_line};
 
 use crate::planned_call::PlannedCall;
 use escaped_text::push_escaped;
@@ -82,7 +83,8 @@ pub fn push_replied(
     code: i64,
     output: &[u8],
 ) -> Result<(), AllocError>
-    ensures { OnOk result (string_bytes text.new ≡ string_bytes text.old ++ end_text (Replied place (cast_unsigned w64 code) output.now)) }
+    ensures { OnOk result (string_bytes text.new ≡ string_bytes text.old ++
+        end_text (Replied place (cast_unsigned w64 code) output.now)) }
 {
     let digits = hex::encode(alloc, output)?;
     let shown = or_dash(&digits);
@@ -96,7 +98,8 @@ pub fn push_refused<E: Display + Drop>(
     text: &mut String,
     why: E,
 ) -> Result<(), AllocError>
-    ensures { OnOk result (IfSome (E.output why) (λ reason. string_bytes text.new ≡ string_bytes text.old ++ end_text (Refused reason))) }
+    ensures { OnOk result (IfSome (E.output why)
+        (λ reason. string_bytes text.new ≡ string_bytes text.old ++ end_text (Refused reason))) }
 {
     let line = format!(in alloc; " refused {why}\n")?;
     text.push_str(&line)

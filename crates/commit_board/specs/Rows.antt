@@ -10,7 +10,8 @@ use Rattle.commit_board.specs.Lists.{list_at, put_at, merged}
 
 -- a seat's view by its parts
 abbrev pub view_of : ℕ → ℕ → List ClientRequest → List (List ClientRequest) → List (List ClientRequest) → View
-view_of first end written known received = record { first = first; end = end; written = written; known = known; received = received }
+view_of first end written known received =
+    record { first = first; end = end; written = written; known = known; received = received }
 
 -- the seat of the writer of these rows, each of which has this list
 abbrev pub writes : ℕ → ℕ → List ClientRequest → View
@@ -51,19 +52,22 @@ Adds request s v n w = w ≡ (writes v.0.first v.0.end (v.0.written ++ request �
 
 -- The row's list was seen: its length is the number that was loaded.
 abbrev pub Looks : Step ℕ → Me ℕ View → ℕ → Me ℕ View → Type 0
-Looks s v n w = (l : List ClientRequest) × (length l ≡ n) × IsPrefix (list_at v.0.known s.word) l × (w ≡ (sees (put_at v.0.known s.word l) v.0.received, v.1))
+Looks s v n w = (l : List ClientRequest) × (length l ≡ n) × IsPrefix (list_at v.0.known s.word) l ×
+    (w ≡ (sees (put_at v.0.known s.word l) v.0.received, v.1))
 
 -- Of each row the longer of the known and the received list is known, and both are beginnings of
 -- it.
 abbrev pub Merges : Step ℕ → Me ℕ View → ℕ → Me ℕ View → Type 0
 Merges s v n w =
-    ((i : ℕ) → IsPrefix (list_at v.0.known i) (list_at w.0.known i) × IsPrefix (list_at v.0.received i) (list_at w.0.known i)
+    ((i : ℕ) → IsPrefix (list_at v.0.known i) (list_at w.0.known i) ×
+    IsPrefix (list_at v.0.received i) (list_at w.0.known i)
     × ((list_at w.0.known i ≡ list_at v.0.known i) ⊎ (list_at w.0.known i ≡ list_at v.0.received i)))
     × (w ≡ (sees (merged v.0.known v.0.received) [], v.1))
 
 -- The list that the writer received for its own row is a beginning of its list.
 abbrev pub Compares : Step ℕ → Me ℕ View → ℕ → Me ℕ View → Type 0
-Compares s v n w = IsPrefix (list_at v.0.received s.word) v.0.written × (w ≡ (writes v.0.first v.0.end v.0.written, v.1))
+Compares s v n w =
+    IsPrefix (list_at v.0.received s.word) v.0.written × (w ≡ (writes v.0.first v.0.end v.0.written, v.1))
 
 -- all own rows but the first, and below it the first alone: a seat of all rows is split row by row
 abbrev pub other_rows : View → View

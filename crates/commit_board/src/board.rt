@@ -37,7 +37,8 @@ impl Model for Board {
 
     ghost view = { λ b. b.table.shared.table_id };
 
-    ghost invariant = { λ b. (b.table.shared.key ≡ b.table.shared.table_id.words) × (0 < b.table.shared.table_id.words) };
+    ghost invariant = { λ b. (b.table.shared.key ≡ b.table.shared.table_id.words) ×
+        (0 < b.table.shared.table_id.words) };
 }
 
 impl Board {
@@ -140,7 +141,8 @@ impl Board {
         ensures board { seen.new.board ≡ seen.old.board }
         ensures known { (i : ℕ) → IsPrefix (list_at seen.old.lists i) (list_at seen.new.lists i) }
         ensures received { (i : ℕ) → IsPrefix (list_at note.lists i) (list_at seen.new.lists i) }
-        ensures either { (i : ℕ) → (list_at seen.new.lists i ≡ list_at seen.old.lists i) ⊎ (list_at seen.new.lists i ≡ list_at note.lists i) }
+        ensures either { (i : ℕ) → (list_at seen.new.lists i ≡ list_at seen.old.lists i) ⊎
+            (list_at seen.new.lists i ≡ list_at note.lists i) }
     {
         self.take_in(seen, note);
     }
@@ -151,7 +153,8 @@ impl Board {
         ensures board { seen.new.board ≡ seen.old.board }
         ensures known { (i : ℕ) → IsPrefix (list_at seen.old.lists i) (list_at seen.new.lists i) }
         ensures received { (i : ℕ) → IsPrefix (list_at note.lists i) (list_at seen.new.lists i) }
-        ensures either { (i : ℕ) → (list_at seen.new.lists i ≡ list_at seen.old.lists i) ⊎ (list_at seen.new.lists i ≡ list_at note.lists i) }
+        ensures either { (i : ℕ) → (list_at seen.new.lists i ≡ list_at seen.old.lists i) ⊎
+            (list_at seen.new.lists i ≡ list_at note.lists i) }
     {
         let Note { seat } = note;
         self.table.shared.join_seat::<Inform>(&mut seen.seat, seat);

@@ -1,6 +1,7 @@
 //! The steps at a board: the change that each one makes, and how tokens hand on their knowledge.
 
-ghost use Rattle.commit_board.specs.Rows.{Adds, Looks, Merges, Compares, other_rows, one_row, shared, received_of, new_reader, informed, sees};
+ghost use Rattle.commit_board.specs.Rows.{Adds, Looks, Merges, Compares, other_rows, one_row, shared, received_of};
+ghost use Rattle.commit_board.specs.Rows.{new_reader, informed, sees};
 
 use crate::view::View;
 use atomic_table::{Join, Play, Split};

@@ -28,7 +28,8 @@ impl Model for Writer {
 
     ghost view = { λ w. writer_of w.seat.table_id w.row w.seat.me.0.written };
 
-    ghost invariant = { λ w. (w.row < w.seat.table_id.words) × (w.seat.me ≡ (writes w.row (suc w.row) w.seat.me.0.written, [])) };
+    ghost invariant = { λ w. (w.row < w.seat.table_id.words) ×
+        (w.seat.me ≡ (writes w.row (suc w.row) w.seat.me.0.written, [])) };
 }
 
 impl Writer {

@@ -1,5 +1,6 @@
 -- The lines of a text, the words of a line, and what a word spells.
-use Rattle.std.specs.Prelude.{ℕ, suc, ◌-◌, ◌^◌, ◌==◌, ◌&&◌, nat_le, nat_lt, not, min, Bool, List, [], ◌∷◌, length, slice_index_or, take, Option, Some, None, if◌then◌else◌, codes}
+use Rattle.std.specs.Prelude.{ℕ, suc, ◌-◌, ◌^◌, ◌==◌, ◌&&◌, nat_le, nat_lt, not, min, Bool, List, [], ◌∷◌, length}
+use Rattle.std.specs.Prelude.{slice_index_or, take, Option, Some, None, if◌then◌else◌, codes}
 use Rattle.std.specs.List.{slice_split, flat_map, filter}
 use Rattle.std.specs.Option.{option_and_then}
 use Rattle.std.specs.Result.{result_ok}

@@ -58,7 +58,8 @@ fn at_spaces(alloc: Global, text: &str) -> Result<Vec<&str>, AllocError>
 
 /// Adds the pieces that aren't empty.
 fn push_words<'a>(words: &mut Vec<&'a str>, pieces: &[&'a str]) -> Result<(), AllocError>
-    ensures { OnOk result (map (λ w. w.now) words.new.items ≡ map (λ w. w.now) words.old.items ++ filter (λ w. not (length w == 0)) (map (λ w. w.now) pieces.now)) }
+    ensures { OnOk result (map (λ w. w.now) words.new.items ≡ map (λ w. w.now) words.old.items ++
+        filter (λ w. not (length w == 0)) (map (λ w. w.now) pieces.now)) }
 {
     for piece in pieces {
         if !piece.is_empty() {

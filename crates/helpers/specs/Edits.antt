@@ -5,7 +5,9 @@ use Rattle.object_store.specs.Object.{PlainObject}
 use Rattle.txn.specs.Edits as edit
 use Rattle.txn.specs.Edits.{Edit, created, creating, write_edits, all_edited}
 use Rattle.helpers.specs.declared.helper.Helper.{Helper}
-use Rattle.helpers.specs.declared.helper.Helper.TheVariants.{Stat, Read, Write, Truncate, Remove, GetXattr, SetXattr, RmXattr, MapGet, MapSet, MapRm, MapNext, OutLen, Create, Caller, Compare, Copy, XattrNext}
+use Rattle.helpers.specs.declared.helper.Helper.TheVariants.{Stat, Read, Write, Truncate, Remove, GetXattr, SetXattr}
+use Rattle.helpers.specs.declared.helper.Helper.TheVariants.{RmXattr, MapGet, MapSet, MapRm, MapNext, OutLen, Create}
+use Rattle.helpers.specs.declared.helper.Helper.TheVariants.{Caller, Compare, Copy, XattrNext}
 use Rattle.helpers.specs.Effect.{Given, number, text}
 use Rattle.helpers.specs.Table.{row, helper_of, effect}
 

@@ -1,5 +1,6 @@
 -- What a helper is given, and what it does.
-use Rattle.std.specs.Prelude.{ℕ, ◌-◌, ◌^◌, ◌&&◌, Bool, List, [], Option, Some, None, not, nat_lt, slice_get, slice_index, length, unwrap_or}
+use Rattle.std.specs.Prelude.{ℕ, ◌-◌, ◌^◌, ◌&&◌, Bool, List, [], Option, Some, None, not, nat_lt, slice_get}
+use Rattle.std.specs.Prelude.{slice_index, length, unwrap_or}
 use Rattle.std.specs.FinMap as fin
 use Rattle.object_store.specs.Object.{Attributes, Content, PlainObject}
 use Rattle.helpers.specs.declared.errno.TheConstants.{ENOENT}

@@ -15,4 +15,5 @@ pub record IsWithinLimits (room : ℕ) (e : Effect) : Type 0 where
 -- given is bytes.
 abbrev pub EffectsAreWithinLimits : Type 0
 EffectsAreWithinLimits =
-    (id : ℕ) (object : PlainObject) (g : Given) → IsObject object → AllByRecursion AreBytes g.texts → IsWithinLimits g.room (effect id object g)
+    (id : ℕ) (object : PlainObject) (g : Given) → IsObject object → AllByRecursion AreBytes g.texts →
+    IsWithinLimits g.room (effect id object g)

@@ -5,7 +5,9 @@ use Rattle.object_store.specs.Object.{PlainObject, IsObject}
 use Rattle.object_store.specs.declared.limits.TheConstants.{NAME_LIMIT}
 use Rattle.helpers.specs.declared.errno.TheConstants.{ENOENT, EEXIST, EFBIG, ENOSPC, ERANGE, ENODATA}
 use Rattle.helpers.specs.declared.helper.Helper.{Helper}
-use Rattle.helpers.specs.declared.helper.Helper.TheVariants.{Stat, Read, Write, Truncate, Remove, GetXattr, SetXattr, RmXattr, MapGet, MapSet, MapRm, MapNext, OutLen, Create, Caller, Compare, Copy, XattrNext}
+use Rattle.helpers.specs.declared.helper.Helper.TheVariants.{Stat, Read, Write, Truncate, Remove, GetXattr, SetXattr}
+use Rattle.helpers.specs.declared.helper.Helper.TheVariants.{RmXattr, MapGet, MapSet, MapRm, MapNext, OutLen, Create}
+use Rattle.helpers.specs.declared.helper.Helper.TheVariants.{Caller, Compare, Copy, XattrNext}
 use Rattle.helpers.specs.declared.answer_ranges.AnswerLimit.{AnswerLimit}
 use Rattle.helpers.specs.declared.answer_ranges.AnswerLimit.TheVariants.{Number, Room, RoomOrNumber, Text}
 use Rattle.helpers.specs.declared.answer_ranges.AnswerRange.{AnswerRange}
@@ -64,4 +66,5 @@ pub record IsInRange (g : Given) (r : AnswerRange) (answer : ℕ) : Type 0 where
 -- writable range is a number of 64 bits.
 abbrev pub AnswersAreInRange : Type 0
 AnswersAreInRange =
-    (id : ℕ) (r : AnswerRange) (object : PlainObject) (g : Given) → answer_range_of id ≡ Some r → IsObject object → g.room < 2 ^ 64 → IsInRange g r (effect id object g).answer
+    (id : ℕ) (r : AnswerRange) (object : PlainObject) (g : Given) → answer_range_of id ≡ Some r → IsObject object →
+    g.room < 2 ^ 64 → IsInRange g r (effect id object g).answer

@@ -2,7 +2,8 @@
 use Rattle.std.specs.Prelude.{◌≡◌, ℕ, ◌-◌, ◌^◌, List, Some, Result, Ok, Err}
 use Rattle.object_store.specs.Object.{Content, PlainObject}
 use Rattle.object_store.specs.declared.store_error.StoreError.{StoreError}
-use Rattle.object_store.specs.declared.store_error.StoreError.TheVariants.{Absent, Exists, NoAttr, TooBig, TooMany, Range, NoMemory}
+use Rattle.object_store.specs.declared.store_error.StoreError.TheVariants.{Absent, Exists, NoAttr, TooBig, TooMany}
+use Rattle.object_store.specs.declared.store_error.StoreError.TheVariants.{Range, NoMemory}
 use Rattle.helpers.specs.declared.errno.TheConstants.{ENOENT, ENOMEM, EEXIST, EINVAL, EFBIG, ENOSPC, ENODATA}
 use Rattle.helpers.specs.Effect.{Answer, refuses, Effect, refused, changes}
 use Rattle.helpers.specs.Table.{copy_answer}

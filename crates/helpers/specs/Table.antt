@@ -1,6 +1,7 @@
 -- The helpers, one row each: what it takes and what it does. If a row names several conditions
 -- they are tried in the order in which they stand. Numbers are whole numbers: nothing wraps.
-use Rattle.std.specs.Prelude.{ℕ, ◌+◌, ◌-◌, ◌^◌, ◌==◌, List, [], ◌∷◌, Option, Some, None, true, false, if◌then◌else◌, not, nat_lt, length}
+use Rattle.std.specs.Prelude.{ℕ, ◌+◌, ◌-◌, ◌^◌, ◌==◌, List, [], ◌∷◌, Option, Some, None, true, false, if◌then◌else◌}
+use Rattle.std.specs.Prelude.{not, nat_lt, length}
 use Rattle.std.specs.Option.{option_map}
 use Rattle.std.specs.FinMap as fin
 use Rattle.std.specs.Ordering.{nat_cmp}
@@ -13,10 +14,13 @@ use Rattle.object_store.specs.declared.limits.TheConstants.{DATA_LIMIT, NAME_LIM
 use Rattle.object_store.specs.Calls.{is_named}
 use Rattle.helpers.specs.declared.errno.TheConstants.{EEXIST, EINVAL, EFBIG, ENOSPC, ERANGE, ENODATA}
 use Rattle.helpers.specs.declared.helper.Helper.{Helper}
-use Rattle.helpers.specs.declared.helper.Helper.TheVariants.{Stat, Read, Write, Truncate, Remove, GetXattr, SetXattr, RmXattr, MapGet, MapSet, MapRm, MapNext, OutLen, Create, Caller, Compare, Copy, XattrNext}
+use Rattle.helpers.specs.declared.helper.Helper.TheVariants.{Stat, Read, Write, Truncate, Remove, GetXattr, SetXattr}
+use Rattle.helpers.specs.declared.helper.Helper.TheVariants.{RmXattr, MapGet, MapSet, MapRm, MapNext, OutLen, Create}
+use Rattle.helpers.specs.declared.helper.Helper.TheVariants.{Caller, Compare, Copy, XattrNext}
 use Rattle.helpers.specs.declared.argument.Argument.{Argument}
 use Rattle.helpers.specs.declared.argument.Argument.TheVariants.{Number, OutputLength, Readable, Writable}
-use Rattle.helpers.specs.Effect.{Takes, Given, number, text, Answer, gives, refuses, copies, where_present, Effect, leaves, refused, changes, on_present, is_full}
+use Rattle.helpers.specs.Effect.{Takes, Given, number, text, Answer, gives, refuses, copies, where_present, Effect}
+use Rattle.helpers.specs.Effect.{leaves, refused, changes, on_present, is_full}
 
 -- stat: the length of the data
 abbrev pub stat_answer : PlainObject → Answer
@@ -163,7 +167,8 @@ row Create = writes (Number ∷ []) (λ object g. create_effect object (number g
 row Caller = reads [] (λ object g. leaves object (gives g.caller))
 row Compare = reads (Readable ∷ Readable ∷ []) (λ object g. leaves object (compare_answer (text g 0) (text g 1)))
 row Copy = reads (Writable ∷ Readable ∷ []) (λ object g. leaves object (copy_answer (text g 0) g.room))
-row XattrNext = reads (Readable ∷ Writable ∷ []) (λ object g. leaves object (xattr_next_answer object (text g 0) g.room))
+row XattrNext =
+    reads (Readable ∷ Writable ∷ []) (λ object g. leaves object (xattr_next_answer object (text g 0) g.room))
 
 -- the helpers by id
 abbrev pub helper_of : ℕ → Option Helper

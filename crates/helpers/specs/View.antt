@@ -1,5 +1,6 @@
 -- What the code's signatures, answers and ranges are to the table.
-use Rattle.std.specs.Prelude.{◌≡◌, ℕ, ◌+◌, ◌==◌, ◌≤◌, ◌++◌, List, [], Option, Some, None, if◌then◌else◌, take, drop, length}
+use Rattle.std.specs.Prelude.{◌≡◌, ℕ, ◌+◌, ◌==◌, ◌≤◌, ◌++◌, List, [], Option, Some, None, if◌then◌else◌, take, drop}
+use Rattle.std.specs.Prelude.{length}
 use Rattle.object_store.specs.Object.{part}
 use Rattle.helpers.specs.declared.argument.Signature as code
 use Rattle.helpers.specs.declared.span.Span.{Span}

@@ -1,9 +1,11 @@
 //! The helpers that change the object.
 
 ghost use Rattle.std.specs.Prelude.{◌≡◌, ◌∷◌, [], IfOk, OnErr};
-ghost use Rattle.txn.specs.Edits.{Remove, SetXattr, RemoveXattr, SetKey, RemoveKey, SetLength, created, creating, write_edits, noted};
+ghost use Rattle.txn.specs.Edits.{Remove, SetXattr, RemoveXattr, SetKey, RemoveKey, SetLength, created, creating};
+ghost use Rattle.txn.specs.Edits.{write_edits, noted};
 ghost use Rattle.helpers.specs.Edits.{if_done};
-ghost use Rattle.helpers.specs.Table.{write_effect, truncate_effect, remove_effect, setxattr_effect, rmxattr_effect, map_set_effect, map_rm_effect, create_effect};
+ghost use Rattle.helpers.specs.Table.{write_effect, truncate_effect, remove_effect, setxattr_effect, rmxattr_effect};
+ghost use Rattle.helpers.specs.Table.{map_set_effect, map_rm_effect, create_effect};
 
 use crate::answer::{answered, negative};
 use crate::errno::{EEXIST, ENOENT};
@@ -16,7 +18,8 @@ use txn::{NoMemory, Staged};
 pub fn write(alloc: Global, staged: &mut Staged, at: u64, bytes: &[u8]) -> Result<u64, NoMemory>
     ensures answer { IfOk result (λ n. n ≡ (write_effect staged.old.after at bytes.now).answer) }
     ensures object { IfOk result (λ _. staged.new.after ≡ (write_effect staged.old.after at bytes.now).object) }
-    ensures list { IfOk result (λ n. staged.new.list ≡ noted (if_done n (write_edits staged.old.after at bytes.now)) staged.old.list) }
+    ensures list { IfOk result (λ n. staged.new.list ≡
+        noted (if_done n (write_edits staged.old.after at bytes.now)) staged.old.list) }
     ensures before { staged.new.before ≡ staged.old.before }
     ensures refused { OnErr result (staged.new ≡ staged.old) }
 {
@@ -61,8 +64,10 @@ pub fn setxattr(
     value: &[u8],
 ) -> Result<u64, NoMemory>
     ensures answer { IfOk result (λ n. n ≡ (setxattr_effect staged.old.after name.now value.now).answer) }
-    ensures object { IfOk result (λ _. staged.new.after ≡ (setxattr_effect staged.old.after name.now value.now).object) }
-    ensures list { IfOk result (λ n. staged.new.list ≡ noted (if_done n (creating staged.old.after (SetXattr name.now value.now))) staged.old.list) }
+    ensures object { IfOk result (λ _. staged.new.after ≡
+        (setxattr_effect staged.old.after name.now value.now).object) }
+    ensures list { IfOk result (λ n. staged.new.list ≡
+        noted (if_done n (creating staged.old.after (SetXattr name.now value.now))) staged.old.list) }
     ensures before { staged.new.before ≡ staged.old.before }
     ensures refused { OnErr result (staged.new ≡ staged.old) }
 {
@@ -90,7 +95,8 @@ pub fn map_set(
 ) -> Result<u64, NoMemory>
     ensures answer { IfOk result (λ n. n ≡ (map_set_effect staged.old.after key.now value.now).answer) }
     ensures object { IfOk result (λ _. staged.new.after ≡ (map_set_effect staged.old.after key.now value.now).object) }
-    ensures list { IfOk result (λ n. staged.new.list ≡ noted (if_done n (creating staged.old.after (SetKey key.now value.now))) staged.old.list) }
+    ensures list { IfOk result (λ n. staged.new.list ≡
+        noted (if_done n (creating staged.old.after (SetKey key.now value.now))) staged.old.list) }
     ensures before { staged.new.before ≡ staged.old.before }
     ensures refused { OnErr result (staged.new ≡ staged.old) }
 {

@@ -1,6 +1,7 @@
 //! The laws of the table, for the proofs of the crates above, and the numbers of the errors.
 ghost use Rattle.std.specs.Prelude.{◌≡◌};
-ghost use Rattle.helpers.specs.declared.errno.TheConstants.{ENOENT, EIO, ENOMEM, EBUSY, EEXIST, EINVAL, EFBIG, ENOSPC, ERANGE, ENODATA};
+ghost use Rattle.helpers.specs.declared.errno.TheConstants.{ENOENT, EIO, ENOMEM, EBUSY, EEXIST, EINVAL, EFBIG, ENOSPC};
+ghost use Rattle.helpers.specs.declared.errno.TheConstants.{ERANGE, ENODATA};
 ghost use Rattle.helpers.specs.Edits.{EditsLead};
 ghost use Rattle.helpers.specs.Laws.{EffectsAreWithinLimits};
 ghost use Rattle.helpers.specs.Ranges.{AnswersAreInRange};

@@ -2,7 +2,8 @@
 
 ghost use Rattle.std.specs.Prelude.{◌≡◌, ◌+◌, ◌≤◌, length};
 ghost use Rattle.object_store.specs.Object.{part};
-ghost use Rattle.helpers.specs.Table.{read_answer, getxattr_answer, map_get_answer, map_next_answer, compare_answer, copy_answer, xattr_next_answer};
+ghost use Rattle.helpers.specs.Table.{read_answer, getxattr_answer, map_get_answer, map_next_answer, compare_answer};
+ghost use Rattle.helpers.specs.Table.{copy_answer, xattr_next_answer};
 ghost use Rattle.helpers.specs.View.{IsWithin, bytes_in, filled, written};
 
 use crate::answer::negative;
@@ -77,7 +78,8 @@ pub fn getxattr(staged: &Staged, memory: &mut [u8], name: Span, value: Span) -> 
     requires name { IsWithin memory.old name }
     requires value { IsWithin memory.old value }
     ensures answer { result ≡ (getxattr_answer staged.entry.now.after (bytes_in memory.old name) value.len).number }
-    ensures bytes { memory.new ≡ filled memory.old value (getxattr_answer staged.entry.now.after (bytes_in memory.old name) value.len).bytes }
+    ensures bytes { memory.new ≡ filled memory.old value
+        (getxattr_answer staged.entry.now.after (bytes_in memory.old name) value.len).bytes }
 {
     let answer = xattr_value(staged, bytes_in(memory, name), value.len);
     fill(memory, value, answer.bytes);
@@ -89,7 +91,8 @@ pub fn map_get(staged: &Staged, memory: &mut [u8], key: Span, value: Span) -> u6
     requires key { IsWithin memory.old key }
     requires value { IsWithin memory.old value }
     ensures answer { result ≡ (map_get_answer staged.entry.now.after (bytes_in memory.old key) value.len).number }
-    ensures bytes { memory.new ≡ filled memory.old value (map_get_answer staged.entry.now.after (bytes_in memory.old key) value.len).bytes }
+    ensures bytes { memory.new ≡ filled memory.old value
+        (map_get_answer staged.entry.now.after (bytes_in memory.old key) value.len).bytes }
 {
     let answer = map_value(staged, bytes_in(memory, key), value.len);
     fill(memory, value, answer.bytes);
@@ -104,7 +107,8 @@ pub fn map_next(staged: &Staged, memory: &mut [u8], key: Span, next: Span) -> u6
     requires key { IsWithin memory.old key }
     requires next { IsWithin memory.old next }
     ensures answer { result ≡ (map_next_answer staged.entry.now.after (bytes_in memory.old key) next.len).number }
-    ensures bytes { memory.new ≡ filled memory.old next (map_next_answer staged.entry.now.after (bytes_in memory.old key) next.len).bytes }
+    ensures bytes { memory.new ≡ filled memory.old next
+        (map_next_answer staged.entry.now.after (bytes_in memory.old key) next.len).bytes }
 {
     let answer = key_above(staged, bytes_in(memory, key), next.len);
     fill(memory, next, answer.bytes);
@@ -161,7 +165,8 @@ pub fn xattr_next(staged: &Staged, memory: &mut [u8], name: Span, next: Span) ->
     requires name { IsWithin memory.old name }
     requires next { IsWithin memory.old next }
     ensures answer { result ≡ (xattr_next_answer staged.entry.now.after (bytes_in memory.old name) next.len).number }
-    ensures bytes { memory.new ≡ filled memory.old next (xattr_next_answer staged.entry.now.after (bytes_in memory.old name) next.len).bytes }
+    ensures bytes { memory.new ≡ filled memory.old next
+        (xattr_next_answer staged.entry.now.after (bytes_in memory.old name) next.len).bytes }
 {
     let answer = xattr_above(staged, bytes_in(memory, name), next.len);
     fill(memory, next, answer.bytes);

@@ -27,8 +27,12 @@ pub fn answer(
     steps: usize,
 ) -> Result<Listed, CallError>
     requires { (s : State ℕ) × Agrees run.caps (option_copied given) run memory.now s }
-    ensures outcome { IfOk result (λ o. (s : State ℕ) → Agrees run.entry.caps (option_copied given.entry) run.entry memory.now s → outcome_of (option_copied given.entry) code s ≡ outcome_of_answer o.outcome) }
-    ensures edits { IfOk result (λ o. (s : State ℕ) → Agrees run.entry.caps (option_copied given.entry) run.entry memory.now s → o.edits.items ≡ spelled (list_of code s)) }
+    ensures outcome { IfOk result (λ o. (s : State ℕ) →
+        Agrees run.entry.caps (option_copied given.entry) run.entry memory.now s →
+        outcome_of (option_copied given.entry) code s ≡ outcome_of_answer o.outcome) }
+    ensures edits { IfOk result (λ o. (s : State ℕ) →
+        Agrees run.entry.caps (option_copied given.entry) run.entry memory.now s →
+        o.edits.items ≡ spelled (list_of code s)) }
     ensures steps { IfOk result (λ o. o.outcome.steps ≡ steps) }
     ensures before { IfOk result (λ o. o.outcome.change.before ≡ option_copied given.entry) }
     ensures failed { IfOk result (λ o. o.outcome.code <ℤ pos 0 → o.outcome.change.after ≡ option_copied given.entry) }

@@ -25,7 +25,8 @@ fn answer(
     memory: &mut [u8],
 ) -> Result<u64, NoMemory>
     requires { CanAsk registers.now memory.old (row helper).takes.arguments 1 }
-    ensures { IfOk result (λ n. HasAnswered helper caller registers.now memory.old staged.old out_len.old memory.new staged.new out_len.new n) }
+    ensures { IfOk result (λ n.
+        HasAnswered helper caller registers.now memory.old staged.old out_len.old memory.new staged.new out_len.new n) }
 {
     let number = registers.number();
     let first = registers.span(1);
@@ -67,8 +68,10 @@ fn answer(
 /// machine leaves registers 1 to 5 unset.
 #[inline(never)]
 pub fn ask(alloc: Global, run: &mut Run, memory: &mut [u8], id: u32) -> Result<(), NoMemory>
-    requires { CanDo run.old.caps run.old.staged.before run.old memory.old (help run.old.caps (first_layout run.old.caps) id) }
-    ensures { IfOk result (λ _. Does run.old.caps run.old.staged.before run.old memory.old run.new memory.new (help run.old.caps (first_layout run.old.caps) id)) }
+    requires { CanDo run.old.caps run.old.staged.before run.old memory.old
+        (help run.old.caps (first_layout run.old.caps) id) }
+    ensures { IfOk result (λ _. Does run.old.caps run.old.staged.before run.old memory.old run.new memory.new
+        (help run.old.caps (first_layout run.old.caps) id)) }
 {
     match Helper::of(id) {
         Some(helper) => {

@@ -1,5 +1,6 @@
 -- The maps of a cluster: a monitor for each group.
-use Rattle.std.specs.Prelude.{◌≡◌, ℕ, suc, ◌+◌, ◌≤◌, length, slice_get, ◌-◌, ◌^◌, List, [], ◌∷◌, take, map, replicate, Bool, true, not, ◌&&◌, ◌==◌, nat_lt, nat_le, if◌then◌else◌, Option, Some, None}
+use Rattle.std.specs.Prelude.{◌≡◌, ℕ, suc, ◌+◌, ◌≤◌, length, slice_get, ◌-◌, ◌^◌, List, [], ◌∷◌, take, map, replicate}
+use Rattle.std.specs.Prelude.{Bool, true, not, ◌&&◌, ◌==◌, nat_lt, nat_le, if◌then◌else◌, Option, Some, None}
 use Rattle.placement.specs.Placement.{ranked, are_nodes, is_group_count}
 use Rattle.group_world.specs.Maps.{GroupMap}
 use Rattle.group_world.specs.Monitor.{MonitorState, no_maps, next_map, with_map}
@@ -58,7 +59,8 @@ acting_list replicas up group = take replicas (ranked group up)
 -- the monitors of the groups from a number on, each after one more map
 abbrev pub moved_from : ℕ → ℕ → List ℕ → List MonitorState → List MonitorState
 moved_from group replicas up [] = []
-moved_from group replicas up (m ∷ ms) = with_map m (acting_list replicas up group) ∷ moved_from (group + 1) replicas up ms
+moved_from group replicas up (m ∷ ms) =
+    with_map m (acting_list replicas up group) ∷ moved_from (group + 1) replicas up ms
 
 -- a map, and whether it begins an interval
 abbrev pub new_after : GroupMap → GroupMap → NewMap
@@ -67,7 +69,8 @@ new_after before next = record { map = next; is_new_interval = not (next.interva
 -- their new maps
 abbrev pub maps_from : ℕ → ℕ → List ℕ → List MonitorState → List NewMap
 maps_from group replicas up [] = []
-maps_from group replicas up (m ∷ ms) = new_after m.newest (next_map m (acting_list replicas up group)) ∷ maps_from (group + 1) replicas up ms
+maps_from group replicas up (m ∷ ms) =
+    new_after m.newest (next_map m (acting_list replicas up group)) ∷ maps_from (group + 1) replicas up ms
 
 -- each group's newest map
 abbrev pub newest_maps : List MonitorState → List GroupMap
@@ -75,7 +78,12 @@ newest_maps ms = map (λ m. m.newest) ms
 
 -- the book after one more map of each group
 abbrev pub moved : Book → List ℕ → Book
-moved b up = record { nodes = b.nodes; replicas = b.replicas; epoch = suc b.epoch; monitors = moved_from 0 b.replicas up b.monitors }
+moved b up = record {
+  nodes = b.nodes;
+  replicas = b.replicas;
+  epoch = suc b.epoch;
+  monitors = moved_from 0 b.replicas up b.monitors;
+}
 
 -- the new maps of its groups
 abbrev pub new_maps : Book → List ℕ → List NewMap

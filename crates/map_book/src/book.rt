@@ -1,10 +1,12 @@
 //! The maps of all groups of a cluster, which are made together.
 
-ghost use Rattle.std.specs.Prelude.{◌≡◌, ◌⊎◌, ℕ, ◌<◌, ◌≤◌, ◌-◌, ◌^◌, true, IsTrue, IfOk, IfErr, OnOk, OnErr, MatchResult, Some, None, length, slice_get, slice_set, All};
+ghost use Rattle.std.specs.Prelude.{◌≡◌, ◌⊎◌, ℕ, ◌<◌, ◌≤◌, ◌-◌, ◌^◌, true, IsTrue, IfOk, IfErr, OnOk, OnErr};
+ghost use Rattle.std.specs.Prelude.{MatchResult, Some, None, length, slice_get, slice_set, All};
 ghost use Rattle.placement.specs.Placement.{is_group_count, is_acting, acting_of};
 ghost use Rattle.placement.specs.Placement as placement;
 ghost use Rattle.group_world.specs.Monitor.{MonitorState, with_map, next_map, activation_refusal, with_activated};
-ghost use Rattle.map_book.specs.Book.{Book, IsBook, are_below, book_refusal, new_monitors, newest_maps, moved, moved_from, maps_from, new_maps, new_after};
+ghost use Rattle.map_book.specs.Book.{Book, IsBook, are_below, book_refusal, new_monitors, newest_maps, moved};
+ghost use Rattle.map_book.specs.Book.{moved_from, maps_from, new_maps, new_after};
 ghost use Rattle.map_book.specs.declared.map_error.MapError.TheVariants.{NoMemory};
 
 use crate::map_error::MapError;
@@ -79,7 +81,8 @@ fn moved(
     requires placed { placement.refusal_of cluster.now group ≡ None }
     requires epochs { monitor.now.newest.epoch < 2 ^ 32 - 1 }
     ensures monitor { IfOk result (λ r. r.0 ≡ with_map monitor.now (acting_of cluster.now group)) }
-    ensures map { IfOk result (λ r. r.1 ≡ new_after monitor.now.newest (next_map monitor.now (acting_of cluster.now group))) }
+    ensures map { IfOk result
+        (λ r. r.1 ≡ new_after monitor.now.newest (next_map monitor.now (acting_of cluster.now group))) }
     ensures err { IfErr result (λ e. e ≡ NoMemory) }
 {
     acting_sets();
@@ -103,8 +106,10 @@ fn all_moved(
     cluster: &ClusterMap,
 ) -> Result<(Vec<Monitor>, Vec<NewMap>), MapError>
     requires placed { (group : ℕ) → group < length monitors.now → placement.refusal_of cluster.now group ≡ None }
-    requires epochs { (group : ℕ) (m : MonitorState) → slice_get monitors.now group ≡ Some m → m.newest.epoch < 2 ^ 32 - 1 }
-    ensures monitors { IfOk result (λ r. r.0.items ≡ moved_from 0 cluster.now.replicas cluster.now.up.items monitors.now) }
+    requires epochs { (group : ℕ) (m : MonitorState) → slice_get monitors.now group ≡ Some m →
+        m.newest.epoch < 2 ^ 32 - 1 }
+    ensures monitors { IfOk result (λ r. r.0.items ≡
+        moved_from 0 cluster.now.replicas cluster.now.up.items monitors.now) }
     ensures maps { IfOk result (λ r. r.1.items ≡ maps_from 0 cluster.now.replicas cluster.now.up.items monitors.now) }
     ensures acting { (group : ℕ) → group < length monitors.now → is_acting (acting_of cluster.now group) ≡ true }
     ensures err { IfErr result (λ e. e ≡ NoMemory) }
@@ -187,7 +192,8 @@ impl MapBook {
         ensures unrefused { OnOk result (book_refusal self.old up.now ≡ None) }
         ensures moved { OnOk result (self.new ≡ moved self.old up.now) }
         ensures refused { OnErr result (self.new ≡ self.old) }
-        ensures why { IfErr result (λ e. (book_refusal self.old up.now ≡ Some e) ⊎ ((e ≡ NoMemory) × (book_refusal self.old up.now ≡ None))) }
+        ensures why { IfErr result (λ e. (book_refusal self.old up.now ≡ Some e) ⊎
+            ((e ≡ NoMemory) × (book_refusal self.old up.now ≡ None))) }
     {
         if up.is_empty() {
             return Err(MapError::NoneUp);
@@ -216,8 +222,12 @@ impl MapBook {
     /// and changes nothing then. It takes no memory.
     pub fn activate(&mut self, group: usize, interval: Epoch) -> Result<(), MonitorError>
         requires { group < length self.old.monitors }
-        ensures answer { (m : MonitorState) → slice_get self.old.monitors group ≡ Some m → MatchResult result (λ _. activation_refusal m interval ≡ None) (λ e. activation_refusal m interval ≡ Some e) }
-        ensures ok { (m : MonitorState) → slice_get self.old.monitors group ≡ Some m → OnOk result (self.new ≡ record (self.old) { monitors = slice_set self.old.monitors group (with_activated m) }) }
+        ensures answer { (m : MonitorState) → slice_get self.old.monitors group ≡ Some m →
+            MatchResult result (λ _. activation_refusal m interval ≡ None)
+            (λ e. activation_refusal m interval ≡ Some e) }
+        ensures ok { (m : MonitorState) → slice_get self.old.monitors group ≡ Some m →
+            OnOk result
+            (self.new ≡ record (self.old) { monitors = slice_set self.old.monitors group (with_activated m) }) }
         ensures refused { OnErr result (self.new ≡ self.old) }
     {
         self.monitors[group].activate(interval)

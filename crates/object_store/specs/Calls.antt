@@ -1,13 +1,15 @@
 -- What each call on an object answers, absent or there: the first refusal that applies, or the
 -- answer. Of several refusals the first is of a name's length, then of a size, then absent,
 -- present, no such name, too many.
-use Rattle.std.specs.Prelude.{ℕ, ◌+◌, Bool, ◌&&◌, not, List, Some, None, Result, Ok, Err, if◌then◌else◌, nat_lt, ◌==◌, length, is_some}
+use Rattle.std.specs.Prelude.{ℕ, ◌+◌, Bool, ◌&&◌, not, List, Some, None, Result, Ok, Err, if◌then◌else◌, nat_lt, ◌==◌}
+use Rattle.std.specs.Prelude.{length, is_some}
 use Rattle.std.specs.Option.{ok_or}
 use Rattle.std.specs.FinMap as fin
 use Rattle.shared_map.specs.Entries.{key_above}
 use Rattle.object_store.specs.declared.limits.TheConstants.{DATA_LIMIT, XATTR_LIMIT, KEY_LIMIT, NAME_LIMIT, VALUE_LIMIT}
 use Rattle.object_store.specs.declared.store_error.StoreError.{StoreError}
-use Rattle.object_store.specs.declared.store_error.StoreError.TheVariants.{Absent, Exists, NoAttr, TooBig, TooMany, Range}
+use Rattle.object_store.specs.declared.store_error.StoreError.TheVariants.{Absent, Exists, NoAttr, TooBig, TooMany}
+use Rattle.object_store.specs.declared.store_error.StoreError.TheVariants.{Range}
 use Rattle.object_store.specs.Edits.{overlaid}
 use Rattle.object_store.specs.Object.{Attributes, Content, PlainObject, nothing, content_of, part, spliced, resized}
 
@@ -42,7 +44,8 @@ get_key object key = if is_named key then if_there object (λ c. value_in c.omap
 
 -- the least name above some bytes, which may be none; these are at most as long as a name
 abbrev pub next_in : (Content → Attributes) → PlainObject → List ℕ → Result (List ℕ) StoreError
-next_in names object name = if nat_lt NAME_LIMIT (length name) then Err Range else if_there object (λ c. ok_or (key_above (names c) name) NoAttr)
+next_in names object name = if nat_lt NAME_LIMIT (length name) then Err Range
+    else if_there object (λ c. ok_or (key_above (names c) name) NoAttr)
 
 -- the least xattr's name, and the least key of the omap, above some bytes
 abbrev pub next_xattr : PlainObject → List ℕ → Result (List ℕ) StoreError

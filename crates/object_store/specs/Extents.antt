@@ -23,7 +23,8 @@ AreFull (x ∷ xs) = (length x ≡ EXTENT_LIMIT) × AreFull xs
 -- an extent has 1 to 4,096 bytes, and 4,096 if another follows: as few extents as the bytes need
 abbrev pub ArePacked : List (List ℕ) → Type 0
 ArePacked [] = Unit {0}
-ArePacked (x ∷ xs) = (1 ≤ length x) × (length x ≤ EXTENT_LIMIT) × (1 ≤ length xs → length x ≡ EXTENT_LIMIT) × ArePacked xs
+ArePacked (x ∷ xs) =
+    (1 ≤ length x) × (length x ≤ EXTENT_LIMIT) × (1 ≤ length xs → length x ≡ EXTENT_LIMIT) × ArePacked xs
 
 -- the bytes of a range, as far as they exist
 abbrev pub cut : ℕ → ℕ → List ℕ → List ℕ

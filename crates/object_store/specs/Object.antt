@@ -1,5 +1,6 @@
 -- The plain object: absent, or data and two finite maps. And when it is within all limits.
-use Rattle.std.specs.Prelude.{◌≡◌, ℕ, ◌+◌, ◌-◌, ◌<◌, ◌≤◌, List, [], ◌∷◌, ◌++◌, Option, Some, None, if◌then◌else◌, ◌==◌, take, drop, length, replicate, refl}
+use Rattle.std.specs.Prelude.{◌≡◌, ℕ, ◌+◌, ◌-◌, ◌<◌, ◌≤◌, List, [], ◌∷◌, ◌++◌, Option, Some, None, if◌then◌else◌, ◌==◌}
+use Rattle.std.specs.Prelude.{take, drop, length, replicate, refl}
 use Rattle.std.specs.Coded.{Coded, code_by, coded×, coded_ℕ, coded_list}
 use Rattle.std.specs.FinMap as fin
 use Rattle.shared_map.specs.Entries.{ByteMap}
@@ -67,7 +68,8 @@ part bytes at n = take n (drop at bytes)
 -- text written over bytes at a place; zeros fill a gap, and no text leaves the bytes as they are
 abbrev pub spliced : List ℕ → ℕ → List ℕ → List ℕ
 spliced bytes at text =
-    if length text == 0 then bytes else take at bytes ++ replicate (at - length bytes) 0 ++ text ++ drop (at + length text) bytes
+    if length text == 0 then bytes else take at bytes ++ replicate (at - length bytes) 0 ++ text ++
+    drop (at + length text) bytes
 
 -- bytes cut, or extended with zeros, to a length
 abbrev pub resized : List ℕ → ℕ → List ℕ

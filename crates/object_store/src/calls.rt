@@ -181,7 +181,8 @@ fn there(object: Option<&Object>) -> Result<&Object, StoreError>
 
 /// The object, for a call that names an xattr or a key. Refused: 6 Range, 1 Absent.
 fn named<'a>(object: Option<&'a Object>, name: &[u8]) -> Result<&'a Object, StoreError>
-    ensures { behind result ≡ (if spec.is_named name.now then spec.if_there (option_copied object.entry) (λ c. Ok c) else Err StoreError.Range) }
+    ensures { behind result ≡ (if spec.is_named name.now then spec.if_there (option_copied object.entry) (λ c. Ok c)
+        else Err StoreError.Range) }
 {
     check_name(name)?;
     there(object)
@@ -190,7 +191,8 @@ fn named<'a>(object: Option<&'a Object>, name: &[u8]) -> Result<&'a Object, Stor
 /// The object, for a call that names bytes below an xattr or a key, which may be none. Refused: 6
 /// Range, 1 Absent.
 fn short_named<'a>(object: Option<&'a Object>, name: &[u8]) -> Result<&'a Object, StoreError>
-    ensures { behind result ≡ (if nat_lt NAME_LIMIT (length name.now) then Err StoreError.Range else spec.if_there (option_copied object.entry) (λ c. Ok c)) }
+    ensures { behind result ≡ (if nat_lt NAME_LIMIT (length name.now) then Err StoreError.Range
+        else spec.if_there (option_copied object.entry) (λ c. Ok c)) }
 {
     if name.len() > NAME_LIMIT {
         return Err(StoreError::Range);
@@ -220,7 +222,8 @@ fn finished(alloc: Global, new: Held, done: Result<(), StoreError>) -> Result<Ob
 
 /// Refuses a name, and then a value, that no xattr and no key has: 6 Range, 4 TooBig.
 fn check_entry(name: &[u8], value: &[u8]) -> Result<(), StoreError>
-    ensures answer { result ≡ (if spec.is_named name.now then (if nat_lt VALUE_LIMIT (length value.now) then Err StoreError.TooBig else Ok tt) else Err StoreError.Range) }
+    ensures answer { result ≡ (if spec.is_named name.now then (if nat_lt VALUE_LIMIT (length value.now)
+        then Err StoreError.TooBig else Ok tt) else Err StoreError.Range) }
     ensures name { IfOk result (λ _. IsName name.now) }
     ensures value { IfOk result (λ _. IsValue value.now) }
 {

@@ -24,7 +24,8 @@ impl Model for Extent {
 
     ghost view = { λ e. (arc_value e.content).items };
 
-    ghost invariant = { λ e. (1 ≤ length (arc_value e.content).items) × (length (arc_value e.content).items ≤ EXTENT_LIMIT) };
+    ghost invariant = { λ e. (1 ≤ length (arc_value e.content).items) ×
+        (length (arc_value e.content).items ≤ EXTENT_LIMIT) };
 }
 
 impl Extent {

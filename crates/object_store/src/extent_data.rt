@@ -30,7 +30,8 @@ impl Model for ExtentData {
 
     ghost view = { λ d. flat (shared d.parts) };
 
-    ghost invariant = { λ d. (d.len ≡ length (flat (shared d.parts))) × (d.len ≤ DATA_LIMIT) × ArePacked (shared d.parts) };
+    ghost invariant = { λ d. (d.len ≡ length (flat (shared d.parts))) × (d.len ≤ DATA_LIMIT) ×
+        ArePacked (shared d.parts) };
 }
 
 impl ExtentData {

@@ -1,6 +1,7 @@
 //! Data in extents: an edit makes anew the extents that it touches, and shares all others.
 
-ghost use Rattle.std.specs.Prelude.{◌≡◌, ◌+◌, ◌-◌, ◌%◌, ◌<◌, ◌≤◌, ◌^◌, ◌++◌, ◌↔◌, IsTrue, IfOk, OnOk, min, length, take, drop, replicate};
+ghost use Rattle.std.specs.Prelude.{◌≡◌, ◌+◌, ◌-◌, ◌%◌, ◌<◌, ◌≤◌, ◌^◌, ◌++◌, ◌↔◌, IsTrue, IfOk, OnOk, min, length};
+ghost use Rattle.std.specs.Prelude.{take, drop, replicate};
 ghost use Rattle.object_store.specs.Object.{spliced, resized};
 ghost use Rattle.object_store.specs.Extents.{flat, AreFull, ArePacked, cut};
 ghost use Rattle.object_store.specs.declared.extent.TheConstants.{EXTENT_LIMIT};
@@ -113,7 +114,8 @@ fn touched(
     requires small { length (flat parts.now) ≤ 65536 }
     requires orders { (low.0 ≤ low.1) × (high.0 ≤ high.1) }
     requires gap { gap ≤ 65536 }
-    ensures { IfOk result (λ v. v.items ≡ ((cut low.0 low.1 (flat parts.now) ++ replicate gap 0) ++ text.now) ++ cut high.0 high.1 (flat parts.now)) }
+    ensures { IfOk result (λ v. v.items ≡ ((cut low.0 low.1 (flat parts.now) ++ replicate gap 0) ++ text.now) ++
+        cut high.0 high.1 (flat parts.now)) }
 {
     // Room for one extent: bytes that fit in one need no second allocation.
     let mut bytes = Vec::with_capacity(alloc, EXTENT_LIMIT)?;
@@ -136,7 +138,8 @@ fn replaced(
     requires full { AreFull (take kept parts.now) }
     requires packed { ArePacked (drop others parts.now) }
     requires seam { others < length parts.now → length bytes.items % EXTENT_LIMIT ≡ 0 }
-    ensures bytes { IfOk result (λ v. flat v.items ≡ (flat (take kept parts.now) ++ bytes.items) ++ flat (drop others parts.now)) }
+    ensures bytes { IfOk result (λ v. flat v.items ≡ (flat (take kept parts.now) ++ bytes.items) ++
+        flat (drop others parts.now)) }
     ensures packed { IfOk result (λ v. ArePacked v.items) }
 {
     let (front, _) = parts.split_at(kept);
@@ -230,7 +233,8 @@ pub(crate) fn are_same(parts: &[Extent], others: &[Extent]) -> bool
 /// The number of full extents before a place, and the number of their bytes.
 fn before(parts: &[Extent], at: usize) -> (usize, usize)
     requires { length (flat parts.now) ≤ 65536 }
-    ensures place { (result.0 ≤ length parts.now) × (result.1 ≡ length (flat (take result.0 parts.now))) × (result.1 ≤ at) }
+    ensures place { (result.0 ≤ length parts.now) × (result.1 ≡ length (flat (take result.0 parts.now))) ×
+        (result.1 ≤ at) }
     ensures full { AreFull (take result.0 parts.now) }
 {
     let mut start = 0;
@@ -249,7 +253,8 @@ fn before(parts: &[Extent], at: usize) -> (usize, usize)
 /// The number of extents before those that lie past a place, and the number of their bytes.
 fn past(parts: &[Extent], end: usize) -> (usize, usize)
     requires { length (flat parts.now) ≤ 65536 }
-    ensures { (result.0 ≤ length parts.now) × (result.1 ≡ length (flat (take result.0 parts.now))) × (min end (length (flat parts.now)) ≤ result.1) }
+    ensures { (result.0 ≤ length parts.now) × (result.1 ≡ length (flat (take result.0 parts.now))) ×
+        (min end (length (flat parts.now)) ≤ result.1) }
 {
     let mut start = 0;
     for (i, part) in parts.iter().enumerate() {

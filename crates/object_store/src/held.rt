@@ -184,7 +184,8 @@ impl Held {
         value: &[u8],
     ) -> Result<(), StoreError>
         requires { IsName name.now × IsValue value.now }
-        ensures { Gives (λ _. self.new) result (with_xattrs self.old (set_in XATTR_LIMIT self.old.xattrs name.now value.now)) }
+        ensures { Gives
+            (λ _. self.new) result (with_xattrs self.old (set_in XATTR_LIMIT self.old.xattrs name.now value.now)) }
     {
         set_in(alloc, &mut self.xattrs, XATTR_LIMIT, name, value)
     }

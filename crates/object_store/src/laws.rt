@@ -1,6 +1,7 @@
 //! Laws of the definitions, for the proofs of the crates above. Their functions do nothing.
 ghost use Rattle.std.specs.Prelude.{◌≡◌, ℕ, Bool, List};
-ghost use Rattle.object_store.specs.declared.limits.TheConstants.{DATA_LIMIT, XATTR_LIMIT, KEY_LIMIT, NAME_LIMIT, VALUE_LIMIT, OBJECT_NAME_LIMIT};
+ghost use Rattle.object_store.specs.declared.limits.TheConstants.{DATA_LIMIT, XATTR_LIMIT, KEY_LIMIT, NAME_LIMIT};
+ghost use Rattle.object_store.specs.declared.limits.TheConstants.{VALUE_LIMIT, OBJECT_NAME_LIMIT};
 ghost use Rattle.object_store.specs.Object.{AreBytes, IsValue};
 ghost use Rattle.object_store.specs.Calls as spec;
 ghost use Rattle.object_store.specs.Laws.{Keeps, Reads};
@@ -9,7 +10,8 @@ ghost use Rattle.object_store.specs.Laws.{Keeps, Reads};
 pub fn changes_keep_the_limits()
     ensures write { (at : ℕ) (text : List ℕ) → AreBytes text → Keeps (λ o. spec.write o at text) }
     ensures truncate { (len : ℕ) → Keeps (λ o. spec.truncate o len) }
-    ensures set_xattr { (name value : List ℕ) → AreBytes name → AreBytes value → Keeps (λ o. spec.set_xattr o name value) }
+    ensures set_xattr { (name value : List ℕ) → AreBytes name → AreBytes value →
+        Keeps (λ o. spec.set_xattr o name value) }
     ensures set_key { (key value : List ℕ) → AreBytes key → AreBytes value → Keeps (λ o. spec.set_key o key value) }
     ensures remove_xattr { (name : List ℕ) → Keeps (λ o. spec.remove_xattr o name) }
     ensures remove_key { (key : List ℕ) → Keeps (λ o. spec.remove_key o key) }

@@ -107,7 +107,8 @@ impl Objects {
         name: &ObjectName,
         changed: Result<Object, StoreError>,
     ) -> Result<(), StoreError>
-        ensures answer { (answer : Result Content StoreError) → Gives (λ o. o) changed answer → Gives (λ _. self.new) result (after self.old name.now answer) }
+        ensures answer { (answer : Result Content StoreError) → Gives (λ o. o) changed answer →
+            Gives (λ _. self.new) result (after self.old name.now answer) }
         ensures err { OnErr result (self.new ≡ self.old) }
     {
         self.put(alloc, name, changed?)
@@ -187,7 +188,8 @@ impl Objects {
         at: u64,
         text: &[u8],
     ) -> Result<(), StoreError>
-        ensures answer { Gives (λ _. self.new) result (after self.old name.now (spec.write (fin.get self.old name.now) at text.now)) }
+        ensures answer { Gives (λ _. self.new) result
+            (after self.old name.now (spec.write (fin.get self.old name.now) at text.now)) }
         ensures err { OnErr result (self.new ≡ self.old) }
     {
         // The change is made first: it only reads these objects, so that borrow ends before the
@@ -199,7 +201,8 @@ impl Objects {
     /// Cuts the data of an object, or extends it with zeros. Refused: 4 TooBig, 1 Absent, 7
     /// NoMemory; nothing has changed then.
     pub fn truncate(&mut self, alloc: Global, name: &ObjectName, len: u64) -> Result<(), StoreError>
-        ensures answer { Gives (λ _. self.new) result (after self.old name.now (spec.truncate (fin.get self.old name.now) len)) }
+        ensures answer { Gives (λ _. self.new) result
+            (after self.old name.now (spec.truncate (fin.get self.old name.now) len)) }
         ensures err { OnErr result (self.new ≡ self.old) }
     {
         let changed = calls::truncate(alloc, self.get(name), len);
@@ -215,7 +218,8 @@ impl Objects {
         xattr: &[u8],
         value: &[u8],
     ) -> Result<(), StoreError>
-        ensures answer { Gives (λ _. self.new) result (after self.old name.now (spec.set_xattr (fin.get self.old name.now) xattr.now value.now)) }
+        ensures answer { Gives (λ _. self.new) result
+            (after self.old name.now (spec.set_xattr (fin.get self.old name.now) xattr.now value.now)) }
         ensures err { OnErr result (self.new ≡ self.old) }
     {
         let changed = calls::set_xattr(alloc, self.get(name), xattr, value);
@@ -231,7 +235,8 @@ impl Objects {
         key: &[u8],
         value: &[u8],
     ) -> Result<(), StoreError>
-        ensures answer { Gives (λ _. self.new) result (after self.old name.now (spec.set_key (fin.get self.old name.now) key.now value.now)) }
+        ensures answer { Gives (λ _. self.new) result
+            (after self.old name.now (spec.set_key (fin.get self.old name.now) key.now value.now)) }
         ensures err { OnErr result (self.new ≡ self.old) }
     {
         let changed = calls::set_key(alloc, self.get(name), key, value);
@@ -246,7 +251,8 @@ impl Objects {
         name: &ObjectName,
         xattr: &[u8],
     ) -> Result<(), StoreError>
-        ensures answer { Gives (λ _. self.new) result (after self.old name.now (spec.remove_xattr (fin.get self.old name.now) xattr.now)) }
+        ensures answer { Gives (λ _. self.new) result
+            (after self.old name.now (spec.remove_xattr (fin.get self.old name.now) xattr.now)) }
         ensures err { OnErr result (self.new ≡ self.old) }
     {
         let changed = calls::remove_xattr(alloc, self.get(name), xattr);
@@ -261,7 +267,8 @@ impl Objects {
         name: &ObjectName,
         key: &[u8],
     ) -> Result<(), StoreError>
-        ensures answer { Gives (λ _. self.new) result (after self.old name.now (spec.remove_key (fin.get self.old name.now) key.now)) }
+        ensures answer { Gives (λ _. self.new) result
+            (after self.old name.now (spec.remove_key (fin.get self.old name.now) key.now)) }
         ensures err { OnErr result (self.new ≡ self.old) }
     {
         let changed = calls::remove_key(alloc, self.get(name), key);
@@ -277,7 +284,8 @@ impl Objects {
         name: &ObjectName,
         exclusive: bool,
     ) -> Result<(), StoreError>
-        ensures answer { Gives (λ _. self.new) result (after self.old name.now (spec.create (fin.get self.old name.now) exclusive)) }
+        ensures answer { Gives (λ _. self.new) result
+            (after self.old name.now (spec.create (fin.get self.old name.now) exclusive)) }
         ensures err { OnErr result (self.new ≡ self.old) }
     {
         let changed = calls::create(self.get(name), exclusive);
@@ -286,7 +294,8 @@ impl Objects {
 
     /// Removes an object. Refused: 1 Absent, 7 NoMemory; nothing has changed then.
     pub fn remove(&mut self, alloc: Global, name: &ObjectName) -> Result<(), StoreError>
-        ensures answer { Gives (λ _. self.new) result (after_removal self.old name.now (spec.remove (fin.get self.old name.now))) }
+        ensures answer { Gives (λ _. self.new) result
+            (after_removal self.old name.now (spec.remove (fin.get self.old name.now))) }
         ensures err { OnErr result (self.new ≡ self.old) }
     {
         // An absent object is refused here: `take_away` would take it for done.

@@ -1,6 +1,7 @@
 //! Parts of data by place and length, and the test that they stay within the limit of data.
 
-ghost use Rattle.std.specs.Prelude.{◌≡◌, ◌+◌, ◌-◌, ◌≤◌, ◌++◌, OnOk, OnErr, IfSome, IsSome, ◌↔◌, length, replicate, take, drop};
+ghost use Rattle.std.specs.Prelude.{◌≡◌, ◌+◌, ◌-◌, ◌≤◌, ◌++◌, OnOk, OnErr, IfSome, IsSome, ◌↔◌, length, replicate};
+ghost use Rattle.std.specs.Prelude.{take, drop};
 ghost use Rattle.object_store.specs.declared.limits.TheConstants.{DATA_LIMIT};
 ghost use Rattle.object_store.specs.Object.{part};
 

@@ -1,6 +1,7 @@
 ghost use Rattle.std.specs.Prelude.{◌≡◌, ◌⊎◌, ◌<◌, ◌-◌, ◌^◌, IfOk, IfErr, OnOk, OnErr, MatchResult, Some, None};
 ghost use Rattle.group_world.specs.Maps.{no_map, interval_of};
-ghost use Rattle.group_world.specs.Monitor.{no_maps, map_refusal, next_map, with_map, activation_refusal, with_activated};
+ghost use Rattle.group_world.specs.Monitor.{no_maps, map_refusal, next_map, with_map, activation_refusal};
+ghost use Rattle.group_world.specs.Monitor.{with_activated};
 ghost use Rattle.peering.specs.Mapping.{IsNextMap};
 
 use group_world::{Epoch, GroupMap, MonitorError};
@@ -96,7 +97,8 @@ impl Monitor {
         ensures ok { IfOk result (λ m. (m ≡ next_map self.old acting.now) × (map_refusal self.old acting.now ≡ None)) }
         ensures made { OnOk result (self.new ≡ with_map self.old acting.now) }
         ensures refused { OnErr result (self.new ≡ self.old) }
-        ensures err { IfErr result (λ e. (map_refusal self.old acting.now ≡ Some e) ⊎ ((e ≡ MonitorError.NoMemory) × (map_refusal self.old acting.now ≡ None))) }
+        ensures err { IfErr result (λ e. (map_refusal self.old acting.now ≡ Some e) ⊎
+            ((e ≡ MonitorError.NoMemory) × (map_refusal self.old acting.now ≡ None))) }
     {
         let next = self.next_map(self.alloc, acting)?;
         let kept = next.copy(self.alloc)?;
@@ -110,7 +112,8 @@ impl Monitor {
     pub fn next_map(&self, alloc: Global, acting: &[NodeId]) -> Result<GroupMap, MonitorError>
         ensures ok { IfOk result (λ m. (m ≡ next_map self.now acting.now) × (map_refusal self.now acting.now ≡ None)) }
         ensures next { IfOk result (λ m. IsNextMap self.now m) }
-        ensures err { IfErr result (λ e. (map_refusal self.now acting.now ≡ Some e) ⊎ ((e ≡ MonitorError.NoMemory) × (map_refusal self.now acting.now ≡ None))) }
+        ensures err { IfErr result (λ e. (map_refusal self.now acting.now ≡ Some e) ⊎
+            ((e ≡ MonitorError.NoMemory) × (map_refusal self.now acting.now ≡ None))) }
     {
         if !is_acting(acting) {
             return Err(MonitorError::BadActing);
@@ -184,7 +187,8 @@ impl Monitor {
     /// as it was. A second time changes nothing, also after a map that kept the interval. It takes
     /// no memory.
     pub fn activate(&mut self, interval: Epoch) -> Result<(), MonitorError>
-        ensures answer { MatchResult result (λ _. activation_refusal self.old interval ≡ None) (λ e. activation_refusal self.old interval ≡ Some e) }
+        ensures answer { MatchResult result (λ _. activation_refusal self.old interval ≡ None)
+            (λ e. activation_refusal self.old interval ≡ Some e) }
         ensures ok { OnOk result (self.new ≡ with_activated self.old) }
         ensures refused { OnErr result (self.new ≡ self.old) }
     {

@@ -186,7 +186,8 @@ impl<C: Classes> GroupNode<C> {
         requires table { IsPrefix table.now C.classes }
         requires legal { Legal table.now self.old.state.log }
         // The state and exactly the messages of the world's step.
-        ensures done { IfOk result (λ sent. IsDone self.old self.new sent (local_step table.now self.old.number self.old.state event)) }
+        ensures done { IfOk result
+            (λ sent. IsDone self.old self.new sent (local_step table.now self.old.number self.old.state event)) }
         ensures refused { OnErr result (self.new ≡ self.old) }
         ensures why { IfErr result (λ e. IsRefusal (local_step table.now self.old.number self.old.state event) e) }
         ensures legal { Legal table.now self.new.state.log }
@@ -202,7 +203,8 @@ impl<C: Classes> GroupNode<C> {
     /// Takes an event.
     fn take(&mut self, table: &ClassTable, event: Event) -> Result<Vec<Packet>, HandleError>
         requires { IsLegalBy table.now C.classes self.old.state.log }
-        ensures done { IfOk result (λ sent. IsDone self.old self.new sent.items (local_step table.now self.old.number self.old.state event)) }
+        ensures done { IfOk result
+            (λ sent. IsDone self.old self.new sent.items (local_step table.now self.old.number self.old.state event)) }
         ensures refused { OnErr result (self.new ≡ self.old) }
         ensures why { IfErr result (λ e. IsRefusal (local_step table.now self.old.number self.old.state event) e) }
     {
@@ -225,7 +227,8 @@ impl<C: Classes> GroupNode<C> {
         kind: MessageKind,
     ) -> Result<Vec<Packet>, HandleError>
         requires { IsLegalBy table.now C.classes self.old.state.log }
-        ensures done { IfOk result (λ sent. IsDone self.old self.new sent.items (receive table.now self.old.number self.old.state sender kind)) }
+        ensures done { IfOk result (λ sent. IsDone self.old self.new sent.items
+            (receive table.now self.old.number self.old.state sender kind)) }
         ensures refused { OnErr result (self.new ≡ self.old) }
         ensures why { IfErr result (λ e. e ≡ HandleError.NoMemory) }
     {
@@ -252,7 +255,8 @@ impl<C: Classes> GroupNode<C> {
         length: usize,
     ) -> Result<Vec<Packet>, HandleError>
         requires { IsLegalBy table.now C.classes self.old.state.log }
-        ensures done { IfOk result (λ sent. IsDone self.old self.new sent.items (acknowledge table.now self.old.number self.old.state sender interval length)) }
+        ensures done { IfOk result (λ sent. IsDone self.old self.new sent.items
+            (acknowledge table.now self.old.number self.old.state sender interval length)) }
         ensures refused { OnErr result (self.new ≡ self.old) }
         ensures why { IfErr result (λ e. e ≡ HandleError.NoMemory) }
     {

@@ -17,7 +17,8 @@ asked_if n interval all = if all then packet n TheMonitor (AskActivate interval)
 
 -- what a primary sends when it adopts a list
 abbrev pub adopted_sent : ℕ → ℕ → GroupMap → List ClientRequest → List Packet
-adopted_sent n interval m list = to_others n m.acting (Install m list) ++ asked_if n interval (all_among m.acting (n ∷ []))
+adopted_sent n interval m list =
+    to_others n m.acting (Install m list) ++ asked_if n interval (all_among m.acting (n ∷ []))
 
 -- The table has the first of all classes, and the log is legal by it.
 pub record IsLegalBy (table all : Classes) (log : List ClientRequest) : Type 0 where

@@ -90,7 +90,8 @@ fn send_query(
     map: &GroupMap,
     sent: &mut Vec<Packet>,
 ) -> Result<(), HandleError>
-    ensures ok { OnOk result (sent.new.items ≡ sent.old.items ++ packet number (Party.Node node) (MessageKind.Query map.now) ∷ []) }
+    ensures ok { OnOk result (sent.new.items ≡ sent.old.items ++
+        packet number (Party.Node node) (MessageKind.Query map.now) ∷ []) }
     ensures err { IfErr result (λ e. e ≡ HandleError.NoMemory) }
 {
     let kind = MessageKind::Query(map.copy(alloc)?);
@@ -106,7 +107,8 @@ pub fn install_to_missing(
     nodes: &[NodeId],
     install: &InstallRef<'_>,
 ) -> Result<Vec<Packet>, HandleError>
-    ensures ok { IfOk result (λ v. v.items ≡ to_missing number joined.now nodes.now (MessageKind.Install install.now.map.now install.now.list.now)) }
+    ensures ok { IfOk result (λ v. v.items ≡
+        to_missing number joined.now nodes.now (MessageKind.Install install.now.map.now install.now.list.now)) }
     ensures err { IfErr result (λ e. e ≡ HandleError.NoMemory) }
 {
     let mut sent = Vec::new(alloc);
@@ -130,7 +132,8 @@ fn send_install(
     install: &InstallRef<'_>,
     sent: &mut Vec<Packet>,
 ) -> Result<(), HandleError>
-    ensures ok { OnOk result (sent.new.items ≡ sent.old.items ++ packet number (Party.Node node) (MessageKind.Install install.now.map.now install.now.list.now) ∷ []) }
+    ensures ok { OnOk result (sent.new.items ≡ sent.old.items ++
+        packet number (Party.Node node) (MessageKind.Install install.now.map.now install.now.list.now) ∷ []) }
     ensures err { IfErr result (λ e. e ≡ HandleError.NoMemory) }
 {
     let kind = MessageKind::Install(install.map.copy(alloc)?, install.list.copy()?);
@@ -144,7 +147,8 @@ pub fn rep_to_others(
     nodes: &[NodeId],
     rep: &RepRef<'_>,
 ) -> Result<Vec<Packet>, HandleError>
-    ensures ok { IfOk result (λ v. v.items ≡ to_others number nodes.now (MessageKind.Rep rep.now.interval rep.now.place rep.now.request.now)) }
+    ensures ok { IfOk result (λ v. v.items ≡
+        to_others number nodes.now (MessageKind.Rep rep.now.interval rep.now.place rep.now.request.now)) }
     ensures err { IfErr result (λ e. e ≡ HandleError.NoMemory) }
 {
     let mut sent = Vec::new(alloc);
@@ -164,7 +168,8 @@ fn send_rep(
     rep: &RepRef<'_>,
     sent: &mut Vec<Packet>,
 ) -> Result<(), HandleError>
-    ensures ok { OnOk result (sent.new.items ≡ sent.old.items ++ packet number (Party.Node node) (MessageKind.Rep rep.now.interval rep.now.place rep.now.request.now) ∷ []) }
+    ensures ok { OnOk result (sent.new.items ≡ sent.old.items ++
+        packet number (Party.Node node) (MessageKind.Rep rep.now.interval rep.now.place rep.now.request.now) ∷ []) }
     ensures err { IfErr result (λ e. e ≡ HandleError.NoMemory) }
 {
     let kind = MessageKind::Rep(rep.interval, rep.place, rep.request.copy()?);
@@ -179,7 +184,8 @@ pub fn reps_to(
     from: Place,
     sent: &mut Vec<Packet>,
 ) -> Result<(), HandleError>
-    ensures ok { OnOk result (sent.new.items ≡ sent.old.items ++ reps_from number node log.now.interval from (requests_of (drop from log.now.entries.now))) }
+    ensures ok { OnOk result (sent.new.items ≡ sent.old.items ++
+        reps_from number node log.now.interval from (requests_of (drop from log.now.entries.now))) }
     ensures err { IfErr result (λ e. e ≡ HandleError.NoMemory) }
 {
     let entries = log.entries;

@@ -1,5 +1,6 @@
 //! Replies to committed requests. Each is made by `reply`, from an entry.
-ghost use Rattle.std.specs.Prelude.{◌≡◌, ◌<◌, ◌≤◌, ◌+◌, ◌++◌, ◌∷◌, [], drop, length, take, slice_get, Some, IfOk, IfErr, OnOk};
+ghost use Rattle.std.specs.Prelude.{◌≡◌, ◌<◌, ◌≤◌, ◌+◌, ◌++◌, ◌∷◌, [], drop, length, take, slice_get, Some, IfOk};
+ghost use Rattle.std.specs.Prelude.{IfErr, OnOk};
 ghost use Rattle.pg_log.specs.Requests.{ClientRequest};
 ghost use Rattle.group_world.specs.Node.{packet};
 ghost use Rattle.group_world.specs.Rules.{reply_packet, replies_from};
@@ -13,7 +14,8 @@ use std::alloc::Global;
 
 /// The Reply to the request of an entry, which is at that place of the log.
 fn reply(alloc: Global, number: NodeId, place: Place, entry: &Entry) -> Result<Packet, HandleError>
-    ensures ok { IfOk result (λ p. p ≡ packet number (Party.Client entry.now.request.client) (MessageKind.Reply entry.now.request.client entry.now.request.number place (answer_in entry.now))) }
+    ensures ok { IfOk result (λ p. p ≡ packet number (Party.Client entry.now.request.client)
+        (MessageKind.Reply entry.now.request.client entry.now.request.number place (answer_in entry.now))) }
     ensures err { IfErr result (λ e. e ≡ HandleError.NoMemory) }
 {
     let client = entry.request.client();
@@ -84,7 +86,8 @@ impl<'a, C: Classes> Replier<'a, C> {
     pub fn reply_again(&self, place: Place) -> Result<Packet, HandleError>
         requires legal { IsLegalBy self.now.table.now C.classes self.now.group.now }
         requires within { place < length self.now.group.now }
-        ensures ok { IfOk result (λ p. (r : ClientRequest) → slice_get self.now.group.now place ≡ Some r → p ≡ reply_packet self.now.table.now self.now.number self.now.group.now place r) }
+        ensures ok { IfOk result (λ p. (r : ClientRequest) → slice_get self.now.group.now place ≡ Some r →
+            p ≡ reply_packet self.now.table.now self.now.number self.now.group.now place r) }
         ensures err { IfErr result (λ e. e ≡ HandleError.NoMemory) }
     {
         let entry = entry_at(self.table, self.group, place);
@@ -95,7 +98,8 @@ impl<'a, C: Classes> Replier<'a, C> {
     pub fn replies(&self, from: Place, to: Place) -> Result<Vec<Packet>, HandleError>
         requires legal { IsLegalBy self.now.table.now C.classes self.now.group.now }
         requires within { to ≤ length self.now.group.now }
-        ensures ok { IfOk result (λ v. v.items ≡ replies_from self.now.table.now self.now.number self.now.group.now from (drop from (take to self.now.group.now))) }
+        ensures ok { IfOk result (λ v. v.items ≡ replies_from self.now.table.now self.now.number self.now.group.now from
+            (drop from (take to self.now.group.now))) }
         ensures err { IfErr result (λ e. e ≡ HandleError.NoMemory) }
     {
         let (table, group) = (self.table, self.group);
@@ -123,7 +127,9 @@ impl<'a, C: Classes> Replier<'a, C> {
         requires legal { IsLegalBy self.now.table.now C.classes self.now.group.now }
         requires next { IsNextReply self.now.table.now self.now.group.now next.now }
         requires within { to ≤ length self.now.group.now + 1 }
-        ensures ok { OnOk result (sent.new.items ≡ sent.old.items ++ replies_from self.now.table.now self.now.number (self.now.group.now ++ next.now.request ∷ []) from (drop from (take to (self.now.group.now ++ next.now.request ∷ [])))) }
+        ensures ok { OnOk result (sent.new.items ≡ sent.old.items ++
+            replies_from self.now.table.now self.now.number (self.now.group.now ++ next.now.request ∷ []) from
+            (drop from (take to (self.now.group.now ++ next.now.request ∷ [])))) }
         ensures err { IfErr result (λ e. e ≡ HandleError.NoMemory) }
     {
         let (table, group) = (self.table, self.group);

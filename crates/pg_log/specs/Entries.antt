@@ -22,20 +22,23 @@ outcome_made code output change = record { code = cast_unsigned w64 code; output
 
 -- The code, the output and the object after are the machine's outcome of a method on an object,
 -- which is the object before.
-pub record IsOutcome (method : Option ClassMethod) (object : PlainObject) (r : ClientRequest) (code : ℤ) (output : List ℕ) (change : Versions) : Type 0 where
+pub record IsOutcome (method : Option ClassMethod) (object : PlainObject) (r : ClientRequest) (code : ℤ)
+    (output : List ℕ) (change : Versions) : Type 0 where
   pub made : outcome_made code output change ≡ outcome_of_method method object r
   pub from_before : change.before ≡ object
 
 -- The code, output and change are those of the request on these objects.
 abbrev pub IsOutcomeOn : Classes → PlainObjects → ClientRequest → ℤ → List ℕ → Versions → Type 0
-IsOutcomeOn classes objects r code output change = IsOutcome (method_of classes r) (fin.get objects r.object) r code output change
+IsOutcomeOn classes objects r code output change =
+    IsOutcome (method_of classes r) (fin.get objects r.object) r code output change
 
 -- Each entry's reply and change are those of its request on the objects that the requests before it
 -- made.
 abbrev pub AreEntries : Classes → PlainObjects → List Entry → Type 0
 AreEntries classes objects [] = Unit {0}
 AreEntries classes objects (e ∷ es) =
-    IsOutcomeOn classes objects e.request e.code e.output.items e.change × AreEntries classes (after classes objects e.request) es
+    IsOutcomeOn classes objects e.request e.code e.output.items e.change ×
+    AreEntries classes (after classes objects e.request) es
 
 -- the log's requests
 abbrev pub requests_of : List Entry → List ClientRequest

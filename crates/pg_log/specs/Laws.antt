@@ -19,19 +19,23 @@ EmptyIsLegal = (classes : Classes) → Legal classes []
 
 -- a list with one more request is legal exactly if the list is and the request may follow it
 abbrev pub AppendIsAStep : Type 0
-AppendIsAStep = (classes : Classes) (xs : List ClientRequest) (r : ClientRequest) → Legal classes (xs ++ r ∷ []) ↔ (Legal classes xs × Follows classes xs r)
+AppendIsAStep = (classes : Classes) (xs : List ClientRequest) (r : ClientRequest) →
+    Legal classes (xs ++ r ∷ []) ↔ (Legal classes xs × Follows classes xs r)
 
 -- the objects of a list with one more request are those after the request on the list's objects
 abbrev pub FoldIsAStep : Type 0
-FoldIsAStep = (classes : Classes) (xs : List ClientRequest) (r : ClientRequest) → fold classes (xs ++ r ∷ []) ≡ after classes (fold classes xs) r
+FoldIsAStep = (classes : Classes) (xs : List ClientRequest) (r : ClientRequest) →
+    fold classes (xs ++ r ∷ []) ≡ after classes (fold classes xs) r
 
 -- the objects of a longer list are those of its first part, changed by the requests of the rest
 abbrev pub FoldGoesOn : Type 0
-FoldGoesOn = (classes : Classes) (xs ys : List ClientRequest) → fold classes (xs ++ ys) ≡ fold_from classes (fold classes xs) ys
+FoldGoesOn =
+    (classes : Classes) (xs ys : List ClientRequest) → fold classes (xs ++ ys) ≡ fold_from classes (fold classes xs) ys
 
 -- the objects of a beginning don't depend on the requests after it
 abbrev pub FoldsStay : Type 0
-FoldsStay = (classes : Classes) (xs ys : List ClientRequest) (k : ℕ) → k ≤ length xs → fold classes (take k (xs ++ ys)) ≡ fold classes (take k xs)
+FoldsStay = (classes : Classes) (xs ys : List ClientRequest) (k : ℕ) → k ≤ length xs →
+    fold classes (take k (xs ++ ys)) ≡ fold classes (take k xs)
 
 -- undoing the last entry's change gives the objects of the list before it
 abbrev pub UndoingGoesBack : Type 0
@@ -41,20 +45,24 @@ UndoingGoesBack =
 
 -- the replies of a beginning don't depend on the requests after it
 abbrev pub RepliesStay : Type 0
-RepliesStay = (classes : Classes) (xs ys : List ClientRequest) (k : ℕ) → k < length xs → reply_at classes (xs ++ ys) k ≡ reply_at classes xs k
+RepliesStay = (classes : Classes) (xs ys : List ClientRequest) (k : ℕ) → k < length xs →
+    reply_at classes (xs ++ ys) k ≡ reply_at classes xs k
 
 -- the reply of one more request is that of the request on the objects before it
 abbrev pub LastReply : Type 0
-LastReply = (classes : Classes) (xs : List ClientRequest) (r : ClientRequest) → reply_at classes (xs ++ r ∷ []) (length xs) ≡ reply_to classes (fold classes xs) (Some r)
+LastReply = (classes : Classes) (xs : List ClientRequest) (r : ClientRequest) →
+    reply_at classes (xs ++ r ∷ []) (length xs) ≡ reply_to classes (fold classes xs) (Some r)
 
 -- each place of a list has a reply, and no other place has one
 abbrev pub RepliesAreThere : Type 0
-RepliesAreThere = (classes : Classes) (xs : List ClientRequest) (k : ℕ) → (reply_at classes xs k ≡ None) ↔ (length xs ≤ k)
+RepliesAreThere =
+    (classes : Classes) (xs : List ClientRequest) (k : ℕ) → (reply_at classes xs k ≡ None) ↔ (length xs ≤ k)
 
 -- the reply in an entry is the reply at its place
 abbrev pub EntriesHaveReplies : Type 0
 EntriesHaveReplies =
-    (classes : Classes) (es : List Entry) (k : ℕ) (e : Entry) → AreEntries classes map.empty es → slice_get es k ≡ Some e →
+    (classes : Classes) (es : List Entry) (k : ℕ) (e : Entry) → AreEntries classes map.empty es →
+    slice_get es k ≡ Some e →
     reply_at classes (requests_of es) k ≡ Some (record { code = cast_unsigned w64 e.code; output = e.output.items })
 
 -- each pair of client and number occurs at most once in a legal list
@@ -73,7 +81,8 @@ PlaceIsThePairs =
 abbrev pub PlaceHasThePair : Type 0
 PlaceHasThePair =
     (xs : List ClientRequest) (client number place : ℕ) → place_of client number xs ≡ Some place →
-    (place < length xs) × (a : ClientRequest) × (slice_get xs place ≡ Some a) × (a.client ≡ client) × (a.number ≡ number)
+    (place < length xs) × (a : ClientRequest) × (slice_get xs place ≡ Some a) × (a.client ≡ client) ×
+    (a.number ≡ number)
 
 -- With classes added to the table a legal list stays legal, with the same objects and replies.
 pub record SameWithMore (classes more : Classes) (xs : List ClientRequest) : Type 0 where
@@ -87,7 +96,8 @@ ClassesAdded = (classes more : Classes) (xs : List ClientRequest) → Legal clas
 
 -- a request may follow a list exactly if there is no refusal
 abbrev pub RefusalsAreExact : Type 0
-RefusalsAreExact = (classes : Classes) (xs : List ClientRequest) (r : ClientRequest) → (refusal classes xs r ≡ None) ↔ Follows classes xs r
+RefusalsAreExact = (classes : Classes) (xs : List ClientRequest) (r : ClientRequest) →
+    (refusal classes xs r ≡ None) ↔ Follows classes xs r
 
 -- a list is legal exactly if none of its requests is refused after those before it
 abbrev pub ListsAreExact : Type 0
@@ -102,4 +112,5 @@ pub record IsAsReplayed (classes : Classes) (list : List ClientRequest) (k : ℕ
 -- that is so of every legal log and every list
 abbrev pub AdoptingIsReplaying : Type 0
 AdoptingIsReplaying =
-    (classes : Classes) (own list : List ClientRequest) (k : ℕ) → Legal classes own → IsCommonBeginning own list k → IsAsReplayed classes list k
+    (classes : Classes) (own list : List ClientRequest) (k : ℕ) → Legal classes own → IsCommonBeginning own list k →
+    IsAsReplayed classes list k

@@ -32,7 +32,8 @@ pub record CanRun (classes : Classes) (r : ClientRequest) : Type 0 where
 -- of two requests of one client the later has the greater number
 abbrev pub NumbersRise : List ClientRequest → Type 0
 NumbersRise list =
-    (i j : ℕ) (a b : ClientRequest) → i < j → slice_get list i ≡ Some a → slice_get list j ≡ Some b → a.client ≡ b.client → a.number < b.number
+    (i j : ℕ) (a b : ClientRequest) → i < j → slice_get list i ≡ Some a → slice_get list j ≡ Some b →
+    a.client ≡ b.client → a.number < b.number
 
 -- A legal list, which a log may hold: it isn't too long, each request can run, and numbers rise.
 pub record Legal (classes : Classes) (list : List ClientRequest) : Type 0 where
@@ -75,7 +76,8 @@ fold classes list = fold_from classes map.empty list
 -- the reply of a request that runs on these objects
 abbrev pub reply_to : Classes → PlainObjects → Option ClientRequest → Option Reply
 reply_to classes objects None = None
-reply_to classes objects (Some r) = Some (record { code = (outcome classes objects r).code; output = (outcome classes objects r).output })
+reply_to classes objects (Some r) =
+    Some (record { code = (outcome classes objects r).code; output = (outcome classes objects r).output })
 
 -- The reply of the request at a place: its outcome on the objects that those before it make.
 abbrev pub reply_at : Classes → List ClientRequest → ℕ → Option Reply

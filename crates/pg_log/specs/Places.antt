@@ -1,5 +1,6 @@
 -- The index of a list, which the code keeps: the requests of each client, by rising numbers.
-use Rattle.std.specs.Prelude.{◌≡◌, ℕ, suc, ◌<◌, List, [], ◌∷◌, Option, Some, None, Bool, false, if◌then◌else◌, ◌==◌, ◌||◌, nat_le, Vec, ◌≤◌, length}
+use Rattle.std.specs.Prelude.{◌≡◌, ℕ, suc, ◌<◌, List, [], ◌∷◌, Option, Some, None, Bool, false, if◌then◌else◌, ◌==◌}
+use Rattle.std.specs.Prelude.{◌||◌, nat_le, Vec, ◌≤◌, length}
 use Rattle.std.specs.List.{AllByRecursion}
 use Rattle.std.specs.Ordering.{nat_cmp}
 use Rattle.std.specs.BTreeMap as tree
@@ -9,7 +10,8 @@ use Rattle.pg_log.specs.Requests.{ClientRequest}
 -- number and place of each request of a client, in a list whose first request has the place `at`
 abbrev pub standing_from : ℕ → ℕ → List ClientRequest → List (ℕ × ℕ)
 standing_from client at [] = []
-standing_from client at (r ∷ rs) = if r.client == client then (r.number, at) ∷ standing_from client (suc at) rs else standing_from client (suc at) rs
+standing_from client at (r ∷ rs) =
+    if r.client == client then (r.number, at) ∷ standing_from client (suc at) rs else standing_from client (suc at) rs
 
 -- of a list whose first request has place 0
 abbrev pub standing : ℕ → List ClientRequest → List (ℕ × ℕ)
@@ -50,4 +52,5 @@ HasRoom places list = (client : ℕ) → length (standing client list) ≤ room_
 
 -- no client has less room than before
 abbrev pub RoomStays : Places → Places → Type 0
-RoomStays old new = (client : ℕ) → room_of (tree.get nat_cmp old.by_client client) ≤ room_of (tree.get nat_cmp new.by_client client)
+RoomStays old new =
+    (client : ℕ) → room_of (tree.get nat_cmp old.by_client client) ≤ room_of (tree.get nat_cmp new.by_client client)

@@ -1,10 +1,13 @@
 -- The place of a request in a list, and the reason why one can't be added.
-use Rattle.std.specs.Prelude.{◌≡◌, ℕ, suc, ◌<◌, ◌⊎◌, List, [], ◌∷◌, ◌++◌, Option, Some, None, Result, Ok, Err, Bool, false, if◌then◌else◌, ◌==◌, ◌&&◌, ◌||◌, nat_lt, nat_le, slice_get, length, take, ◌+◌, codes}
+use Rattle.std.specs.Prelude.{◌≡◌, ℕ, suc, ◌<◌, ◌⊎◌, List, [], ◌∷◌, ◌++◌, Option, Some, None, Result, Ok, Err, Bool}
+use Rattle.std.specs.Prelude.{false, if◌then◌else◌, ◌==◌, ◌&&◌, ◌||◌, nat_lt, nat_le, slice_get, length, take, ◌+◌}
+use Rattle.std.specs.Prelude.{codes}
 use Rattle.bpf_decode.specs.Class.{ClassMethod}
 use Rattle.interp.specs.Plain.{method_named}
 use Rattle.pg_log.specs.declared.group.TheConstants.{LOG_LIMIT}
 use Rattle.pg_log.specs.declared.log_error.LogError.{LogError}
-use Rattle.pg_log.specs.declared.log_error.LogError.TheVariants.{LogFull, StaleNumber, NoMemory, NoClass, NoMethod, InputTooLong}
+use Rattle.pg_log.specs.declared.log_error.LogError.TheVariants.{LogFull, StaleNumber, NoMemory, NoClass, NoMethod}
+use Rattle.pg_log.specs.declared.log_error.LogError.TheVariants.{InputTooLong}
 use Rattle.pg_log.specs.Requests.{ClientRequest}
 use Rattle.pg_log.specs.Log.{Classes, CanRun}
 
@@ -92,7 +95,8 @@ or_else None later = later
 -- the first refusal among requests that come after those before them
 abbrev pub first_refusal_from : Classes → List ClientRequest → List ClientRequest → Option LogError
 first_refusal_from classes before [] = None
-first_refusal_from classes before (r ∷ rs) = or_else (refusal classes before r) (first_refusal_from classes (before ++ r ∷ []) rs)
+first_refusal_from classes before (r ∷ rs) =
+    or_else (refusal classes before r) (first_refusal_from classes (before ++ r ∷ []) rs)
 
 -- Why a list can't be run: the refusal of its first request that can't follow those before it.
 abbrev pub first_refusal : Classes → List ClientRequest → Option LogError

@@ -28,5 +28,6 @@ pub record RanAt (classes : Classes) (list : List ClientRequest) (k : ℕ) (r : 
 -- each request of a legal list of safe methods ran at its place
 abbrev pub RepliesRun : Type 0
 RepliesRun =
-    (classes : Classes) (list : List ClientRequest) → AllByRecursion IsClass classes → AllByRecursion IsRequest list → Legal classes list → AreSafe classes list →
+    (classes : Classes) (list : List ClientRequest) → AllByRecursion IsClass classes → AllByRecursion IsRequest list →
+    Legal classes list → AreSafe classes list →
     (k : ℕ) (r : ClientRequest) → slice_get list k ≡ Some r → RanAt classes list k r

@@ -19,4 +19,5 @@ AreWithinLimits objects = (name : List ℕ) → IsObject (map.get objects name)
 
 -- a legal list makes such objects if its classes and requests are within their own limits
 abbrev pub FoldsAreWithinLimits : Type 0
-FoldsAreWithinLimits = (classes : Classes) (list : List ClientRequest) → AllByRecursion IsClass classes → Legal classes list → AllByRecursion IsRequest list → AreWithinLimits (fold classes list)
+FoldsAreWithinLimits = (classes : Classes) (list : List ClientRequest) → AllByRecursion IsClass classes →
+    Legal classes list → AllByRecursion IsRequest list → AreWithinLimits (fold classes list)

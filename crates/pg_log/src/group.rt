@@ -128,7 +128,8 @@ impl<C: Classes> Group<C> {
     pub fn reply_of(&self, client: ClientId, number: RequestNumber) -> Option<(usize, i64, &[u8])>
         ensures { MatchOption result
             (place_of client number self.now ≡ None)
-            (λ r. (place_of client number self.now ≡ Some r.0) × (reply_at C.classes self.now r.0 ≡ Some (record { code = cast_unsigned w64 r.1; output = r.2.now }))) }
+            (λ r. (place_of client number self.now ≡ Some r.0) ×
+            (reply_at C.classes self.now r.0 ≡ Some (record { code = cast_unsigned w64 r.1; output = r.2.now }))) }
     {
         let place = self.log.places.place(client, number)?;
         let (code, output) = self.reply_at(place)?;

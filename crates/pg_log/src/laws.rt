@@ -2,7 +2,10 @@
 //! Each function does nothing.
 ghost use Rattle.std.specs.Prelude.{◌≡◌};
 ghost use Rattle.pg_log.specs.declared.group.TheConstants.{LOG_LIMIT};
-ghost use Rattle.pg_log.specs.Laws.{BeginningsAreLegal, EmptyIsLegal, AppendIsAStep, FoldIsAStep, FoldGoesOn, FoldsStay, UndoingGoesBack, RepliesStay, LastReply, RepliesAreThere, EntriesHaveReplies, PairsStandOnce, PlaceIsThePairs, PlaceHasThePair, ClassesAdded, RefusalsAreExact, ListsAreExact, AdoptingIsReplaying};
+ghost use Rattle.pg_log.specs.Laws.{BeginningsAreLegal, EmptyIsLegal, AppendIsAStep, FoldIsAStep, FoldGoesOn};
+ghost use Rattle.pg_log.specs.Laws.{FoldsStay, UndoingGoesBack, RepliesStay, LastReply, RepliesAreThere};
+ghost use Rattle.pg_log.specs.Laws.{EntriesHaveReplies, PairsStandOnce, PlaceIsThePairs, PlaceHasThePair, ClassesAdded};
+ghost use Rattle.pg_log.specs.Laws.{RefusalsAreExact, ListsAreExact, AdoptingIsReplaying};
 
 /// Every beginning of a legal list is legal, the empty list too; a list with one request more is
 /// legal exactly if the list is and the request may follow it.

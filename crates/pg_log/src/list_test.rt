@@ -43,7 +43,8 @@ fn refusal_after(
     places: &Places,
     request: &Request,
 ) -> Option<LogError>
-    ensures { (list : List ClientRequest) → length list ≡ place → ArePlaces places.now list → NumbersRise list → result ≡ refusal table.now list request.now }
+    ensures { (list : List ClientRequest) → length list ≡ place → ArePlaces places.now list → NumbersRise list →
+        result ≡ refusal table.now list request.now }
 {
     if place >= LOG_LIMIT {
         return Some(LogError::LogFull);

@@ -33,7 +33,8 @@ impl Places {
 
     /// The place of the client's request of that number.
     pub(crate) fn place(&self, client: ClientId, number: RequestNumber) -> Option<usize>
-        ensures { (list : List ClientRequest) → ArePlaces self.now list → NumbersRise list → result ≡ place_of client number list }
+        ensures { (list : List ClientRequest) → ArePlaces self.now list → NumbersRise list →
+            result ≡ place_of client number list }
     {
         match self.by_client.get(&client.get()) {
             Some(requests) => find(requests, number.get()),
@@ -43,7 +44,8 @@ impl Places {
 
     /// True if the client has a request of that number or of a greater one.
     pub(crate) fn is_reached(&self, client: ClientId, number: RequestNumber) -> bool
-        ensures { (list : List ClientRequest) → ArePlaces self.now list → NumbersRise list → result ≡ is_reached client number list }
+        ensures { (list : List ClientRequest) → ArePlaces self.now list → NumbersRise list →
+            result ≡ is_reached client number list }
     {
         match self.by_client.get(&client.get()) {
             Some(requests) => reaches(requests, number.get()),
@@ -64,7 +66,8 @@ impl Places {
             → client ≡ r.client → number ≡ r.number → place ≡ length list → ArePlaces self.new (list ++ r ∷ [])) }
         ensures err { OnErr result ((list : List ClientRequest) → ArePlaces self.old list → ArePlaces self.new list) }
         ensures room { RoomStays self.old self.new }
-        ensures succeeds { length (kept_of (tree.get nat_cmp self.old.by_client client)) < room_of (tree.get nat_cmp self.old.by_client client) → IsOk result }
+        ensures succeeds { length (kept_of (tree.get nat_cmp self.old.by_client client)) < room_of
+            (tree.get nat_cmp self.old.by_client client) → IsOk result }
     {
         let request = (number.get(), place);
         let key = client.get();
@@ -98,7 +101,8 @@ impl Places {
 
     /// Takes back the place of a list's last request.
     pub(crate) fn remove(&mut self, client: ClientId)
-        ensures places { (list : List ClientRequest) (r : ClientRequest) → ArePlaces self.old (list ++ r ∷ []) → client ≡ r.client → ArePlaces self.new list }
+        ensures places { (list : List ClientRequest) (r : ClientRequest) → ArePlaces self.old (list ++ r ∷ []) →
+            client ≡ r.client → ArePlaces self.new list }
         ensures room { RoomStays self.old self.new }
     {
         if let Some(requests) = self.by_client.get_mut(&client.get()) {
@@ -110,7 +114,8 @@ impl Places {
 
     /// Takes back the places of a list's last requests, those of these entries.
     pub(crate) fn take_back(&mut self, entries: &[Entry])
-        ensures places { (list : List ClientRequest) → ArePlaces self.old (list ++ requests_of entries.now) → ArePlaces self.new list }
+        ensures places { (list : List ClientRequest) → ArePlaces self.old (list ++ requests_of entries.now) →
+            ArePlaces self.new list }
         ensures room { RoomStays self.old self.new }
     {
         for back in 0..entries.len() {

@@ -109,7 +109,8 @@ impl Request {
 
     /// True if client, number and class are equal.
     fn has_numbers_of(&self, other: &Request) -> bool
-        ensures { IsTrue result ↔ ((self.now.client ≡ other.now.client) × (self.now.number ≡ other.now.number) × (self.now.class ≡ other.now.class)) }
+        ensures { IsTrue result ↔ ((self.now.client ≡ other.now.client) × (self.now.number ≡ other.now.number) ×
+            (self.now.class ≡ other.now.class)) }
     {
         self.client() == other.client()
             && self.number() == other.number()
@@ -118,7 +119,8 @@ impl Request {
 
     /// True if object, method and input are equal.
     fn has_texts_of(&self, other: &Request) -> bool
-        ensures { IsTrue result ↔ ((self.now.object ≡ other.now.object) × (self.now.method ≡ other.now.method) × (self.now.input ≡ other.now.input)) }
+        ensures { IsTrue result ↔ ((self.now.object ≡ other.now.object) × (self.now.method ≡ other.now.method) ×
+            (self.now.input ≡ other.now.input)) }
     {
         self.object().text() == other.object().text()
             && self.method() == other.method()

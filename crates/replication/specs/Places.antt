@@ -1,5 +1,6 @@
 -- A request at its place in a log, and the length that all logs have.
-use Rattle.std.specs.Prelude.{ℕ, suc, ◌≤◌, List, [], ◌∷◌, ◌++◌, length, Option, Some, None, Result, Ok, Err, nat_lt, min, if◌then◌else◌, ◌==◌}
+use Rattle.std.specs.Prelude.{ℕ, suc, ◌≤◌, List, [], ◌∷◌, ◌++◌, length, Option, Some, None, Result, Ok, Err, nat_lt}
+use Rattle.std.specs.Prelude.{min, if◌then◌else◌, ◌==◌}
 use Rattle.std.specs.List.{All, Contains}
 use Rattle.pg_log.specs.declared.log_error.LogError.{LogError}
 use Rattle.pg_log.specs.Requests.{ClientRequest}

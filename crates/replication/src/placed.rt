@@ -27,7 +27,8 @@ pub fn append_at<C: Classes>(
     requires { IsPrefix table.now C.classes }
     // The answer by the list; want of memory only if the request would be added.
     ensures answer { (result ≡ append_at_answer table.now group.old rep.place rep.request)
-        ⊎ ((result ≡ Err NoMemory) × (rep.place ≡ length group.old) × (refusal table.now group.old rep.request ≡ None)) }
+        ⊎ ((result ≡ Err NoMemory) × (rep.place ≡ length group.old) ×
+        (refusal table.now group.old rep.request ≡ None)) }
     ensures ok { OnOk result (group.new ≡ list_with group.old rep.place rep.request) }
     ensures refused { OnErr result (group.new ≡ group.old) }
 {

@@ -171,7 +171,8 @@ impl<V: Drop> Tree<V> {
 
     /// The tree with an entry. At an error nothing was made.
     fn set(&self, alloc: Global, new: Arc<Entry<V>>) -> Result<Tree<V>, AllocError>
-        ensures { IfOk result (λ t. t.entries ≡ put (slice_cmp nat_cmp) (pair (arc_value new)).0 (pair (arc_value new)).1 self.now.entries) }
+        ensures { IfOk result (λ t. t.entries ≡
+            put (slice_cmp nat_cmp) (pair (arc_value new)).0 (pair (arc_value new)).1 self.now.entries) }
     {
         match &self.root {
             Link::Leaf => joined(alloc, Tree::new(), new, Tree::new()),
@@ -344,8 +345,10 @@ fn once_left<V: Drop>(
     entry: Arc<Entry<V>>,
     right: Tree<V>,
 ) -> Result<Tree<V>, AllocError>
-    requires { IsTrue (sorted ((outer.now.left.entries ++ pair (arc_value outer.now.entry) ∷ outer.now.right.entries) ++ pair (arc_value entry) ∷ right.entries)) }
-    ensures { IfOk result (λ t. t.entries ≡ (outer.now.left.entries ++ pair (arc_value outer.now.entry) ∷ outer.now.right.entries) ++ pair (arc_value entry) ∷ right.entries) }
+    requires { IsTrue (sorted ((outer.now.left.entries ++ pair (arc_value outer.now.entry) ∷ outer.now.right.entries) ++
+        pair (arc_value entry) ∷ right.entries)) }
+    ensures { IfOk result (λ t. t.entries ≡ (outer.now.left.entries ++
+        pair (arc_value outer.now.entry) ∷ outer.now.right.entries) ++ pair (arc_value entry) ∷ right.entries) }
 {
     let high = joined(alloc, outer.right.copy()?, entry, right)?;
     joined(
@@ -364,8 +367,12 @@ fn twice_left<V: Drop>(
     entry: Arc<Entry<V>>,
     right: Tree<V>,
 ) -> Result<Tree<V>, AllocError>
-    requires { IsTrue (sorted ((outer.now.left.entries ++ pair (arc_value outer.now.entry) ∷ (inner.now.left.entries ++ pair (arc_value inner.now.entry) ∷ inner.now.right.entries)) ++ pair (arc_value entry) ∷ right.entries)) }
-    ensures { IfOk result (λ t. t.entries ≡ (outer.now.left.entries ++ pair (arc_value outer.now.entry) ∷ (inner.now.left.entries ++ pair (arc_value inner.now.entry) ∷ inner.now.right.entries)) ++ pair (arc_value entry) ∷ right.entries) }
+    requires { IsTrue
+        (sorted ((outer.now.left.entries ++ pair (arc_value outer.now.entry) ∷ (inner.now.left.entries ++
+        pair (arc_value inner.now.entry) ∷ inner.now.right.entries)) ++ pair (arc_value entry) ∷ right.entries)) }
+    ensures { IfOk result
+        (λ t. t.entries ≡ (outer.now.left.entries ++ pair (arc_value outer.now.entry) ∷ (inner.now.left.entries ++
+        pair (arc_value inner.now.entry) ∷ inner.now.right.entries)) ++ pair (arc_value entry) ∷ right.entries) }
 {
     let high = joined(alloc, inner.right.copy()?, entry, right)?;
     let low = joined(
@@ -411,8 +418,10 @@ fn once_right<V: Drop>(
     entry: Arc<Entry<V>>,
     outer: &Branch<V>,
 ) -> Result<Tree<V>, AllocError>
-    requires { IsTrue (sorted (left.entries ++ pair (arc_value entry) ∷ (outer.now.left.entries ++ pair (arc_value outer.now.entry) ∷ outer.now.right.entries))) }
-    ensures { IfOk result (λ t. t.entries ≡ left.entries ++ pair (arc_value entry) ∷ (outer.now.left.entries ++ pair (arc_value outer.now.entry) ∷ outer.now.right.entries)) }
+    requires { IsTrue (sorted (left.entries ++ pair (arc_value entry) ∷
+        (outer.now.left.entries ++ pair (arc_value outer.now.entry) ∷ outer.now.right.entries))) }
+    ensures { IfOk result (λ t. t.entries ≡ left.entries ++ pair (arc_value entry) ∷
+        (outer.now.left.entries ++ pair (arc_value outer.now.entry) ∷ outer.now.right.entries)) }
 {
     let low = joined(alloc, left, entry, outer.left.copy()?)?;
     joined(
@@ -431,8 +440,12 @@ fn twice_right<V: Drop>(
     inner: &Branch<V>,
     outer: &Branch<V>,
 ) -> Result<Tree<V>, AllocError>
-    requires { IsTrue (sorted (left.entries ++ pair (arc_value entry) ∷ ((inner.now.left.entries ++ pair (arc_value inner.now.entry) ∷ inner.now.right.entries) ++ pair (arc_value outer.now.entry) ∷ outer.now.right.entries))) }
-    ensures { IfOk result (λ t. t.entries ≡ left.entries ++ pair (arc_value entry) ∷ ((inner.now.left.entries ++ pair (arc_value inner.now.entry) ∷ inner.now.right.entries) ++ pair (arc_value outer.now.entry) ∷ outer.now.right.entries)) }
+    requires { IsTrue (sorted (left.entries ++
+        pair (arc_value entry) ∷ ((inner.now.left.entries ++ pair (arc_value inner.now.entry) ∷ inner.now.right.entries)
+        ++ pair (arc_value outer.now.entry) ∷ outer.now.right.entries))) }
+    ensures { IfOk result (λ t. t.entries ≡ left.entries ++
+        pair (arc_value entry) ∷ ((inner.now.left.entries ++ pair (arc_value inner.now.entry) ∷ inner.now.right.entries)
+        ++ pair (arc_value outer.now.entry) ∷ outer.now.right.entries)) }
 {
     let low = joined(alloc, left, entry, inner.left.copy()?)?;
     let high = joined(

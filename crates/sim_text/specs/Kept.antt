@@ -5,7 +5,8 @@ use Rattle.replication.specs.Packed.{Packed}
 use Rattle.group_world.specs.declared.party.Party.{Party}
 use Rattle.group_world.specs.declared.message.MessageKind.TheVariants as sent
 use Rattle.carried.specs.declared.message.CarriedKind.{CarriedKind}
-use Rattle.carried.specs.declared.message.CarriedKind.TheVariants.{Query, Log, Install, Installed, AskActivate, Activated, Rep, Ack, Reply}
+use Rattle.carried.specs.declared.message.CarriedKind.TheVariants.{Query, Log, Install, Installed, AskActivate}
+use Rattle.carried.specs.declared.message.CarriedKind.TheVariants.{Activated, Rep, Ack, Reply}
 use Rattle.carried.specs.declared.message.CarriedMessage.{CarriedMessage}
 use Rattle.sim_text.specs.Texts.{kind_text, word_and_two_numbers, text_between}
 

@@ -1,5 +1,6 @@
 -- The event or question of a line, by its words. Words, numbers, names and bytes are file_words'.
-use Rattle.std.specs.Prelude.{ℕ, ◌-◌, ◌==◌, List, [], ◌∷◌, slice_index, slice_get, Option, Some, None, if◌then◌else◌, codes}
+use Rattle.std.specs.Prelude.{ℕ, ◌-◌, ◌==◌, List, [], ◌∷◌, slice_index, slice_get, Option, Some, None, if◌then◌else◌}
+use Rattle.std.specs.Prelude.{codes}
 use Rattle.std.specs.Option.{option_map, option_and_then, unwrap_or}
 use Rattle.std.specs.Str.{bytes_eq}
 use Rattle.pg_log.specs.Requests.{ClientRequest}
@@ -29,11 +30,21 @@ ids_in client number = option_and_then (λ c. option_map (λ n. (c, n)) (id_in n
 -- less
 abbrev pub request_by : List (List ℕ) → List ℕ → List ℕ → List ℕ → List ℕ → List ℕ → List ℕ → Option ClientRequest
 request_by names client number object class method input =
-    option_and_then (λ ids. option_and_then (λ name. option_map (λ bytes. record { client = ids.0; number = ids.1; object = name; class = class_of 0 names class; method = method; input = bytes }) (bytes_in input)) (object_in object)) (ids_in client number)
+    option_and_then
+    (λ ids. option_and_then (λ name. option_map
+    (λ bytes. record {
+      client = ids.0;
+      number = ids.1;
+      object = name;
+      class = class_of 0 names class;
+      method = method;
+      input = bytes;
+    }) (bytes_in input)) (object_in object)) (ids_in client number)
 
 -- a request of exactly six words
 abbrev pub request_of : List (List ℕ) → List (List ℕ) → Option ClientRequest
-request_of names (client ∷ number ∷ object ∷ class ∷ method ∷ input ∷ []) = request_by names client number object class method input
+request_of names (client ∷ number ∷ object ∷ class ∷ method ∷ input ∷ []) =
+    request_by names client number object class method input
 request_of names _ = None
 
 -- a request at a node, if both are right

@@ -1,5 +1,6 @@
 -- The texts of messages, and of what comes of a line.
-use Rattle.std.specs.Prelude.{ℕ, suc, ◌-◌, ◌==◌, Bool, true, false, List, [], ◌∷◌, ◌++◌, length, drop, if◌then◌else◌, codes}
+use Rattle.std.specs.Prelude.{ℕ, suc, ◌-◌, ◌==◌, Bool, true, false, List, [], ◌∷◌, ◌++◌, length, drop, if◌then◌else◌}
+use Rattle.std.specs.Prelude.{codes}
 use Rattle.std.specs.Fmt.{decimal, signed_decimal}
 use Rattle.std.specs.Int.{w64, cast_signed}
 use Rattle.hex.specs.Hex.{encode_lower}
@@ -10,14 +11,17 @@ use Rattle.group_world.specs.Refusal.{handle_error_text, monitor_error_text}
 use Rattle.group_world.specs.declared.party.Party.{Party}
 use Rattle.group_world.specs.declared.party.Party.TheVariants.{Node as ANode, Monitor as TheMonitor, Client as AClient}
 use Rattle.group_world.specs.declared.message.MessageKind.{MessageKind}
-use Rattle.group_world.specs.declared.message.MessageKind.TheVariants.{Query, Log as LogOf, Install, Installed as InstalledIn, AskActivate, Activated, Rep, Ack, Reply as ReplyTo}
+use Rattle.group_world.specs.declared.message.MessageKind.TheVariants.{Query, Log as LogOf, Install}
+use Rattle.group_world.specs.declared.message.MessageKind.TheVariants.{Installed as InstalledIn, AskActivate, Activated}
+use Rattle.group_world.specs.declared.message.MessageKind.TheVariants.{Rep, Ack, Reply as ReplyTo}
 use Rattle.group_world.specs.declared.message.Packet.{Packet}
 use Rattle.group_world.specs.declared.status.Status.{Status}
 use Rattle.group_world.specs.declared.status.Status.TheVariants.{Out, Waiting, Installed, Asking, Installing, Active}
 use Rattle.sim_text.specs.declared.taken.MapMade.{MapMade}
 use Rattle.sim_text.specs.declared.taken.NodeShown.{NodeShown}
 use Rattle.sim_text.specs.declared.taken.Taken.{Taken}
-use Rattle.sim_text.specs.declared.taken.Taken.TheVariants.{Bad, Skipped, Stopped, Sent, Refused, MonitorRefused, Made, Shown, Again}
+use Rattle.sim_text.specs.declared.taken.Taken.TheVariants.{Bad, Skipped, Stopped, Sent, Refused, MonitorRefused, Made}
+use Rattle.sim_text.specs.declared.taken.Taken.TheVariants.{Shown, Again}
 
 -- MESSAGES
 
@@ -42,7 +46,8 @@ digits_or_dash (digit ∷ digits) = digit ∷ digits
 -- a request's number, its place, the code as a signed number, and the output
 abbrev pub reply_text : ℕ → ℕ → Reply → List ℕ
 reply_text number place answer =
-    codes "Reply " ++ (decimal number ++ (codes " " ++ (decimal place ++ (codes " " ++ (signed_decimal (cast_signed w64 answer.code)
+    codes "Reply " ++
+    (decimal number ++ (codes " " ++ (decimal place ++ (codes " " ++ (signed_decimal (cast_signed w64 answer.code)
     ++ (codes " " ++ digits_or_dash (encode_lower answer.output)))))))
 
 -- what a message says: its kind, its interval, and how long a list is, a place or an acknowledged
@@ -60,7 +65,8 @@ kind_text (ReplyTo client number place answer) = reply_text number place answer
 
 -- a message with its number: `m7 1->2 Rep 1 0`
 abbrev pub text_between : ℕ → Party → Party → List ℕ → List ℕ
-text_between number sender receiver says = codes "m" ++ (decimal number ++ (codes " " ++ (party_text sender ++ (codes "->" ++ (party_text receiver
+text_between number sender receiver says =
+    codes "m" ++ (decimal number ++ (codes " " ++ (party_text sender ++ (codes "->" ++ (party_text receiver
     ++ (codes " " ++ (says ++ codes "\n")))))))
 
 -- of one that was sent
@@ -122,7 +128,8 @@ status_text Active = codes "active"
 
 -- a node: `node 1 epoch 1 active length 1 committed 1`
 abbrev pub node_text : NodeShown → List ℕ
-node_text s = codes "node " ++ (decimal s.node ++ (codes " epoch " ++ (decimal s.interval ++ (codes " " ++ (status_text s.status
+node_text s =
+    codes "node " ++ (decimal s.node ++ (codes " epoch " ++ (decimal s.interval ++ (codes " " ++ (status_text s.status
     ++ (codes " length " ++ (decimal s.length ++ (codes " committed " ++ decimal s.committed))))))))
 
 -- what is said of it in a line, but of messages; of those, and of what is passed over, nothing
@@ -159,4 +166,5 @@ made_of m = record { epoch = m.epoch; interval = m.interval; prev = m.prev }
 
 -- what is shown of node n
 abbrev pub shown_of : ℕ → NodeState → NodeShown
-shown_of n s = record { node = n; interval = s.interval; status = s.status; length = length s.log; committed = s.committed }
+shown_of n s =
+    record { node = n; interval = s.interval; status = s.status; length = length s.log; committed = s.committed }

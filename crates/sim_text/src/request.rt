@@ -34,7 +34,10 @@ fn request_by(
     names: &[&str],
     words: &RequestWords<'_>,
 ) -> Result<Option<Request>, AllocError>
-    ensures { IfOk result (λ r. r ≡ request_by (map (λ n. n.now) names.now) words.now.client.now words.now.number.now words.now.object.now words.now.class.now words.now.method.now words.now.input.now) }
+    ensures { IfOk result
+        (λ r. r ≡ request_by (map (λ n. n.now) names.now)
+        words.now.client.now words.now.number.now words.now.object.now words.now.class.now words.now.method.now
+        words.now.input.now) }
 {
     let Some((client, number)) = ids_in(words.client, words.number) else {
         return Ok(None);

@@ -1,6 +1,7 @@
 //! The text of what comes of a line.
 ghost use Rattle.std.specs.Prelude.{◌≡◌, IfOk, IfSome, string_bytes};
-ghost use Rattle.sim_text.specs.Texts.{again_lines, again_text, map_text, node_text, refused_text, said_text, status_text};
+ghost use Rattle.sim_text.specs.Texts.{again_lines, again_text, map_text, node_text, refused_text, said_text};
+ghost use Rattle.sim_text.specs.Texts.{status_text};
 
 use crate::taken::{MapMade, NodeShown, Taken};
 use group_world::Status;

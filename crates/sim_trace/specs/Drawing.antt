@@ -1,6 +1,8 @@
 -- The drawing of a run: the names of the columns, and then a line for each step. Below a step's
 -- line there is one for each message that the step sent and that no step delivers.
-use Rattle.std.specs.Prelude.{ℕ, zero, suc, ◌+◌, ◌-◌, ◌==◌, min, Bool, true, false, List, [], ◌∷◌, ◌++◌, length, map, Option, Some, None, if◌then◌else◌, slice_get, slice_index_or, slice_set, replicate, codes, string_bytes}
+use Rattle.std.specs.Prelude.{ℕ, zero, suc, ◌+◌, ◌-◌, ◌==◌, min, Bool, true, false, List, [], ◌∷◌, ◌++◌, length, map}
+use Rattle.std.specs.Prelude.{Option, Some, None, if◌then◌else◌, slice_get, slice_index_or, slice_set, replicate, codes}
+use Rattle.std.specs.Prelude.{string_bytes}
 use Rattle.std.specs.List.{list_any, range_with_len, before_first}
 use Rattle.std.specs.Fmt.{decimal}
 use Rattle.sim_trace.specs.Columns.{name, place_of, columns_of}
@@ -38,7 +40,8 @@ stopped_after columns (Resumed column) stopped = slice_set stopped (place_of col
 
 -- a message, drawn from its sender to its receiver
 unfoldable pub message_row : List Column → List Bool → ℕ → Bool → DrawnMessage → List ℕ
-message_row columns stopped number arrives l = arrow_row stopped (place_of l.from columns) (place_of l.to columns) arrives (label number) (long_label number l)
+message_row columns stopped number arrives l =
+    arrow_row stopped (place_of l.from columns) (place_of l.to columns) arrives (label number) (long_label number l)
 
 -- a message that is delivered, and then its text
 abbrev pub delivery : List Column → List Bool → ℕ → Bool → Option DrawnMessage → List ℕ
@@ -49,7 +52,8 @@ delivery columns stopped number arrives (Some l) = message_row columns stopped n
 -- gets to a node that is stopped; a node stops or goes on
 abbrev pub picture : List Column → List DrawnMessage → List Bool → What → List ℕ
 picture columns messages stopped (At column) = mark_row stopped (place_of column columns)
-picture columns messages stopped (Asked client node) = arrow_row stopped (place_of client columns) (place_of node columns) true (codes "req") (codes "req")
+picture columns messages stopped (Asked client node) =
+    arrow_row stopped (place_of client columns) (place_of node columns) true (codes "req") (codes "req")
 picture columns messages stopped (Arrived number) = delivery columns stopped number true (message_at messages number)
 picture columns messages stopped (Bounced number) = delivery columns stopped number false (message_at messages number)
 picture columns messages stopped (Stopped column) = mark_row stopped (place_of column columns)
@@ -66,7 +70,8 @@ sends first (suc k) = codes " =>" ++ numbers_from first (suc k)
 
 -- the line of a step
 abbrev pub step_row : List Column → List DrawnMessage → List Bool → ℕ → ℕ → DrawnStep → List ℕ
-step_row columns messages stopped first count s = picture columns messages stopped s.what ++ string_bytes s.text ++ sends first count ++ codes "\n"
+step_row columns messages stopped first count s =
+    picture columns messages stopped s.what ++ string_bytes s.text ++ sends first count ++ codes "\n"
 
 -- a step delivers the message of that number, or tries to
 abbrev pub names_it : ℕ → What → Bool
@@ -96,7 +101,8 @@ is_client Monitor = false
 -- the line of a message that no step delivers, if there is such a message
 abbrev pub lost_row : List Column → List Bool → ℕ → Option DrawnMessage → List ℕ
 lost_row columns stopped number None = []
-lost_row columns stopped number (Some l) = message_row columns stopped number (is_client l.to) l ++ string_bytes l.text ++ fate l.to
+lost_row columns stopped number (Some l) =
+    message_row columns stopped number (is_client l.to) l ++ string_bytes l.text ++ fate l.to
 
 abbrev pub lost_unless : Bool → List ℕ → List ℕ
 lost_unless has_arrived row = if has_arrived then [] else row
@@ -106,7 +112,8 @@ abbrev pub lost_rows : List Column → List DrawnMessage → List Bool → List 
 lost_rows columns messages stopped arrived first zero = []
 lost_rows columns messages stopped arrived first (suc k) =
     lost_rows columns messages stopped arrived first k
-    ++ lost_unless (slice_index_or arrived (first + k) false) (lost_row columns stopped (first + k + 1) (slice_get messages (first + k)))
+    ++ lost_unless (slice_index_or arrived (first + k) false)
+    (lost_row columns stopped (first + k + 1) (slice_get messages (first + k)))
 
 -- how many messages a step sent, of those that there are from the given one on
 abbrev pub sent_by : List DrawnMessage → ℕ → DrawnStep → ℕ
@@ -118,7 +125,8 @@ rows columns messages arrived stopped first [] = []
 rows columns messages arrived stopped first (s ∷ ss) =
     let count = sent_by messages first s in
     let after = stopped_after columns s.what stopped in
-    step_row columns messages after first count s ++ lost_rows columns messages after arrived first count ++ rows columns messages arrived after (first + count) ss
+    step_row columns messages after first count s ++ lost_rows columns messages after arrived first count ++
+    rows columns messages arrived after (first + count) ss
 
 -- the line of names: each column's name in its cell, and then `event`
 abbrev pub heading : List ℕ → List ℕ
@@ -131,4 +139,5 @@ names (column ∷ columns) = heading (name column) ++ names columns
 
 -- THE DRAWING.
 abbrev pub drawn : List DrawnMessage → List DrawnStep → List ℕ
-drawn messages steps = let columns = columns_of messages steps in names columns ++ rows columns messages (delivered messages steps) (replicate (length columns) false) 0 steps
+drawn messages steps = let columns = columns_of messages steps in names columns ++
+    rows columns messages (delivered messages steps) (replicate (length columns) false) 0 steps

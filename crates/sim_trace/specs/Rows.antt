@@ -1,6 +1,7 @@
 -- The picture of a line: a cell of 12 characters for each column. A cell begins with the column's
 -- bar. A list says for each column whether its node is stopped.
-use Rattle.std.specs.Prelude.{ℕ, zero, suc, ◌-◌, ◌*◌, nat_lt, nat_le, Bool, false, List, [], ◌∷◌, ◌++◌, length, take, drop, slice_index_or, if◌then◌else◌, codes}
+use Rattle.std.specs.Prelude.{ℕ, zero, suc, ◌-◌, ◌*◌, nat_lt, nat_le, Bool, false, List, [], ◌∷◌, ◌++◌, length, take}
+use Rattle.std.specs.Prelude.{drop, slice_index_or, if◌then◌else◌, codes}
 
 -- a text, n times
 abbrev pub repeated : ℕ → List ℕ → List ℕ
@@ -53,9 +54,12 @@ to_itself start head label = start ++ head ++ codes "--" ++ label ++ repeated (r
 abbrev pub arrow_row : List Bool → ℕ → ℕ → Bool → List ℕ → List ℕ → List ℕ
 arrow_row stopped start end arrives short long =
     if nat_lt start end then bars (take start stopped)
-    ++ to_right (bar_at stopped start) (right_head arrives) (12 * (end - start)) (label_on (12 * (end - start)) (right_head arrives) short long)
+    ++ to_right (bar_at stopped start) (right_head arrives) (12 * (end - start))
+    (label_on (12 * (end - start)) (right_head arrives) short long)
     ++ bars (drop end stopped) else
     if nat_lt end start then bars (take end stopped)
-    ++ to_left (bar_at stopped end) (left_head arrives) (12 * (start - end)) (label_on (12 * (start - end)) (left_head arrives) short long)
+    ++ to_left (bar_at stopped end) (left_head arrives) (12 * (start - end))
+    (label_on (12 * (start - end)) (left_head arrives) short long)
     ++ bars (drop start stopped) else
-    bars (take start stopped) ++ to_itself (bar_at stopped start) (left_head arrives) (label_on 12 (left_head arrives) short long) ++ bars (drop 1 (drop start stopped))
+    bars (take start stopped) ++ to_itself (bar_at stopped start) (left_head arrives)
+    (label_on 12 (left_head arrives) short long) ++ bars (drop 1 (drop start stopped))

@@ -24,7 +24,8 @@ pub(crate) fn delivered(
 /// Notes the messages that steps deliver. Nothing is noted yet.
 fn note_all(arrived: &mut [bool], steps: &[DrawnStep])
     requires { (k : ℕ) → k < length arrived.old → slice_index_or arrived.old k false ≡ false }
-    ensures { (k : ℕ) → k < length arrived.old → slice_index_or arrived.new k false ≡ list_any (λ s. names_it (suc k) s.what) steps.now }
+    ensures { (k : ℕ) → k < length arrived.old →
+        slice_index_or arrived.new k false ≡ list_any (λ s. names_it (suc k) s.what) steps.now }
 {
     for step in steps {
         note(arrived, step.what);
@@ -33,7 +34,8 @@ fn note_all(arrived: &mut [bool], steps: &[DrawnStep])
 
 /// Notes the message that a step delivers, if it does.
 fn note(arrived: &mut [bool], what: What)
-    ensures { (k : ℕ) → k < length arrived.old → slice_index_or arrived.new k false ≡ (slice_index_or arrived.old k false || names_it (suc k) what) }
+    ensures { (k : ℕ) → k < length arrived.old →
+        slice_index_or arrived.new k false ≡ (slice_index_or arrived.old k false || names_it (suc k) what) }
 {
     match what {
         What::At(_) => {}
@@ -46,7 +48,8 @@ fn note(arrived: &mut [bool], what: What)
 }
 
 fn note_number(arrived: &mut [bool], number: usize)
-    ensures { (k : ℕ) → k < length arrived.old → slice_index_or arrived.new k false ≡ (slice_index_or arrived.old k false || number == suc k) }
+    ensures { (k : ℕ) → k < length arrived.old →
+        slice_index_or arrived.new k false ≡ (slice_index_or arrived.old k false || number == suc k) }
 {
     // Messages are numbered from 1.
     if 0 < number && number <= arrived.len() {

@@ -1,7 +1,10 @@
 //! The drawing, line by line.
-ghost use Rattle.std.specs.Prelude.{◌≡◌, ◌≤◌, ◌<◌, ◌+◌, ◌++◌, Some, false, length, replicate, slice_get, slice_index_or, OnOk, IfOk, option_copied, string_bytes};
+ghost use Rattle.std.specs.Prelude.{◌≡◌, ◌≤◌, ◌<◌, ◌+◌, ◌++◌, Some, false, length, replicate, slice_get};
+ghost use Rattle.std.specs.Prelude.{slice_index_or, OnOk, IfOk, option_copied, string_bytes};
 ghost use Rattle.sim_trace.specs.Columns.{name};
-ghost use Rattle.sim_trace.specs.Drawing.{message_at, kind, long_label, message_row, delivery, picture, sends, step_row, lost_row, lost_unless, lost_rows, delivered, sent_by, rows, heading, names, drawn};
+ghost use Rattle.sim_trace.specs.Drawing.{message_at, kind, long_label, message_row, delivery, picture, sends};
+ghost use Rattle.sim_trace.specs.Drawing.{step_row, lost_row, lost_unless, lost_rows, delivered, sent_by, rows};
+ghost use Rattle.sim_trace.specs.Drawing.{heading, names, drawn};
 
 use crate::column::Column;
 use crate::columns::{columns_of, place_of};
@@ -63,7 +66,8 @@ fn push_steps(
     messages: &[DrawnMessage],
     steps: &[DrawnStep],
 ) -> Result<(), AllocError>
-    ensures { OnOk result (string_bytes out.new ≡ string_bytes out.old ++ rows columns.now messages.now (delivered messages.now steps.now) (replicate (length columns.now) false) 0 steps.now) }
+    ensures { OnOk result (string_bytes out.new ≡ string_bytes out.old ++ rows columns.now messages.now
+        (delivered messages.now steps.now) (replicate (length columns.now) false) 0 steps.now) }
 {
     let arrived = delivered(alloc, messages, steps)?;
     let mut stopped = vec![in alloc; false; columns.len()]?;
@@ -191,7 +195,8 @@ impl Chart<'_> {
         arrives: bool,
         message: &DrawnMessage,
     ) -> Result<(), AllocError>
-        ensures { OnOk result (string_bytes out.new ≡ string_bytes out.old ++ message_row self.now.columns.now self.now.stopped.now number arrives message.now) }
+        ensures { OnOk result (string_bytes out.new ≡ string_bytes out.old ++
+            message_row self.now.columns.now self.now.stopped.now number arrives message.now) }
     {
         let short = format!(in self.alloc; "m{number}")?;
         let long = long_label(self.alloc, number, message)?;
@@ -212,7 +217,9 @@ impl Chart<'_> {
         number: usize,
         arrives: bool,
     ) -> Result<(), AllocError>
-        ensures { OnOk result (string_bytes out.new ≡ string_bytes out.old ++ delivery self.now.columns.now self.now.stopped.now number arrives (message_at self.now.messages.now number)) }
+        ensures { OnOk result (string_bytes out.new ≡ string_bytes out.old ++
+            delivery self.now.columns.now self.now.stopped.now number arrives
+            (message_at self.now.messages.now number)) }
     {
         match message_at(self.messages, number) {
             Some(message) => self.push_said(out, number, arrives, message),
@@ -227,7 +234,8 @@ impl Chart<'_> {
         arrives: bool,
         message: &DrawnMessage,
     ) -> Result<(), AllocError>
-        ensures { OnOk result (string_bytes out.new ≡ string_bytes out.old ++ delivery self.now.columns.now self.now.stopped.now number arrives (Some message.now)) }
+        ensures { OnOk result (string_bytes out.new ≡ string_bytes out.old ++
+            delivery self.now.columns.now self.now.stopped.now number arrives (Some message.now)) }
     {
         self.push_message(out, number, arrives, message)?;
         out.push_str(message.text.as_str())
@@ -235,7 +243,8 @@ impl Chart<'_> {
 
     /// Appends the picture of a step's event.
     fn push_picture(&self, out: &mut String, what: What) -> Result<(), AllocError>
-        ensures { OnOk result (string_bytes out.new ≡ string_bytes out.old ++ picture self.now.columns.now self.now.messages.now self.now.stopped.now what) }
+        ensures { OnOk result (string_bytes out.new ≡ string_bytes out.old ++
+            picture self.now.columns.now self.now.messages.now self.now.stopped.now what) }
     {
         let columns = self.columns;
         match what {
@@ -264,7 +273,8 @@ impl Chart<'_> {
         number: usize,
         message: &DrawnMessage,
     ) -> Result<(), AllocError>
-        ensures { OnOk result (string_bytes out.new ≡ string_bytes out.old ++ lost_row self.now.columns.now self.now.stopped.now number (Some message.now)) }
+        ensures { OnOk result (string_bytes out.new ≡ string_bytes out.old ++
+            lost_row self.now.columns.now self.now.stopped.now number (Some message.now)) }
     {
         let arrives = message.to.is_client();
         self.push_message(out, number, arrives, message)?;
@@ -275,7 +285,9 @@ impl Chart<'_> {
     /// The message of a place, if no step delivers it.
     fn push_if_lost(&self, out: &mut String, place: usize) -> Result<(), AllocError>
         requires within { place < length self.now.messages.now }
-        ensures { OnOk result (string_bytes out.new ≡ string_bytes out.old ++ lost_unless (slice_index_or self.now.arrived.now place false) (lost_row self.now.columns.now self.now.stopped.now (place + 1) (slice_get self.now.messages.now place))) }
+        ensures { OnOk result (string_bytes out.new ≡ string_bytes out.old ++
+            lost_unless (slice_index_or self.now.arrived.now place false)
+            (lost_row self.now.columns.now self.now.stopped.now (place + 1) (slice_get self.now.messages.now place))) }
     {
         if has_arrived(self.arrived, place) {
             return Ok(());
@@ -288,7 +300,9 @@ impl Chart<'_> {
     /// Of `count` messages from `first` on, those that no step delivers.
     fn push_all_lost(&self, out: &mut String, first: usize, count: usize) -> Result<(), AllocError>
         requires within { first + count ≤ length self.now.messages.now }
-        ensures { OnOk result (string_bytes out.new ≡ string_bytes out.old ++ lost_rows self.now.columns.now self.now.messages.now self.now.stopped.now self.now.arrived.now first count) }
+        ensures { OnOk result (string_bytes out.new ≡ string_bytes out.old ++
+            lost_rows self.now.columns.now self.now.messages.now self.now.stopped.now self.now.arrived.now first
+            count) }
     {
         for k in 0..count {
             self.push_if_lost(out, first + k)?;
@@ -305,7 +319,8 @@ impl Chart<'_> {
         step: &DrawnStep,
     ) -> Result<(), AllocError>
         requires { first + count ≤ length self.now.messages.now }
-        ensures { OnOk result (string_bytes out.new ≡ string_bytes out.old ++ step_row self.now.columns.now self.now.messages.now self.now.stopped.now first count step.now) }
+        ensures { OnOk result (string_bytes out.new ≡ string_bytes out.old ++
+            step_row self.now.columns.now self.now.messages.now self.now.stopped.now first count step.now) }
     {
         self.push_picture(out, step.what)?;
         out.push_str(step.text.as_str())?;

@@ -1,6 +1,7 @@
 //! The picture of a line.
 ghost use Rattle.std.specs.Prelude.{◌≡◌, ◌<◌, ◌-◌, ◌*◌, ◌++◌, take, drop, IfOk, OnOk, string_bytes};
-ghost use Rattle.sim_trace.specs.Rows.{repeated, rest, mark_row, bar_at, right_head, left_head, label_on, to_right, to_left, to_itself, arrow_row};
+ghost use Rattle.sim_trace.specs.Rows.{repeated, rest, mark_row, bar_at, right_head, left_head, label_on, to_right};
+ghost use Rattle.sim_trace.specs.Rows.{to_left, to_itself, arrow_row};
 
 use crate::text::{bar, push_bars, push_repeated};
 use std::alloc::AllocError;
@@ -93,7 +94,8 @@ fn push_rest(
     label: &str,
     filler: &str,
 ) -> Result<(), AllocError>
-    ensures { OnOk result (string_bytes out.new ≡ string_bytes out.old ++ repeated (rest width head.now label.now) filler.now) }
+    ensures { OnOk result (string_bytes out.new ≡ string_bytes out.old ++
+        repeated (rest width head.now label.now) filler.now) }
 {
     let left = width.saturating_sub(3).saturating_sub(head.len());
     push_repeated(out, left.saturating_sub(label.len()), filler)
@@ -144,7 +146,9 @@ fn push_to_itself(out: &mut String, start: &str, head: &str, label: &str) -> Res
 /// An arrow to a column further right.
 fn push_right(out: &mut String, stopped: &[bool], arrow: Arrow<'_>) -> Result<(), AllocError>
     requires { arrow.start < arrow.end }
-    ensures { OnOk result (string_bytes out.new ≡ string_bytes out.old ++ arrow_row stopped.now arrow.entry.start arrow.entry.end arrow.entry.arrives arrow.entry.short.now arrow.entry.long.now) }
+    ensures { OnOk result (string_bytes out.new ≡ string_bytes out.old ++
+        arrow_row stopped.now arrow.entry.start arrow.entry.end arrow.entry.arrives arrow.entry.short.now
+        arrow.entry.long.now) }
 {
     let head = right_head(arrow.arrives);
     let width = width_of(arrow.end - arrow.start)?;
@@ -157,7 +161,9 @@ fn push_right(out: &mut String, stopped: &[bool], arrow: Arrow<'_>) -> Result<()
 /// An arrow to a column further left.
 fn push_left(out: &mut String, stopped: &[bool], arrow: Arrow<'_>) -> Result<(), AllocError>
     requires { arrow.end < arrow.start }
-    ensures { OnOk result (string_bytes out.new ≡ string_bytes out.old ++ arrow_row stopped.now arrow.entry.start arrow.entry.end arrow.entry.arrives arrow.entry.short.now arrow.entry.long.now) }
+    ensures { OnOk result (string_bytes out.new ≡ string_bytes out.old ++
+        arrow_row stopped.now arrow.entry.start arrow.entry.end arrow.entry.arrives arrow.entry.short.now
+        arrow.entry.long.now) }
 {
     let head = left_head(arrow.arrives);
     let width = width_of(arrow.start - arrow.end)?;
@@ -170,7 +176,9 @@ fn push_left(out: &mut String, stopped: &[bool], arrow: Arrow<'_>) -> Result<(),
 /// An arrow from a column to itself.
 fn push_round(out: &mut String, stopped: &[bool], arrow: Arrow<'_>) -> Result<(), AllocError>
     requires { arrow.start ≡ arrow.end }
-    ensures { OnOk result (string_bytes out.new ≡ string_bytes out.old ++ arrow_row stopped.now arrow.entry.start arrow.entry.end arrow.entry.arrives arrow.entry.short.now arrow.entry.long.now) }
+    ensures { OnOk result (string_bytes out.new ≡ string_bytes out.old ++
+        arrow_row stopped.now arrow.entry.start arrow.entry.end arrow.entry.arrives arrow.entry.short.now
+        arrow.entry.long.now) }
 {
     let head = left_head(arrow.arrives);
     push_bars(out, before(stopped, arrow.start))?;
@@ -185,7 +193,9 @@ pub(crate) fn push_arrow(
     stopped: &[bool],
     arrow: Arrow<'_>,
 ) -> Result<(), AllocError>
-    ensures { OnOk result (string_bytes out.new ≡ string_bytes out.old ++ arrow_row stopped.now arrow.entry.start arrow.entry.end arrow.entry.arrives arrow.entry.short.now arrow.entry.long.now) }
+    ensures { OnOk result (string_bytes out.new ≡ string_bytes out.old ++
+        arrow_row stopped.now arrow.entry.start arrow.entry.end arrow.entry.arrives arrow.entry.short.now
+        arrow.entry.long.now) }
 {
     if arrow.start < arrow.end {
         push_right(out, stopped, arrow)

@@ -43,4 +43,5 @@ pub record GoesOn (p : Played) (line : Line) : Type 0 where
 -- which its events lead goes on from there, and is one.
 pub record WorldsAgree : Type 0 where
   pub first : (classes : Classes) → IsAgreedPlayed classes (beginning classes)
-  pub next : (classes : Classes) (p : Played) (line : Line) → EventsLead classes p → IsAgreedPlayed classes (step p line).played × GoesOn p line
+  pub next : (classes : Classes) (p : Played) (line : Line) → EventsLead classes p →
+      IsAgreedPlayed classes (step p line).played × GoesOn p line

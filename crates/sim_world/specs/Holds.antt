@@ -92,4 +92,5 @@ kept_shown k = record { sender = k.message.sender; receiver = k.receiver; text =
 
 -- all messages are shown as they were sent
 abbrev pub AreShown : Classes → Parts → List KeptMessage → Type 0
-AreShown classes parts sent = (p : Played) → Holds classes parts p → map kept_shown sent ≡ map message_shown p.world.sent
+AreShown classes parts sent =
+    (p : Played) → Holds classes parts p → map kept_shown sent ≡ map message_shown p.world.sent

@@ -12,7 +12,8 @@ use Rattle.group_world.specs.declared.message.Packet.{Packet}
 
 -- maps that are equal in each part
 abbrev pub is_same_map : GroupMap → GroupMap → Bool
-is_same_map a b = (a.epoch == b.epoch) && ((a.interval == b.interval) && (is_same_list a.acting b.acting && ((a.prev == b.prev) && is_same_list a.prev_acting b.prev_acting)))
+is_same_map a b = (a.epoch == b.epoch) && ((a.interval == b.interval) &&
+    (is_same_list a.acting b.acting && ((a.prev == b.prev) && is_same_list a.prev_acting b.prev_acting)))
 
 -- lists of equal requests
 abbrev pub are_same_requests : List ClientRequest → List ClientRequest → Bool
@@ -67,7 +68,8 @@ is_same_party (AClient c) other = is_client other c
 
 -- the same receiver, sender and content
 abbrev pub is_same_packet : Packet → Packet → Bool
-is_same_packet p q = is_same_party p.receiver q.receiver && (is_same_party p.message.sender q.message.sender && is_same_kind p.message.kind q.message.kind)
+is_same_packet p q = is_same_party p.receiver q.receiver &&
+    (is_same_party p.message.sender q.message.sender && is_same_kind p.message.kind q.message.kind)
 
 -- The lowest number of an equal message, from a number on; the one past the last if there is
 -- none.

@@ -1,6 +1,7 @@
 -- A line's effect on the world of a group, and its result. The events there, the nodes' steps and
 -- the monitor are group_world's.
-use Rattle.std.specs.Prelude.{ℕ, ◌-◌, nat_lt, Bool, true, false, List, [], ◌∷◌, ◌++◌, length, map, Option, Some, None, if◌then◌else◌, slice_set, slice_index_or, replicate}
+use Rattle.std.specs.Prelude.{ℕ, ◌-◌, nat_lt, Bool, true, false, List, [], ◌∷◌, ◌++◌, length, map, Option, Some, None}
+use Rattle.std.specs.Prelude.{if◌then◌else◌, slice_set, slice_index_or, replicate}
 use Rattle.pg_log.specs.Log.{Classes}
 use Rattle.group_world.specs.Maps.{GroupMap}
 use Rattle.group_world.specs.Node.{Outcome}
@@ -23,7 +24,8 @@ use Rattle.sim_text.specs.Texts.{made_of, shown_of}
 use Rattle.sim_text.specs.declared.line.Line.{Line}
 use Rattle.sim_text.specs.declared.line.Line.TheVariants as lines
 use Rattle.sim_text.specs.declared.taken.Taken.{Taken}
-use Rattle.sim_text.specs.declared.taken.Taken.TheVariants.{Bad, Skipped, Stopped, Sent, Refused, MonitorRefused, Made, Shown, Again}
+use Rattle.sim_text.specs.declared.taken.Taken.TheVariants.{Bad, Skipped, Stopped, Sent, Refused, MonitorRefused, Made}
+use Rattle.sim_text.specs.declared.taken.Taken.TheVariants.{Shown, Again}
 use Rattle.sim_world.specs.Same.{number_of}
 
 -- A PLAYED WORLD: the world of the group, which of the nodes 0 to 15 are stopped, and the events of
@@ -48,7 +50,14 @@ stays p taken = record { played = p; taken = taken }
 
 -- an event happens in the group's world, after those before it
 abbrev pub happened : Played → WorldEvent → Taken → Happened
-happened p event taken = record { played = record { world = happens p.world event; stopped = p.stopped; events = p.events ++ event ∷ [] }; taken = taken }
+happened p event taken = record {
+  played = record {
+    world = happens p.world event;
+    stopped = p.stopped;
+    events = p.events ++ event ∷ [];
+  };
+  taken = taken;
+}
 
 -- AT A NODE. If it is stopped nothing happens; a node that isn't there is bad.
 abbrev pub is_node : Played → ℕ → Bool
@@ -74,7 +83,8 @@ unless_refused p event o (Some why) = stays p (Refused why)
 
 -- what comes to node n
 abbrev pub at_node : Played → WorldEvent → ℕ → Event → Happened
-at_node p event n coming = let o = outcome_at p.world n coming in unless_stopped p n (unless_refused p event o o.refusal)
+at_node p event n coming = let o =
+    outcome_at p.world n coming in unless_stopped p n (unless_refused p event o o.refusal)
 
 -- AT THE MONITOR.
 abbrev pub makes : Played → List ℕ → Option MonitorError → Happened
@@ -111,7 +121,10 @@ see p n number (Some m) = at_node p (MapSeen n (number - 1)) n (AMap m)
 -- messages what it would send again.
 abbrev pub set_stopped : Played → ℕ → Bool → Happened
 set_stopped p n b = if is_node p n
-    then record { played = record { world = p.world; stopped = slice_set p.stopped n b; events = p.events }; taken = Sent 0 } else stays p Bad
+    then record {
+      played = record { world = p.world; stopped = slice_set p.stopped n b; events = p.events };
+      taken = Sent 0;
+    } else stays p Bad
 
 -- a node is shown
 abbrev pub show : Played → ℕ → Happened

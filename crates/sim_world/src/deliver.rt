@@ -4,7 +4,8 @@ ghost use Rattle.carried.specs.Carried.{message_of};
 ghost use Rattle.group_world.specs.Monitor.{activation_refusal};
 ghost use Rattle.group_world.specs.World.{activated_for};
 ghost use Rattle.sim_text.specs.Lines.{numbered};
-ghost use Rattle.sim_world.specs.inner.Parts.{activated, asked_of, at_monitor, delivered, delivered_at, delivery_of, nth_node};
+ghost use Rattle.sim_world.specs.inner.Parts.{activated, asked_of, at_monitor, delivered, delivered_at, delivery_of};
+ghost use Rattle.sim_world.specs.inner.Parts.{nth_node};
 
 use crate::keeping::keep;
 use crate::kept::KeptMessage;
@@ -105,7 +106,8 @@ fn delivery_of<C: Classes>(
 impl<C: Classes> Parts<C> {
     /// The monitor is asked to activate an interval, and says so if it does.
     fn activate(&mut self, asker: Party, interval: Epoch) -> Result<Taken, AllocError>
-        ensures { IfOk result (λ t. record { parts = self.new; taken = t } ≡ activated self.old asker interval (activation_refusal self.old.monitor interval)) }
+        ensures { IfOk result (λ t. record { parts = self.new; taken = t } ≡
+            activated self.old asker interval (activation_refusal self.old.monitor interval)) }
     {
         match self.monitor.activate(interval) {
             Ok(()) => {
@@ -143,7 +145,8 @@ impl<C: Classes> Parts<C> {
     /// The message of a number is delivered.
     pub(crate) fn deliver(&mut self, table: &ClassTable, number: u64) -> Result<Taken, AllocError>
         requires { table.now ≡ C.classes }
-        ensures { IfOk result (λ t. record { parts = self.new; taken = t } ≡ delivered_at table.now self.old (numbered self.old.sent number)) }
+        ensures { IfOk result (λ t. record { parts = self.new; taken = t } ≡
+            delivered_at table.now self.old (numbered self.old.sent number)) }
     {
         match numbered(self.sent.items(), number) {
             Some(kept) => {

@@ -3,7 +3,9 @@ ghost use Rattle.group_world.specs.Monitor.{map_refusal};
 ghost use Rattle.group_world.specs.Rules.{local_step};
 ghost use Rattle.sim_text.specs.Lines.{numbered};
 ghost use Rattle.sim_text.specs.Texts.{made_of, shown_of};
-ghost use Rattle.sim_world.specs.inner.Parts.{Turn, first_parts, fresh_nodes, turn, has_node, has_stopped, seen, shown, arrives, map_made, stop_set, sent_again, resent, unless_held, handled, kept_taken, IsTaken};
+ghost use Rattle.sim_world.specs.inner.Parts.{Turn, first_parts, fresh_nodes, turn, has_node, has_stopped, seen, shown};
+ghost use Rattle.sim_world.specs.inner.Parts.{arrives, map_made, stop_set, sent_again, resent, unless_held, handled};
+ghost use Rattle.sim_world.specs.inner.Parts.{kept_taken, IsTaken};
 
 use crate::keeping::keep_sent;
 use crate::kept::KeptMessage;
@@ -141,7 +143,8 @@ fn take_event<C: Classes>(
     event: Event,
 ) -> Result<Result<Messages, HandleError>, AllocError>
     requires { table.now ≡ C.classes }
-    ensures { IfOk result (λ taken. IsTaken node.old node.new taken (local_step table.now node.old.number node.old.state event)) }
+    ensures { IfOk result
+        (λ taken. IsTaken node.old node.new taken (local_step table.now node.old.number node.old.state event)) }
 {
     // Its log is legal; the call does nothing.
     let _ = node.group().entries();
@@ -215,7 +218,8 @@ impl<C: Classes> Parts<C> {
 
     /// The monitor makes a map.
     fn make_map(&mut self, acting: &[NodeId]) -> Result<Taken, AllocError>
-        ensures { IfOk result (λ t. record { parts = self.new; taken = t } ≡ map_made self.old acting.now (map_refusal self.old.monitor acting.now)) }
+        ensures { IfOk result (λ t. record { parts = self.new; taken = t } ≡
+            map_made self.old acting.now (map_refusal self.old.monitor acting.now)) }
     {
         match self.monitor.new_map(acting) {
             Ok(map) => {
@@ -231,7 +235,8 @@ impl<C: Classes> Parts<C> {
     /// A node learns a map.
     fn see(&mut self, table: &ClassTable, node: NodeId, epoch: u64) -> Result<Taken, AllocError>
         requires { table.now ≡ C.classes }
-        ensures { IfOk result (λ t. record { parts = self.new; taken = t } ≡ seen table.now self.old node (numbered self.old.maps epoch)) }
+        ensures { IfOk result (λ t. record { parts = self.new; taken = t } ≡
+            seen table.now self.old node (numbered self.old.maps epoch)) }
     {
         match numbered(&self.maps, epoch) {
             Some(map) => {

@@ -1,7 +1,8 @@
 //! Compares messages, of the kinds that are sent again.
 ghost use Rattle.std.specs.Prelude.{◌≡◌, map, IfOk};
 ghost use Rattle.sim_world.specs.Same.{is_same_map, are_same_requests, is_same_party};
-ghost use Rattle.sim_world.specs.inner.Buckets.{again_number, is_query, is_install, is_ask, is_rep, is_same_carried, is_same_kept};
+ghost use Rattle.sim_world.specs.inner.Buckets.{again_number, is_query, is_install, is_ask, is_rep, is_same_carried};
+ghost use Rattle.sim_world.specs.inner.Buckets.{is_same_kept};
 
 use crate::kept::KeptMessage;
 use crate::sent::Sent;

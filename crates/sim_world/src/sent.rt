@@ -1,5 +1,6 @@
 //! The messages that were sent.
-ghost use Rattle.std.specs.Prelude.{◌≡◌, ◌≤◌, ◌<◌, ◌++◌, ◌∷◌, [], length, suc, IfOk, OnOk, OnErr, slice_index_or, slice_set};
+ghost use Rattle.std.specs.Prelude.{◌≡◌, ◌≤◌, ◌<◌, ◌++◌, ◌∷◌, [], length, suc, IfOk, OnOk, OnErr, slice_index_or};
+ghost use Rattle.std.specs.Prelude.{slice_set};
 ghost use Rattle.sim_text.specs.Lines.{numbered};
 ghost use Rattle.sim_world.specs.inner.Buckets.{AreInBuckets, bucket, first_equal, is_equal_to, kept_number};
 
@@ -49,7 +50,8 @@ fn fresh_buckets(alloc: Global) -> Result<Vec<Numbers>, AllocError>
 /// Puts a number into a bucket.
 fn put(buckets: &mut Vec<Numbers>, at: usize, number: usize) -> Result<(), AllocError>
     requires { at < length buckets.old.items }
-    ensures ok { OnOk result (buckets.new.items ≡ slice_set buckets.old.items at (slice_index_or buckets.old.items at [] ++ number ∷ [])) }
+    ensures ok { OnOk result (buckets.new.items ≡
+        slice_set buckets.old.items at (slice_index_or buckets.old.items at [] ++ number ∷ [])) }
     ensures err { OnErr result (buckets.new.items ≡ buckets.old.items) }
 {
     buckets[at].push(number)

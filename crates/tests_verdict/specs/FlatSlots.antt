@@ -18,4 +18,6 @@ slot_numbers (suc n) bytes = Some (le_value (take 8 bytes)) ∷ slot_numbers n (
 -- held offset.
 abbrev pub FlatSlotsHold : Type 0
 FlatSlotsHold =
-    (lay : Layout) (kinds : List PlainKind) (count : ℕ) (m : TypedMemory) → HoldsEach kinds (slot_values count m.stack) → HoldsFlatEach (base lay) kinds (slot_numbers count (image_memory lay m).stack)
+    (lay : Layout) (kinds : List PlainKind) (count : ℕ) (m : TypedMemory) →
+    HoldsEach kinds (slot_values count m.stack) →
+    HoldsFlatEach (base lay) kinds (slot_numbers count (image_memory lay m).stack)

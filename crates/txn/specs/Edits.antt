@@ -1,6 +1,7 @@
 -- Edits of an object: what each does, which is a call of object_store, and how it is written. And
 -- which edits a call on a staged object leaves in its list.
-use Rattle.std.specs.Prelude.{ℕ, true, ◌==◌, ◌≤◌, List, [], ◌∷◌, ◌++◌, Option, Some, None, Result, Ok, Err, if◌then◌else◌, length}
+use Rattle.std.specs.Prelude.{ℕ, true, ◌==◌, ◌≤◌, List, [], ◌∷◌, ◌++◌, Option, Some, None, Result, Ok, Err}
+use Rattle.std.specs.Prelude.{if◌then◌else◌, length}
 use Rattle.std.specs.List.{flat_map}
 use Rattle.byteorder.specs.Endian.{little_bytes}
 use Rattle.object_store.specs.Object.{Content, PlainObject}
@@ -39,7 +40,8 @@ edited (SetLength len) o = there (calls.truncate o len)
 edited (Write at text) o = there (calls.write o at text)
 
 -- the rest of a list, once the first edit gave this
-abbrev pub and_then : Result PlainObject StoreError → (PlainObject → Result PlainObject StoreError) → Result PlainObject StoreError
+abbrev pub and_then : Result PlainObject StoreError → (PlainObject → Result PlainObject StoreError) →
+    Result PlainObject StoreError
 and_then (Ok o) rest = rest o
 and_then (Err e) rest = Err e
 

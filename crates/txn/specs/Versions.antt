@@ -12,7 +12,8 @@ pub record Versions : Type 0 where
 -- as these two
 abbrev pub versions_code : Coded Versions
 versions_code =
-    code_by (PlainObject × PlainObject) (coded× (coded_option content_code) (coded_option content_code)) (λ v. (v.before, v.after)) (λ p. record { before = p.0; after = p.1 }) (λ _. refl)
+    code_by (PlainObject × PlainObject) (coded× (coded_option content_code) (coded_option content_code))
+    (λ v. (v.before, v.after)) (λ p. record { before = p.0; after = p.1 }) (λ _. refl)
 
 -- The same while calls change it, and the bytes of the list of their edits; none where no list is
 -- kept.
@@ -23,7 +24,9 @@ pub record StagedObject : Type 0 where
 
 abbrev pub staged_code : Coded StagedObject
 staged_code =
-    code_by (PlainObject × (PlainObject × Option (List ℕ))) (coded× (coded_option content_code) (coded× (coded_option content_code) (coded_option (coded_list coded_ℕ)))) (λ s. (s.before, (s.after, s.list))) (λ p. record { before = p.0; after = p.1.0; list = p.1.1 }) (λ _. refl)
+    code_by (PlainObject × (PlainObject × Option (List ℕ)))
+    (coded× (coded_option content_code) (coded× (coded_option content_code) (coded_option (coded_list coded_ℕ))))
+    (λ s. (s.before, (s.after, s.list))) (λ p. record { before = p.0; after = p.1.0; list = p.1.1 }) (λ _. refl)
 
 -- the object that a change makes
 abbrev pub made : Result Content StoreError → Result PlainObject StoreError

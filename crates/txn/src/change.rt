@@ -165,7 +165,8 @@ pub fn undo(
     ensures ok { OnOk result (objects.new ≡ stored objects.old name.now change.now.before) }
     ensures stands { OnOk result (fin.get objects.new name.now ≡ change.now.before) }
     // `was`: the objects before `apply`, which made the present ones of them.
-    ensures restored { OnOk result ((was : PlainObjects) → fin.get was name.now ≡ change.now.before → objects.old ≡ stored was name.now change.now.after → objects.new ≡ was) }
+    ensures restored { OnOk result ((was : PlainObjects) → fin.get was name.now ≡ change.now.before →
+        objects.old ≡ stored was name.now change.now.after → objects.new ≡ was) }
     ensures err { OnErr result (objects.new ≡ objects.old) }
 {
     // The change shares the object before it, so undoing copies no object.

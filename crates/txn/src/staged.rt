@@ -3,7 +3,8 @@ ghost use Rattle.std.specs.Option.{option_copied};
 ghost use Rattle.object_store.specs.Object.{Content, content_of};
 ghost use Rattle.object_store.specs.Calls as spec;
 ghost use Rattle.object_store.specs.Returned.{Gives};
-ghost use Rattle.txn.specs.Edits.{Create, SetXattr, RemoveXattr, SetKey, RemoveKey, SetLength, created, creating, write_edits, removed, noted};
+ghost use Rattle.txn.specs.Edits.{Create, SetXattr, RemoveXattr, SetKey, RemoveKey, SetLength, created, creating};
+ghost use Rattle.txn.specs.Edits.{write_edits, removed, noted};
 ghost use Rattle.txn.specs.Staging.{AreShort, creation, edits_of, kept};
 ghost use Rattle.txn.specs.Versions.{made};
 
@@ -118,7 +119,8 @@ impl<'a> Staged<'a> {
     pub fn set_xattr(&mut self, alloc: Global, name: &[u8], value: &[u8]) -> Result<(), StoreError>
         ensures before { self.new.before ≡ self.old.before }
         ensures answer { Gives (λ _. self.new.after) result (made (spec.set_xattr self.old.after name.now value.now)) }
-        ensures list { OnOk result (self.new.list ≡ noted (creating self.old.after (SetXattr name.now value.now)) self.old.list) }
+        ensures list { OnOk result (self.new.list ≡
+            noted (creating self.old.after (SetXattr name.now value.now)) self.old.list) }
         ensures refused { OnErr result (self.new ≡ self.old) }
     {
         let object = calls::set_xattr(alloc, self.object(), name, value)?;
@@ -141,7 +143,8 @@ impl<'a> Staged<'a> {
     pub fn set_key(&mut self, alloc: Global, key: &[u8], value: &[u8]) -> Result<(), StoreError>
         ensures before { self.new.before ≡ self.old.before }
         ensures answer { Gives (λ _. self.new.after) result (made (spec.set_key self.old.after key.now value.now)) }
-        ensures list { OnOk result (self.new.list ≡ noted (creating self.old.after (SetKey key.now value.now)) self.old.list) }
+        ensures list { OnOk result (self.new.list ≡
+            noted (creating self.old.after (SetKey key.now value.now)) self.old.list) }
         ensures refused { OnErr result (self.new ≡ self.old) }
     {
         let object = calls::set_key(alloc, self.object(), key, value)?;
@@ -166,7 +169,8 @@ impl<'a> Staged<'a> {
         requires { AreShort edit }
         ensures before { self.new.before ≡ self.old.before }
         ensures after { OnOk result (self.new.after ≡ Some object) }
-        ensures list { OnOk result (self.new.list ≡ noted (created self.old.after ++ edits_of edit.entry) self.old.list) }
+        ensures list { OnOk result (self.new.list ≡
+            noted (created self.old.after ++ edits_of edit.entry) self.old.list) }
         ensures refused { OnErr result (self.new ≡ self.old) }
         ensures want { OnErr result (result ≡ Err StoreError.NoMemory) }
     {

@@ -1,5 +1,6 @@
 -- The number that a call leaves in register 0, by the kinds before it.
-use Rattle.std.specs.Prelude.{ℕ, pos, ◌+◌, ◌^◌, ◌-ℤ◌, List, [], ◌∷◌, Option, Some, None, if◌then◌else◌, min, nat_lt, unwrap_or}
+use Rattle.std.specs.Prelude.{ℕ, pos, ◌+◌, ◌^◌, ◌-ℤ◌, List, [], ◌∷◌, Option, Some, None, if◌then◌else◌, min, nat_lt}
+use Rattle.std.specs.Prelude.{unwrap_or}
 use Rattle.std.specs.Option.{option_map}
 use Rattle.bpf_decode.specs.declared.insn.Insn.{Insn}
 use Rattle.bpf_decode.specs.declared.rule_set.RuleSet.{RuleSet}
@@ -61,7 +62,8 @@ answers_to precision errno (Some n) =
 abbrev pub ranged_answer : Precision → PlainFrame → Option Takes → Option AnswerRange → Plain
 ranged_answer precision f None range = any
 ranged_answer precision f (Some takes) None = any
-ranged_answer precision f (Some takes) (Some range) = answers_to precision range.errno (most_of f takes.arguments range.most)
+ranged_answer precision f (Some takes) (Some range) =
+    answers_to precision range.errno (most_of f takes.arguments range.most)
 
 -- in rule sets 1 and 2 every number
 abbrev pub helper_answer : RuleSet → PlainFrame → ℕ → Plain

@@ -3,7 +3,8 @@
 use Rattle.std.specs.Prelude.{ℕ, Option, Some, None}
 use Rattle.bpf_decode.specs.declared.insn.Operand.TheVariants.{Register}
 use Rattle.bpf_decode.specs.declared.insn.Insn.{Insn}
-use Rattle.bpf_decode.specs.declared.insn.Insn.TheVariants.{Alu, Neg, Mov, MovSigned, End, LoadWide, Load, LoadSigned, Store, Jump, JumpLong, Branch, Call, CallLocal, Exit}
+use Rattle.bpf_decode.specs.declared.insn.Insn.TheVariants.{Alu, Neg, Mov, MovSigned, End, LoadWide, Load, LoadSigned}
+use Rattle.bpf_decode.specs.declared.insn.Insn.TheVariants.{Store, Jump, JumpLong, Branch, Call, CallLocal, Exit}
 use Rattle.bpf_decode.specs.Instruction.{byte_count, signed_byte_count}
 use Rattle.verifier.specs.declared.facets.Goes.{Goes}
 use Rattle.verifier.specs.declared.facets.Goes.TheVariants as goes
@@ -96,9 +97,12 @@ touches_of (Mov bits dst source) = touches.Nothing
 touches_of (MovSigned extension dst src) = touches.Nothing
 touches_of (End order width dst) = touches.Nothing
 touches_of (LoadWide dst value) = touches.Nothing
-touches_of (Load width dst base offset) = touches.Loads (record { base = base; offset = offset; bytes = byte_count width })
-touches_of (LoadSigned width dst base offset) = touches.Loads (record { base = base; offset = offset; bytes = signed_byte_count width })
-touches_of (Store width base offset source) = touches.Stores (record { base = base; offset = offset; bytes = byte_count width }) source
+touches_of (Load width dst base offset) =
+    touches.Loads (record { base = base; offset = offset; bytes = byte_count width })
+touches_of (LoadSigned width dst base offset) =
+    touches.Loads (record { base = base; offset = offset; bytes = signed_byte_count width })
+touches_of (Store width base offset source) =
+    touches.Stores (record { base = base; offset = offset; bytes = byte_count width }) source
 touches_of (Jump offset) = touches.Nothing
 touches_of (JumpLong distance) = touches.Nothing
 touches_of (Branch bits comparison dst source offset) = touches.Nothing

@@ -34,7 +34,8 @@ known_links Three = 75
 
 -- what is known as a method begins
 abbrev pub entry : RuleSet → Caps → PlainFrame
-entry rules caps = entry_frame (precision_of rules) caps.in_cap (size caps Stack) (known_slots rules) (known_links rules)
+entry rules caps =
+    entry_frame (precision_of rules) caps.in_cap (size caps Stack) (known_slots rules) (known_links rules)
 
 -- regions of bytes, a stack of 64 slots, of which all but the first ones, that many, are numbers
 pub record IsMemory (known : ℕ) (m : TypedMemory) : Type 0 where

@@ -3,7 +3,10 @@ use Rattle.std.specs.Prelude.{ℕ, List, ◌++◌, codes}
 use Rattle.std.specs.Fmt.{decimal}
 use Rattle.verifier.specs.declared.refusal.Refusal.{Refusal}
 use Rattle.verifier.specs.declared.rule.Rule.{Rule}
-use Rattle.verifier.specs.declared.rule.Rule.TheVariants.{Backward, Target, FallsOff, LocalCall, UnsetRead, WritesR10, PointerArithmetic, PointerCompare, PointerStored, Bounds, ReadOnlyRegion, UnknownHelper, HelperArgument, WriteHelperInReader, ReturnsPointer, NoMemory, PointerBytes}
+use Rattle.verifier.specs.declared.rule.Rule.TheVariants.{Backward, Target, FallsOff, LocalCall, UnsetRead, WritesR10}
+use Rattle.verifier.specs.declared.rule.Rule.TheVariants.{PointerArithmetic, PointerCompare, PointerStored, Bounds}
+use Rattle.verifier.specs.declared.rule.Rule.TheVariants.{ReadOnlyRegion, UnknownHelper, HelperArgument}
+use Rattle.verifier.specs.declared.rule.Rule.TheVariants.{WriteHelperInReader, ReturnsPointer, NoMemory, PointerBytes}
 
 -- the numbers of the rules
 abbrev pub rule_number : Rule → ℕ

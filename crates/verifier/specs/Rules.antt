@@ -1,5 +1,6 @@
 -- The rules: which instructions are refused, and where.
-use Rattle.std.specs.Prelude.{ℕ, ℤ, ◌+◌, List, [], ◌∷◌, Option, Some, None, Bool, true, false, if◌then◌else◌, ◌==◌, ◌&&◌, ◌||◌, not, nat_le, is_some}
+use Rattle.std.specs.Prelude.{ℕ, ℤ, ◌+◌, List, [], ◌∷◌, Option, Some, None, Bool, true, false, if◌then◌else◌, ◌==◌}
+use Rattle.std.specs.Prelude.{◌&&◌, ◌||◌, not, nat_le, is_some}
 use Rattle.std.specs.Int.{is_negative}
 use Rattle.bpf_decode.specs.declared.insn.Operand.{Operand}
 use Rattle.bpf_decode.specs.declared.insn.Operand.TheVariants.{Immediate, Register}
@@ -14,7 +15,10 @@ use Rattle.helpers.specs.Effect.{Takes}
 use Rattle.helpers.specs.Table.{signature_of}
 use Rattle.bpf_machine.specs.Typed.{extended, fetch}
 use Rattle.verifier.specs.declared.rule.Rule.{Rule}
-use Rattle.verifier.specs.declared.rule.Rule.TheVariants.{Backward, Target, FallsOff, LocalCall, UnsetRead, WritesR10, PointerArithmetic, PointerCompare, PointerStored, Bounds, ReadOnlyRegion, UnknownHelper, HelperArgument, WriteHelperInReader, ReturnsPointer, PointerBytes}
+use Rattle.verifier.specs.declared.rule.Rule.TheVariants.{Backward, Target, FallsOff, LocalCall, UnsetRead, WritesR10}
+use Rattle.verifier.specs.declared.rule.Rule.TheVariants.{PointerArithmetic, PointerCompare, PointerStored, Bounds}
+use Rattle.verifier.specs.declared.rule.Rule.TheVariants.{ReadOnlyRegion, UnknownHelper, HelperArgument}
+use Rattle.verifier.specs.declared.rule.Rule.TheVariants.{WriteHelperInReader, ReturnsPointer, PointerBytes}
 use Rattle.verifier.specs.declared.facets.Access.{Access}
 use Rattle.verifier.specs.declared.facets.Callee.{Callee}
 use Rattle.verifier.specs.declared.facets.Callee.TheVariants as callee
@@ -34,7 +38,8 @@ use Rattle.abstract_regs.specs.declared.content.Content.TheVariants.{Nothing, Po
 use Rattle.abstract_regs.specs.Slots.{stack_place, stack_range, access_span, meets}
 use Rattle.verifier.specs.Facets.{goes_of, writes_of, reads_of, uses_of, touches_of, callee_of}
 use Rattle.verifier.specs.Frame.{precision_of}
-use Rattle.verifier.specs.Kind.{alu_refused, mov_refused, stays, is_read_only, is_at_most, range_leaves, range_is_read_only}
+use Rattle.verifier.specs.Kind.{alu_refused, mov_refused, stays, is_read_only, is_at_most, range_leaves}
+use Rattle.verifier.specs.Kind.{range_is_read_only}
 use Rattle.abstract_regs.specs.Frame.{PlainFrame, kind_at, operand_kind, kept_kind}
 use Rattle.abstract_regs.specs.Flow.{target}
 
@@ -42,7 +47,8 @@ use Rattle.abstract_regs.specs.Flow.{target}
 -- does, may touch a slot of which nothing is known, or one with a pointer.
 abbrev pub load_meets : RuleSet → Content → Caps → PlainFrame → PlainKind → ℕ → ℕ → Bool
 load_meets rules content caps f x distance w =
-    meets content (access_span (stack_place (precision_of rules) x distance) w) 0 f.slots && stays (precision_of rules) caps x distance w
+    meets content (access_span (stack_place (precision_of rules) x distance) w) 0 f.slots &&
+    stays (precision_of rules) caps x distance w
 
 -- the same of a helper's range
 abbrev pub range_meets : Content → Caps → PlainFrame → PlainKind → PlainKind → Bool
@@ -102,7 +108,8 @@ takes_of rules helper = if nat_le helper (last_helper rules) then signature_of h
 abbrev pub has_fault : Caps → PlainFrame → Fault → Argument → ℕ → Bool
 has_fault caps f NotSet Number k = is_unset (kind_at f k)
 has_fault caps f NotSet OutputLength k = is_unset (kind_at f k)
-has_fault caps f NotSet Readable k = (is_unset (kind_at f k) || is_unset (kind_at f (k + 1))) || range_meets Nothing caps f (kind_at f k) (kind_at f (k + 1))
+has_fault caps f NotSet Readable k = (is_unset (kind_at f k) || is_unset (kind_at f (k + 1))) ||
+    range_meets Nothing caps f (kind_at f k) (kind_at f (k + 1))
 has_fault caps f NotSet Writable k = is_unset (kind_at f k) || is_unset (kind_at f (k + 1))
 has_fault caps f OutOfRegion Number k = false
 has_fault caps f OutOfRegion OutputLength k = false
@@ -261,18 +268,21 @@ stored_pointer rules f (touches.Stores a (Register src)) = is_ptr (kind_at f src
 -- a load may touch a slot of the stack that is unset,
 abbrev pub loads_unset : RuleSet → Caps → PlainFrame → Touches → Bool
 loads_unset rules caps f touches.Nothing = false
-loads_unset rules caps f (touches.Loads a) = load_meets rules Nothing caps f (kind_at f a.base) (extended a.offset) a.bytes
+loads_unset rules caps f (touches.Loads a) =
+    load_meets rules Nothing caps f (kind_at f a.base) (extended a.offset) a.bytes
 loads_unset rules caps f (touches.Stores a x) = false
 
 -- a load that isn't one whole known slot may touch a pointer in the stack
 abbrev pub loads_pointer : RuleSet → Caps → PlainFrame → Touches → Bool
 loads_pointer rules caps f touches.Nothing = false
-loads_pointer rules caps f (touches.Loads a) = not (is_slot rules f a) && load_meets rules Pointer caps f (kind_at f a.base) (extended a.offset) a.bytes
+loads_pointer rules caps f (touches.Loads a) =
+    not (is_slot rules f a) && load_meets rules Pointer caps f (kind_at f a.base) (extended a.offset) a.bytes
 loads_pointer rules caps f (touches.Stores a x) = false
 
 -- The rules of the frame.
 abbrev pub reads_unset : RuleSet → Caps → PlainFrame → Insn → Bool
-reads_unset rules caps f i = unset_among f (reads_of i) || (loads_unset rules caps f (touches_of i) || asks rules caps f NotSet (callee_of i))
+reads_unset rules caps f i =
+    unset_among f (reads_of i) || (loads_unset rules caps f (touches_of i) || asks rules caps f NotSet (callee_of i))
 
 -- register 10 as the destination
 abbrev pub writes_r10 : Insn → Bool
@@ -359,7 +369,8 @@ shape_rules = Backward ∷ Target ∷ FallsOff ∷ LocalCall ∷ []
 
 abbrev pub frame_rules : List Rule
 frame_rules =
-    UnsetRead ∷ WritesR10 ∷ PointerArithmetic ∷ PointerCompare ∷ PointerStored ∷ Bounds ∷ ReadOnlyRegion ∷ UnknownHelper ∷ HelperArgument ∷ WriteHelperInReader ∷ ReturnsPointer ∷ PointerBytes ∷ []
+    UnsetRead ∷ WritesR10 ∷ PointerArithmetic ∷ PointerCompare ∷ PointerStored ∷ Bounds ∷ ReadOnlyRegion ∷
+    UnknownHelper ∷ HelperArgument ∷ WriteHelperInReader ∷ ReturnsPointer ∷ PointerBytes ∷ []
 
 -- the first rule of a list that a test finds broken
 abbrev pub first_broken : (Rule → Bool) → List Rule → Option Rule

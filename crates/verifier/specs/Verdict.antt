@@ -1,5 +1,6 @@
 -- The table of frames of a method, and the verdict on a class.
-use Rattle.std.specs.Prelude.{◌≡◌, ◌≢◌, ℕ, zero, suc, ◌+◌, ◌<◌, List, [], ◌∷◌, ◌++◌, Option, Some, None, true, if◌then◌else◌, ◌==◌, slice_get, length}
+use Rattle.std.specs.Prelude.{◌≡◌, ◌≢◌, ℕ, zero, suc, ◌+◌, ◌<◌, List, [], ◌∷◌, ◌++◌, Option, Some, None, true}
+use Rattle.std.specs.Prelude.{if◌then◌else◌, ◌==◌, slice_get, length}
 use Rattle.bpf_decode.specs.declared.insn.Insn.{Insn}
 use Rattle.bpf_decode.specs.Instruction.{slots}
 use Rattle.bpf_decode.specs.Class.{ClassMethod, Class}
@@ -47,11 +48,13 @@ unless_refused None flown inflow = flown
 unless_refused (Some rule) flown inflow = inflow
 
 -- and the flow from slot p more, of the instruction and the frame there
-abbrev pub flow_from : RuleSet → Caps → List (Option Insn) → ℕ → ℕ → Option Insn → Option PlainFrame → Option PlainFrame → Option PlainFrame
+abbrev pub flow_from : RuleSet → Caps → List (Option Insn) → ℕ → ℕ → Option Insn → Option PlainFrame →
+    Option PlainFrame → Option PlainFrame
 flow_from rules caps code p q None frame inflow = inflow
 flow_from rules caps code p q (Some i) None inflow = inflow
 flow_from rules caps code p q (Some i) (Some f) inflow =
-    unless_refused (rule_at rules caps code p i (Some f)) (along (flow (precision_of rules) (room_of i) (answer_of rules f i) i p f) q inflow) inflow
+    unless_refused (rule_at rules caps code p i (Some f))
+    (along (flow (precision_of rules) (room_of i) (answer_of rules f i) i p f) q inflow) inflow
 
 -- what a method begins with, at slot 0
 abbrev pub start : RuleSet → Caps → ℕ → Option PlainFrame
@@ -61,13 +64,15 @@ start rules caps (suc q) = None
 -- the join of all that flows into slot q from the slots below n
 abbrev pub incoming : RuleSet → Caps → List (Option Insn) → Table → ℕ → ℕ → Option PlainFrame
 incoming rules caps code table q zero = start rules caps q
-incoming rules caps code table q (suc p) = flow_from rules caps code p q (fetch code p) (frame_at table p) (incoming rules caps code table q p)
+incoming rules caps code table q (suc p) =
+    flow_from rules caps code p q (fetch code p) (frame_at table p) (incoming rules caps code table q p)
 
 -- The frames of the first n slots: each is the join of all that flows into its slot from lower
 -- slots.
 abbrev pub frames : RuleSet → Caps → List (Option Insn) → ℕ → Table
 frames rules caps code zero = []
-frames rules caps code (suc q) = frames rules caps code q ++ (incoming rules caps code (frames rules caps code q) q q ∷ [])
+frames rules caps code (suc q) =
+    frames rules caps code q ++ (incoming rules caps code (frames rules caps code q) q q ∷ [])
 
 -- the frames of all slots
 abbrev pub whole_table : RuleSet → Caps → List (Option Insn) → Table
@@ -83,7 +88,8 @@ pub record IsTable (rules : RuleSet) (caps : Caps) (code : List (Option Insn)) (
 abbrev pub TableIsOne : Type 0
 TableIsOne =
     (rules : RuleSet) (caps : Caps) (code : List (Option Insn)) →
-    IsTable rules caps code (whole_table rules caps code) × ((table : Table) → IsTable rules caps code table → (q : ℕ) → q < length code → frame_at table q ≡ frame_at (whole_table rules caps code) q)
+    IsTable rules caps code (whole_table rules caps code) × ((table : Table) → IsTable rules caps code table → (q : ℕ) →
+    q < length code → frame_at table q ≡ frame_at (whole_table rules caps code) q)
 
 -- the rule that refuses slot p, or else what is refused later
 abbrev pub or_else : ℕ → Option Rule → Option (ℕ × Rule) → Option (ℕ × Rule)
@@ -142,7 +148,8 @@ FirstSetHasFewerRules = (c : Class) (r : Refusal) → c.rules ≡ One → class_
 pub record Refuses (rules : RuleSet) (m : ClassMethod) (slot : ℕ) (rule : Rule) : Type 0 where
   pub insn : Insn
   pub there : fetch (slots m.instructions) slot ≡ Some insn
-  pub refused : breaks rules (caps_of m) (slots m.instructions) slot insn (frame_at (whole_table rules (caps_of m) (slots m.instructions)) slot) rule ≡ true
+  pub refused : breaks rules (caps_of m) (slots m.instructions) slot insn
+      (frame_at (whole_table rules (caps_of m) (slots m.instructions)) slot) rule ≡ true
 
 -- A refusal's rule refuses the instruction at its slot of its method.
 pub record IsDeserved (c : Class) (r : Refusal) : Type 0 where

@@ -1,7 +1,8 @@
 //! What the rules ask of loads and stores, by the place that an access has in its region.
 
 ghost use Rattle.std.specs.Prelude.{◌≡◌};
-ghost use Rattle.verifier.specs.Rules.{load_meets, leaves, access_leaves, stores_read_only, is_slot, loads_unset, loads_pointer};
+ghost use Rattle.verifier.specs.Rules.{load_meets, leaves, access_leaves, stores_read_only, is_slot, loads_unset};
+ghost use Rattle.verifier.specs.Rules.{loads_pointer};
 ghost use Rattle.abstract_regs.specs.Frame.{kind_at};
 ghost use Rattle.bpf_machine.specs.Typed.{extended};
 
@@ -96,7 +97,8 @@ pub fn is_slot(rules: RuleSet, frame: &Frame, access: &Access) -> bool
 // A load that may leave its region is left to rule 10, though rule 5 is tried first.
 #[inline(always)]
 fn load_meets(rules: RuleSet, content: Content, caps: &Caps, frame: &Frame, access: &Access) -> bool
-    ensures { result ≡ load_meets rules content caps.now frame.now (kind_at frame.now access.now.base) (extended access.now.offset) access.now.bytes }
+    ensures { result ≡ load_meets rules content caps.now frame.now (kind_at frame.now access.now.base)
+        (extended access.now.offset) access.now.bytes }
 {
     let distance = i64::from(access.offset).cast_unsigned();
     frame.access_meets(

@@ -184,7 +184,8 @@ pub fn touches_of(insn: &Insn) -> Touches
         Insn::LoadWide { .. } => Touches::Nothing,
         Insn::Load { width, base, offset, .. } => Touches::Loads(Access { base, offset, bytes: width.bytes() }),
         Insn::LoadSigned { width, base, offset, .. } => Touches::Loads(Access { base, offset, bytes: width.bytes() }),
-        Insn::Store { width, base, offset, source } => Touches::Stores(Access { base, offset, bytes: width.bytes() }, source),
+        Insn::Store { width, base, offset, source } =>
+            Touches::Stores(Access { base, offset, bytes: width.bytes() }, source),
         Insn::Jump { .. } => Touches::Nothing,
         Insn::JumpLong { .. } => Touches::Nothing,
         Insn::Branch { .. } => Touches::Nothing,

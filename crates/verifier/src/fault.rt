@@ -1,6 +1,7 @@
 ghost use Rattle.std.specs.Prelude.{◌≡◌, ◌<◌, ◌+◌, length};
 ghost use Rattle.abstract_regs.specs.Seen.{seen};
-ghost use Rattle.verifier.specs.Rules.{has_fault, register_count, some_fault, call_fault, range_meets, room_in, room_of};
+ghost use Rattle.verifier.specs.Rules.{has_fault, register_count, some_fault, call_fault, range_meets, room_in};
+ghost use Rattle.verifier.specs.Rules.{room_of};
 
 use crate::facets::{Callee, callee_of};
 use crate::kind_rules::{is_at_most, range_is_read_only, range_leaves};

@@ -3,7 +3,8 @@
 ghost use Rattle.std.specs.Prelude.{◌≡◌};
 ghost use Rattle.bpf_decode.specs.Values.{moves_pointer, is_addition};
 ghost use Rattle.abstract_regs.specs.Seen.{seen};
-ghost use Rattle.verifier.specs.Kind.{alu_refused, mov_refused, stays, is_read_only, is_at_most, range_leaves, range_is_read_only};
+ghost use Rattle.verifier.specs.Kind.{alu_refused, mov_refused, stays, is_read_only, is_at_most, range_leaves};
+ghost use Rattle.verifier.specs.Kind.{range_is_read_only};
 
 use abstract_num::{Precision, highest};
 use abstract_regs::{Kind, access_fits, range_fits};

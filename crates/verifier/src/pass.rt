@@ -1,4 +1,5 @@
-ghost use Rattle.std.specs.Prelude.{◌≡◌, ◌+◌, ◌<◌, ◌^◌, length, IfOk, IfSome, MatchOption, Some, None, replicate, slice_set};
+ghost use Rattle.std.specs.Prelude.{◌≡◌, ◌+◌, ◌<◌, ◌^◌, length, IfOk, IfSome, MatchOption, Some, None, replicate};
+ghost use Rattle.std.specs.Prelude.{slice_set};
 ghost use Rattle.bpf_machine.specs.Typed.{fetch};
 ghost use Rattle.verifier.specs.Rules.{rule_at};
 ghost use Rattle.verifier.specs.Verdict.{IsFirstRefused, code_verdict, frame_at, whole_table};
@@ -60,7 +61,8 @@ pub fn first_refused(
 ) -> Result<Option<RefusedSlot>, AllocError>
     requires small { length code.now < 2 ^ 32 }
     requires spaced { IsSpaced code.now }
-    ensures { IfOk result (λ r. MatchOption r (code_verdict rules caps.now code.now ≡ None) (IsFirstRefused rules caps.now code.now)) }
+    ensures { IfOk result
+        (λ r. MatchOption r (code_verdict rules caps.now code.now ≡ None) (IsFirstRefused rules caps.now code.now)) }
 {
     let mut pass = Pass::new(alloc, rules, caps, code.len())?;
     let Some((slot, rule)) = pass.run(alloc, rules, caps, code)? else {
@@ -140,7 +142,8 @@ impl Pass {
         ensures verdict { IfOk result (λ r. r ≡ code_verdict rules caps.now code.now) }
         ensures sound { IfOk result (λ r. r ≡ None → AllSound rules caps.now code.now) }
         // The pass stops at the refused slot, with what is known before it.
-        ensures stopped { IfOk result (λ r. IfSome r (λ at. unbox self.new.current ≡ frame_at (whole_table rules caps.now code.now) at.0)) }
+        ensures stopped { IfOk result (λ r. IfSome r
+            (λ at. unbox self.new.current ≡ frame_at (whole_table rules caps.now code.now) at.0)) }
     {
         for (slot, begun) in code.iter().enumerate() {
             if let Some(insn) = begun {
@@ -164,7 +167,8 @@ impl Pass {
     ) -> Result<Option<Rule>, AllocError>
         requires { slot < 2 ^ 32 }
         ensures rule { IfOk result (λ r. r ≡ rule_at rules caps.now code.now slot insn.now (awaited self.old slot)) }
-        ensures left { IfOk result (λ r. (r ≡ None) → HasLeft rules (awaited self.old slot) (slice_set self.old.kept slot None) insn.now slot self.new) }
+        ensures left { IfOk result (λ r. (r ≡ None) →
+            HasLeft rules (awaited self.old slot) (slice_set self.old.kept slot None) insn.now slot self.new) }
         ensures sound { IfOk result (λ r. (r ≡ None) → IsSound rules insn.now slot (awaited self.old slot)) }
         ensures stopped { IfOk result (λ r. IfSome r (λ _. unbox self.new.current ≡ awaited self.old slot)) }
     {
@@ -239,8 +243,10 @@ impl Pass {
         compared: &Compared,
         mut frame: Box<Frame>,
     ) -> Result<(), AllocError>
-        ensures taken { IfOk result (λ _. self.new.kept ≡ merged_if self.old.kept target (heard precision frame.value compared.now)) }
-        ensures fallen { IfOk result (λ _. unbox self.new.current ≡ heard precision (refined frame.value compared.now self.old.fallen) compared.now) }
+        ensures taken { IfOk result (λ _. self.new.kept ≡
+            merged_if self.old.kept target (heard precision frame.value compared.now)) }
+        ensures fallen { IfOk result (λ _. unbox self.new.current ≡
+            heard precision (refined frame.value compared.now self.old.fallen) compared.now) }
         ensures landing { IfOk result (λ _. self.new.landing ≡ self.old.landing) }
     {
         let taken = self.kept.copy(alloc, &frame)?;

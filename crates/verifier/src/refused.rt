@@ -34,7 +34,8 @@ pub fn refused_slot(
     method: &Method,
 ) -> Result<Option<RefusedSlot>, AllocError>
     requires { IsMethod method.now }
-    ensures { IfOk result (λ r. MatchOption r (method_verdict rules method.now ≡ None) (IsFirstRefused rules (caps_of method.now) (slots method.now.instructions))) }
+    ensures { IfOk result (λ r. MatchOption r (method_verdict rules method.now ≡ None)
+        (IsFirstRefused rules (caps_of method.now) (slots method.now.instructions))) }
 {
     let code = slots_of(alloc, method.instructions())?;
     first_refused(alloc, rules, &Caps::of(method), &code)

@@ -1,7 +1,11 @@
 //! The rules: for each a test of one instruction, and which of them refuses first.
 
 ghost use Rattle.std.specs.Prelude.{◌≡◌, ◌<◌, ◌^◌};
-ghost use Rattle.verifier.specs.Rules.{begins_at, is_backward, misses, falls_off, is_local_call, reads_unset, writes_r10, computes_with_pointer, compares_pointer, stores_pointer, leaves_region, writes_read_only, calls_unknown, passes_wrong_kind, writes_in_reader, returns_pointer, reads_pointer, operand_is_unset, unset_among, asks, may_write, rule_at, shape_rule, frame_rule};
+ghost use Rattle.verifier.specs.Rules.{begins_at, is_backward, misses, falls_off, is_local_call, reads_unset};
+ghost use Rattle.verifier.specs.Rules.{writes_r10, computes_with_pointer, compares_pointer, stores_pointer};
+ghost use Rattle.verifier.specs.Rules.{leaves_region, writes_read_only, calls_unknown, passes_wrong_kind};
+ghost use Rattle.verifier.specs.Rules.{writes_in_reader, returns_pointer, reads_pointer, operand_is_unset, unset_among};
+ghost use Rattle.verifier.specs.Rules.{asks, may_write, rule_at, shape_rule, frame_rule};
 ghost use Rattle.verifier.specs.Facets.{callee_of};
 ghost use Rattle.abstract_regs.specs.Kind.{is_ptr};
 ghost use Rattle.abstract_regs.specs.Frame.{kind_at};

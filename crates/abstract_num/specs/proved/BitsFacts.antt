@@ -1,6 +1,7 @@
 -- Proved; nothing here need be believed.
 -- The known bits keep every number of which the fact holds.
-use Rattle.std.specs.Prelude.{ℕ, ◌^◌, ◌<◌, ◌≡◌, ◌==◌, not, false, bit_and, bit_or, bit_xor, Option, Some, None, IsSomeAnd}
+use Rattle.std.specs.Prelude.{ℕ, ◌^◌, ◌<◌, ◌≡◌, ◌==◌, not, false, bit_and, bit_or, bit_xor, Option, Some, None}
+use Rattle.std.specs.Prelude.{IsSomeAnd}
 use Rattle.std.specs.Int.{bit_at}
 use Rattle.std.proofs.Common.{sym, ap, ◌∙◌, refl, arith}
 use Rattle.std.proofs.lemmas.Nat.Bits.{bit_at_and, bit_at_or, bit_at_xor, bit_at-lt, bit_at-zero, same_from_bits}
@@ -13,7 +14,8 @@ use Rattle.abstract_num.specs.Refined.{IsRefined}
 use Rattle.abstract_num.specs.BitsFacts.{TwoMasks, bits_fact, conflict, common, denied}
 use Rattle.abstract_num.specs.proved.BitsRows.{Agrees, IsMask, at}
 use Rattle.abstract_num.specs.declared.fact.Fact.{Fact}
-use Rattle.abstract_num.specs.declared.fact.Fact.TheVariants.{Same, Above, AtLeast, SignedAbove, SignedAtLeast, HalfAbove, HalfAtLeast, Meets, Not, NoneOf}
+use Rattle.abstract_num.specs.declared.fact.Fact.TheVariants.{Same, Above, AtLeast, SignedAbove, SignedAtLeast}
+use Rattle.abstract_num.specs.declared.fact.Fact.TheVariants.{HalfAbove, HalfAtLeast, Meets, Not, NoneOf}
 use Rattle.abstract_num.specs.declared.bits.Bits.{Bits}
 
 abbrev pub AreMasks : TwoMasks → Bits × Bits → Type 0
@@ -21,7 +23,8 @@ AreMasks e s = IsMask s.0 e.0 × IsMask s.1 e.1
 
 abbrev pub BitsRefine : Fact → Bits → Bits → Option (Bits × Bits) → Type 0
 BitsRefine f x y r =
-    IsRefined (denied f x.value x.unknown y.value y.unknown) (AreMasks (bits_fact f x.value x.unknown y.value y.unknown)) r
+    IsRefined (denied f x.value x.unknown y.value y.unknown)
+    (AreMasks (bits_fact f x.value x.unknown y.value y.unknown)) r
 
 is_zero : (n : ℕ) → n ≡ 0 → not (n == 0) ≡ false
 is_zero n e = rw e refl
@@ -31,23 +34,80 @@ not_zero n h = grind arith
 
 no_conflict : (v1 m1 v2 m2 n : ℕ) → clear n m1 ≡ v1 → clear n m2 ≡ v2 → conflict v1 m1 v2 m2 ≡ 0
 no_conflict v1 m1 v2 m2 n p q =
-    same_from_bits (conflict v1 m1 v2 m2) 0 (λ i. omega (arith, bit_at_clear (clear (bit_xor v1 v2) m1) m2 i, bit_at_clear (bit_xor v1 v2) m1 i, bit_at_xor v1 v2 i, at n v1 m1 p i, at n v2 m2 q i, bit_at-zero i, bit_at-lt n i, bit_at-lt m1 i, bit_at-lt m2 i))
+    same_from_bits (conflict v1 m1 v2 m2) 0 (λ i.
+    omega (
+      arith,
+      bit_at_clear (clear (bit_xor v1 v2) m1) m2 i,
+      bit_at_clear (bit_xor v1 v2) m1 i,
+      bit_at_xor v1 v2 i,
+      at n v1 m1 p i,
+      at n v2 m2 q i,
+      bit_at-zero i,
+      bit_at-lt n i,
+      bit_at-lt m1 i,
+      bit_at-lt m2 i,
+    ))
 
 meet_agrees : (v1 m1 v2 m2 n : ℕ) → clear n m1 ≡ v1 → clear n m2 ≡ v2 → clear n (bit_and m1 m2) ≡ bit_or v1 v2
 meet_agrees v1 m1 v2 m2 n p q =
-    same_from_bits _ _ (λ i. omega (arith, bit_at_clear n (bit_and m1 m2) i, bit_at_and m1 m2 i, bit_at_or v1 v2 i, at n v1 m1 p i, at n v2 m2 q i, bit_at-lt n i, bit_at-lt m1 i, bit_at-lt m2 i))
+    same_from_bits _ _ (λ i. omega (
+      arith,
+      bit_at_clear n (bit_and m1 m2) i,
+      bit_at_and m1 m2 i,
+      bit_at_or v1 v2 i,
+      at n v1 m1 p i,
+      at n v2 m2 q i,
+      bit_at-lt n i,
+      bit_at-lt m1 i,
+      bit_at-lt m2 i,
+    ))
 
 nothing_common : (v1 m1 v2 m2 k n : ℕ) → clear k m1 ≡ v1 → clear n m2 ≡ v2 → common v1 m1 v2 m2 ≡ 0 → bit_and k n ≡ 0
 nothing_common v1 m1 v2 m2 k n p q z =
-    same_from_bits (bit_and k n) 0 (λ i. omega (arith, ap (λ v. bit_at v i) z, bit_at_and k n i, bit_at_and (bit_or v1 m1) (bit_or v2 m2) i, bit_at_or v1 m1 i, bit_at_or v2 m2 i, at k v1 m1 p i, at n v2 m2 q i, bit_at-zero i, bit_at-lt k i, bit_at-lt n i, bit_at-lt m1 i, bit_at-lt m2 i))
+    same_from_bits (bit_and k n) 0 (λ i. omega (
+      arith,
+      ap (λ v. bit_at v i) z,
+      bit_at_and k n i,
+      bit_at_and (bit_or v1 m1) (bit_or v2 m2) i,
+      bit_at_or v1 m1 i,
+      bit_at_or v2 m2 i,
+      at k v1 m1 p i,
+      at n v2 m2 q i,
+      bit_at-zero i,
+      bit_at-lt k i,
+      bit_at-lt n i,
+      bit_at-lt m1 i,
+      bit_at-lt m2 i,
+    ))
 
 none_agrees : (v m c n : ℕ) → clear n m ≡ v → bit_and n c ≡ 0 → clear n (clear m c) ≡ v
 none_agrees v m c n p l =
-    same_from_bits _ _ (λ i. omega (arith, bit_at_clear n (clear m c) i, bit_at_clear m c i, at n v m p i, bit_at_and n c i, ap (λ x. bit_at x i) l, bit_at-zero i, bit_at-lt n i, bit_at-lt c i, bit_at-lt m i))
+    same_from_bits _ _ (λ i. omega (
+      arith,
+      bit_at_clear n (clear m c) i,
+      bit_at_clear m c i,
+      at n v m p i,
+      bit_at_and n c i,
+      ap (λ x. bit_at x i) l,
+      bit_at-zero i,
+      bit_at-lt n i,
+      bit_at-lt c i,
+      bit_at-lt m i,
+    ))
 
 none_known : (v m c n : ℕ) → clear n m ≡ v → bit_and n c ≡ 0 → bit_and v c ≡ 0
 none_known v m c n p l =
-    same_from_bits (bit_and v c) 0 (λ i. omega (arith, bit_at_and v c i, at n v m p i, bit_at_and n c i, ap (λ x. bit_at x i) l, bit_at-zero i, bit_at-lt n i, bit_at-lt c i, bit_at-lt m i))
+    same_from_bits (bit_and v c) 0 (λ i. omega (
+      arith,
+      bit_at_and v c i,
+      at n v m p i,
+      bit_at_and n c i,
+      ap (λ x. bit_at x i) l,
+      bit_at-zero i,
+      bit_at-lt n i,
+      bit_at-lt c i,
+      bit_at-lt m i,
+    ))
 
 pub bits_fact_keeps : (f : Fact) (v1 m1 v2 m2 k n : ℕ) → clear k m1 ≡ v1 → clear n m2 ≡ v2 → IsFact f k n
     → (denied f v1 m1 v2 m2 ≡ false) × Agrees (bits_fact f v1 m1 v2 m2).0 k × Agrees (bits_fact f v1 m1 v2 m2).1 n
@@ -79,10 +139,33 @@ bits_refine_sound f x y (Some s) c m n p q h =
 
 -- The known bits of a meet have no bit in common, if there is no conflict; nor have those
 -- without some unknown ones.
-pub meet_apart : (v1 m1 v2 m2 : ℕ) → bit_and v1 m1 ≡ 0 → bit_and v2 m2 ≡ 0 → conflict v1 m1 v2 m2 ≡ 0 → bit_and (bit_or v1 v2) (bit_and m1 m2) ≡ 0
+pub meet_apart : (v1 m1 v2 m2 : ℕ) → bit_and v1 m1 ≡ 0 → bit_and v2 m2 ≡ 0 → conflict v1 m1 v2 m2 ≡ 0 →
+    bit_and (bit_or v1 v2) (bit_and m1 m2) ≡ 0
 meet_apart v1 m1 v2 m2 a b z =
-    same_from_bits (bit_and (bit_or v1 v2) (bit_and m1 m2)) 0 (λ i. omega (arith, bit_at_and (bit_or v1 v2) (bit_and m1 m2) i, bit_at_or v1 v2 i, bit_at_and m1 m2 i, apart_at v1 m1 a i, apart_at v2 m2 b i, bit_at-zero i, bit_at-lt v1 i, bit_at-lt v2 i, bit_at-lt m1 i, bit_at-lt m2 i))
+    same_from_bits (bit_and (bit_or v1 v2) (bit_and m1 m2)) 0
+    (λ i. omega (
+      arith,
+      bit_at_and (bit_or v1 v2) (bit_and m1 m2) i,
+      bit_at_or v1 v2 i,
+      bit_at_and m1 m2 i,
+      apart_at v1 m1 a i,
+      apart_at v2 m2 b i,
+      bit_at-zero i,
+      bit_at-lt v1 i,
+      bit_at-lt v2 i,
+      bit_at-lt m1 i,
+      bit_at-lt m2 i,
+    ))
 
 pub fewer_apart : (v m c : ℕ) → bit_and v m ≡ 0 → bit_and v (clear m c) ≡ 0
 fewer_apart v m c a =
-    same_from_bits (bit_and v (clear m c)) 0 (λ i. omega (arith, bit_at_and v (clear m c) i, bit_at_clear m c i, apart_at v m a i, bit_at-zero i, bit_at-lt v i, bit_at-lt m i))
+    same_from_bits (bit_and v (clear m c)) 0
+    (λ i. omega (
+      arith,
+      bit_at_and v (clear m c) i,
+      bit_at_clear m c i,
+      apart_at v m a i,
+      bit_at-zero i,
+      bit_at-lt v i,
+      bit_at-lt m i,
+    ))

@@ -4,7 +4,8 @@ use Rattle.std.specs.Prelude.{ℕ, ◌+◌, ◌-◌, ◌*◌, ◌/◌, ◌%◌, 
 use Rattle.std.specs.Int.{w64, bit_at, bit_not}
 use Rattle.std.proofs.Common.{sym, ap, ◌∙◌, arith, add-zero}
 use Rattle.std.proofs.lemmas.Nat.{and_le_l, and_mod, xor_mod, and_shr, xor_shr, and_block, xor_block, pow_pos}
-use Rattle.std.proofs.lemmas.Nat.Bits.{bit_at_and, bit_at_or, bit_at_xor, bit_at_not, bit_at-lt, bit_at-zero, bit_at_ones, same_from_bits, same_from_bits_below}
+use Rattle.std.proofs.lemmas.Nat.Bits.{bit_at_and, bit_at_or, bit_at_xor, bit_at_not, bit_at-lt, bit_at-zero}
+use Rattle.std.proofs.lemmas.Nat.Bits.{bit_at_ones, same_from_bits, same_from_bits_below}
 use Rattle.abstract_num.specs.proved.Shifts.{arsh, arsh_lt, bit_at_arsh, clear_arsh}
 use Rattle.abstract_num.specs.proved.KnownBits.{apart_at}
 use Rattle.abstract_num.specs.Masks.{clear}
@@ -14,7 +15,8 @@ use Rattle.abstract_num.specs.proved.RowsFit.{row_value_fits}
 use Rattle.abstract_num.specs.Parts.{InBits}
 use Rattle.abstract_num.specs.BitsRows.{bits_row, unknown}
 use Rattle.abstract_num.specs.declared.row.Row.{Row}
-use Rattle.abstract_num.specs.declared.row.Row.TheVariants.{Add, Sub, Mul, Div, Mod, And, Or, Xor, LshBy, RshBy, Rsh, ArshBy, Arsh, SignedLshBy, SignedArshBy, Cut}
+use Rattle.abstract_num.specs.declared.row.Row.TheVariants.{Add, Sub, Mul, Div, Mod, And, Or, Xor, LshBy, RshBy, Rsh}
+use Rattle.abstract_num.specs.declared.row.Row.TheVariants.{ArshBy, Arsh, SignedLshBy, SignedArshBy, Cut}
 use Rattle.abstract_num.specs.declared.bits.Bits.{Bits}
 
 and_shl : (a b k : ℕ) → bit_and (a * 2 ^ k) (b * 2 ^ k) ≡ bit_and a b * 2 ^ k
@@ -52,8 +54,16 @@ apart_shr v m k e = sym (and_shr v m k) ∙ ap (λ x. x / 2 ^ k) e ∙ omega (ar
 
 pub apart_arsh : (k v m : ℕ) → v < 2 ^ 64 → m < 2 ^ 64 → bit_and v m ≡ 0 → bit_and (arsh k v) (arsh k m) ≡ 0
 apart_arsh k v m p q e =
-    same_from_bits_below 64 (bit_and (arsh k v) (arsh k m)) 0 (omega (arith, and_le_l (arsh k v) (arsh k m), arsh_lt k v p)) (omega arith)
-    (λ i h. omega (arith, bit_at_and (arsh k v) (arsh k m) i, bit_at_arsh k v i h p, bit_at_arsh k m i h q, apart_at v m e (min (k + i) 63), bit_at-zero i))
+    same_from_bits_below 64 (bit_and (arsh k v) (arsh k m)) 0
+    (omega (arith, and_le_l (arsh k v) (arsh k m), arsh_lt k v p)) (omega arith)
+    (λ i h. omega (
+      arith,
+      bit_at_and (arsh k v) (arsh k m) i,
+      bit_at_arsh k v i h p,
+      bit_at_arsh k m i h q,
+      apart_at v m e (min (k + i) 63),
+      bit_at-zero i,
+    ))
 
 pub clear_zero : (n : ℕ) → clear n 0 ≡ n
 clear_zero n =
@@ -62,8 +72,16 @@ clear_zero n =
 -- the code's `v & !m`
 pub and_not : (v m : ℕ) → v < 2 ^ 64 → m < 2 ^ 64 → bit_and v (bit_not w64 m) ≡ clear v m
 and_not v m p q =
-    same_from_bits_below 64 (bit_and v (bit_not w64 m)) (clear v m) (omega (arith, and_le_l v (bit_not w64 m))) (clear_lt v m p)
-    (λ i h. omega (arith, bit_at_and v (bit_not w64 m) i, bit_at_not w64 m i q h, bit_at_clear v m i, bit_at-lt v i, bit_at-lt m i))
+    same_from_bits_below 64 (bit_and v (bit_not w64 m)) (clear v m) (omega (arith, and_le_l v (bit_not w64 m)))
+    (clear_lt v m p)
+    (λ i h. omega (
+      arith,
+      bit_at_and v (bit_not w64 m) i,
+      bit_at_not w64 m i q h,
+      bit_at_clear v m i,
+      bit_at-lt v i,
+      bit_at-lt m i,
+    ))
 
 -- n agrees with a value and a mask
 abbrev pub Agrees : ℕ × ℕ → ℕ → Type 0
@@ -83,21 +101,62 @@ and_keeps v1 m1 v2 m2 k n a f g p q =
     let v = bit_and v1 v2 in
     let u = bit_and (bit_or v1 m1) (bit_or v2 m2) in
     same_from_bits (clear (bit_and k n) (clear u v)) v
-    (λ i. omega (arith, bit_at_clear (bit_and k n) (clear u v) i, bit_at_clear u v i, bit_at_and k n i, bit_at_and v1 v2 i, bit_at_and (bit_or v1 m1) (bit_or v2 m2) i, bit_at_or v1 m1 i, bit_at_or v2 m2 i, at k v1 m1 p i, at n v2 m2 q i, bit_at-lt k i, bit_at-lt n i, bit_at-lt m1 i, bit_at-lt m2 i))
+    (λ i. omega (
+      arith,
+      bit_at_clear (bit_and k n) (clear u v) i,
+      bit_at_clear u v i,
+      bit_at_and k n i,
+      bit_at_and v1 v2 i,
+      bit_at_and (bit_or v1 m1) (bit_or v2 m2) i,
+      bit_at_or v1 m1 i,
+      bit_at_or v2 m2 i,
+      at k v1 m1 p i,
+      at n v2 m2 q i,
+      bit_at-lt k i,
+      bit_at-lt n i,
+      bit_at-lt m1 i,
+      bit_at-lt m2 i,
+    ))
 
 or_keeps : Keeps Or
 or_keeps v1 m1 v2 m2 k n a f g p q =
     let v = bit_or v1 v2 in
     let u = bit_or m1 m2 in
     same_from_bits (clear (bit_or k n) (clear u v)) v
-    (λ i. omega (arith, bit_at_clear (bit_or k n) (clear u v) i, bit_at_clear u v i, bit_at_or k n i, bit_at_or v1 v2 i, bit_at_or m1 m2 i, at k v1 m1 p i, at n v2 m2 q i, bit_at-lt k i, bit_at-lt n i, bit_at-lt m1 i, bit_at-lt m2 i))
+    (λ i. omega (
+      arith,
+      bit_at_clear (bit_or k n) (clear u v) i,
+      bit_at_clear u v i,
+      bit_at_or k n i,
+      bit_at_or v1 v2 i,
+      bit_at_or m1 m2 i,
+      at k v1 m1 p i,
+      at n v2 m2 q i,
+      bit_at-lt k i,
+      bit_at-lt n i,
+      bit_at-lt m1 i,
+      bit_at-lt m2 i,
+    ))
 
 xor_keeps : Keeps Xor
 xor_keeps v1 m1 v2 m2 k n a f g p q =
     let v = bit_xor v1 v2 in
     let u = bit_or m1 m2 in
     same_from_bits (clear (bit_xor k n) u) (clear v u)
-    (λ i. omega (arith, bit_at_clear (bit_xor k n) u i, bit_at_clear v u i, bit_at_xor k n i, bit_at_xor v1 v2 i, bit_at_or m1 m2 i, at k v1 m1 p i, at n v2 m2 q i, bit_at-lt k i, bit_at-lt n i, bit_at-lt m1 i, bit_at-lt m2 i))
+    (λ i. omega (
+      arith,
+      bit_at_clear (bit_xor k n) u i,
+      bit_at_clear v u i,
+      bit_at_xor k n i,
+      bit_at_xor v1 v2 i,
+      bit_at_or m1 m2 i,
+      at k v1 m1 p i,
+      at n v2 m2 q i,
+      bit_at-lt k i,
+      bit_at-lt n i,
+      bit_at-lt m1 i,
+      bit_at-lt m2 i,
+    ))
 
 pub lsh_agrees : (s v m n : ℕ) → clear n m ≡ v → Agrees (bits_row (LshBy s) v m 0 0) (row_value (LshBy s) n 0)
 lsh_agrees s v m n p = clear_mod _ _ 64 ∙ ap (λ v. v % 2 ^ 64) (clear_shl n m (s % 64) ∙ ap (λ v. v * 2 ^ (s % 64)) p)
@@ -150,7 +209,8 @@ IsMask z e = (z.value ≡ e.0) × (z.unknown ≡ e.1)
 abbrev pub BitsMove : Row → Bits → Bits → Bits → Type 0
 BitsMove r x y z = IsMask z (bits_row r x.value x.unknown y.value y.unknown)
 
-pub bits_move_sound : (r : Row) (x y z : Bits) → BitsMove r x y z → (m n : ℕ) → InBits x m → InBits y n → InBits z (row_value r m n)
+pub bits_move_sound : (r : Row) (x y z : Bits) → BitsMove r x y z → (m n : ℕ) → InBits x m → InBits y n →
+    InBits z (row_value r m n)
 bits_move_sound r x y z e m n p q =
     let h = bits_row_keeps r x.value x.unknown y.value y.unknown m n x.unknown_fits p.1 q.1 p.0 q.0 in
     (ap (λ (u : ℕ). clear (row_value r m n) u) e.1 ∙ h ∙ sym e.0, row_value_fits r m n p.1 q.1)

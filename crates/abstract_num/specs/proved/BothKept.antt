@@ -5,7 +5,8 @@ use Rattle.std.proofs.Common.{⊎_elim}
 use Rattle.abstract_num.specs.declared.product.Product.{Product}
 use Rattle.abstract_num.specs.Both.{BothRefine}
 
-pub both_kept : {A B : Type 0} (P : Option (A × A) → Type 0) (Q : Option (B × B) → Type 0) (H K : A → Type 0) (I J : B → Type 0)
+pub both_kept : {A B : Type 0} (P : Option (A × A) → Type 0) (Q : Option (B × B) → Type 0) (H K : A → Type 0) (I J : B →
+    Type 0)
     → ((a : Option (A × A)) → P a → IsSomeAnd a (λ s. H s.0 × K s.1))
     → ((b : Option (B × B)) → Q b → IsSomeAnd b (λ s. I s.0 × J s.1))
     → (r : Option (Product A B × Product A B)) → BothRefine P Q r

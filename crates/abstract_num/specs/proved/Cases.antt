@@ -7,7 +7,8 @@ pub cond_dec : {A : Type 0} (b : Bool) → (b ≡ true → A) → (b ≡ false �
 cond_dec true f g = f refl
 cond_dec false f g = g refl
 
-pub cond_both : {A : Type 0} (P : A → Type 0) (b : Bool) (x y : A) → (b ≡ true → P x) → (b ≡ false → P y) → P (cond b x y)
+pub cond_both : {A : Type 0} (P : A → Type 0) (b : Bool) (x y : A) → (b ≡ true → P x) → (b ≡ false → P y) →
+    P (cond b x y)
 cond_both P true x y f g = f refl
 cond_both P false x y f g = g refl
 

@@ -1,6 +1,7 @@
 -- Proved; nothing here need be believed.
 -- The halves keep every number of which the fact holds.
-use Rattle.std.specs.Prelude.{ℕ, ℤ, pos, ◌+ℤ◌, ◌-ℤ◌, ◌≤ℤ◌, ◌<ℤ◌, ◌^◌, ◌<◌, ◌≡◌, int_lt, false, Option, Some, None, IsSomeAnd}
+use Rattle.std.specs.Prelude.{ℕ, ℤ, pos, ◌+ℤ◌, ◌-ℤ◌, ◌≤ℤ◌, ◌<ℤ◌, ◌^◌, ◌<◌, ◌≡◌, int_lt, false, Option, Some, None}
+use Rattle.std.specs.Prelude.{IsSomeAnd}
 use Rattle.std.specs.Int.{int_min, int_max}
 use Rattle.std.proofs.Common.{sym, ap, arith}
 use Rattle.std.proofs.lemmas.Int.{ints, clamps}
@@ -12,7 +13,8 @@ use Rattle.abstract_num.specs.Signed.{signed_half}
 use Rattle.abstract_num.specs.HalfFacts.{TwoHalves, half_fact, crosses}
 use Rattle.abstract_num.specs.proved.HalfRows.{HalfBetween, IsHalf}
 use Rattle.abstract_num.specs.declared.fact.Fact.{Fact}
-use Rattle.abstract_num.specs.declared.fact.Fact.TheVariants.{Same, Above, AtLeast, SignedAbove, SignedAtLeast, HalfAbove, HalfAtLeast, Meets, Not, NoneOf}
+use Rattle.abstract_num.specs.declared.fact.Fact.TheVariants.{Same, Above, AtLeast, SignedAbove, SignedAtLeast}
+use Rattle.abstract_num.specs.declared.fact.Fact.TheVariants.{HalfAbove, HalfAtLeast, Meets, Not, NoneOf}
 use Rattle.abstract_num.specs.declared.half.Half.{Half}
 
 abbrev pub AreHalves : TwoHalves → Half × Half → Type 0
@@ -42,12 +44,18 @@ pub half_fact_keeps : (f : Fact) (h k i j : ℤ) (m n : ℕ)
     → h ≤ℤ signed_half m → signed_half m ≤ℤ k → i ≤ℤ signed_half n → signed_half n ≤ℤ j → IsFact f m n
     → HalfBetween (half_fact f h k i j).0 m × HalfBetween (half_fact f h k i j).1 n
 half_fact_keeps Same p q r s m n a b c d h =
-    let e : signed_half m ≡ signed_half n = ap (λ k. signed_half k) h in
-    ((most p r (signed_half m) a (rw e c), least q s (signed_half m) b (rw e d)), (most p r (signed_half n) (rw (sym e) a) c, least q s (signed_half n) (rw (sym e) b) d))
-half_fact_keeps HalfAbove p q r s m n a b c d h =
-    ((most _ _ _ a (step_up r (signed_half n) (signed_half m) c h), b), (c, least _ _ _ d (step_down q (signed_half n) (signed_half m) b h)))
-half_fact_keeps HalfAtLeast p q r s m n a b c d h =
-    ((most _ _ _ a (through r (signed_half n) (signed_half m) c h), b), (c, least _ _ _ d (through (signed_half n) (signed_half m) q h b)))
+    let e : signed_half m ≡ signed_half n = ap (λ k. signed_half k) h in (
+      (most p r (signed_half m) a (rw e c), least q s (signed_half m) b (rw e d)),
+      (most p r (signed_half n) (rw (sym e) a) c, least q s (signed_half n) (rw (sym e) b) d),
+    )
+half_fact_keeps HalfAbove p q r s m n a b c d h = (
+  (most _ _ _ a (step_up r (signed_half n) (signed_half m) c h), b),
+  (c, least _ _ _ d (step_down q (signed_half n) (signed_half m) b h)),
+)
+half_fact_keeps HalfAtLeast p q r s m n a b c d h = (
+  (most _ _ _ a (through r (signed_half n) (signed_half m) c h), b),
+  (c, least _ _ _ d (through (signed_half n) (signed_half m) q h b)),
+)
 half_fact_keeps Above p q r s m n a b c d h = ((a, b), (c, d))
 half_fact_keeps AtLeast p q r s m n a b c d h = ((a, b), (c, d))
 half_fact_keeps SignedAbove p q r s m n a b c d h = ((a, b), (c, d))
@@ -60,7 +68,8 @@ in_order : (p q z : ℤ) → p ≤ℤ z → z ≤ℤ q → int_lt q p ≡ false
 in_order p q z a b = grind (arith, ints)
 
 pub not_crossed : (e : TwoHalves) (m n : ℕ) → HalfBetween e.0 m → HalfBetween e.1 n → crosses e ≡ false
-not_crossed e m n p q = or_false _ _ (in_order e.0.0 e.0.1 (signed_half m) p.0 p.1) (in_order e.1.0 e.1.1 (signed_half n) q.0 q.1)
+not_crossed e m n p q =
+    or_false _ _ (in_order e.0.0 e.0.1 (signed_half m) p.0 p.1) (in_order e.1.0 e.1.1 (signed_half n) q.0 q.1)
 
 in_half : (z : Half) (e : ℤ × ℤ) (n : ℕ) → IsHalf z e → HalfBetween e n → n < 2 ^ 64 → InHalf z n
 in_half z e n s i f = (rw s.0 i.0, rw s.1 i.1, f)

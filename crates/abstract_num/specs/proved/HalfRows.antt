@@ -1,6 +1,7 @@
 -- Proved; nothing here need be believed.
 -- The half keeps every number.
-use Rattle.std.specs.Prelude.{ℕ, ℤ, pos, negsuc, ◌+ℤ◌, ◌-ℤ◌, ◌≤ℤ◌, FitsSigned, ◌+◌, ◌-◌, ◌%◌, ◌^◌, ◌≡◌, ◌<◌, ◌&&◌, true, false}
+use Rattle.std.specs.Prelude.{ℕ, ℤ, pos, negsuc, ◌+ℤ◌, ◌-ℤ◌, ◌≤ℤ◌, FitsSigned, ◌+◌, ◌-◌, ◌%◌, ◌^◌, ◌≡◌, ◌<◌, ◌&&◌, true}
+use Rattle.std.specs.Prelude.{false}
 use Rattle.std.proofs.Common.{ap, ◌∙◌, arith}
 use Rattle.std.proofs.lemmas.Int.{ints, wrapping_add-bits, wrapping_sub-bits, int_wrap_fits}
 use Rattle.std.specs.Int.{w32, cast_signed}
@@ -11,7 +12,8 @@ use Rattle.abstract_num.specs.Parts.{InHalf}
 use Rattle.abstract_num.specs.Signed.{signed_half}
 use Rattle.abstract_num.specs.HalfRows.{ends, all, fits, ends_that_fit, half_row}
 use Rattle.abstract_num.specs.declared.row.Row.{Row}
-use Rattle.abstract_num.specs.declared.row.Row.TheVariants.{Add, Sub, Mul, Div, Mod, And, Or, Xor, LshBy, RshBy, Rsh, ArshBy, Arsh, SignedLshBy, SignedArshBy, Cut}
+use Rattle.abstract_num.specs.declared.row.Row.TheVariants.{Add, Sub, Mul, Div, Mod, And, Or, Xor, LshBy, RshBy, Rsh}
+use Rattle.abstract_num.specs.declared.row.Row.TheVariants.{ArshBy, Arsh, SignedLshBy, SignedArshBy, Cut}
 use Rattle.abstract_num.specs.declared.half.Half.{Half}
 
 -- the low half of n is between two ends as a signed number
@@ -28,7 +30,8 @@ fits_high : (z : ℤ) → fits z ≡ true → z ≤ℤ pos (2 ^ 31 - 1)
 fits_high z e = grind (arith, ints)
 
 ends_keep : (p q : ℤ) (n : ℕ)
-    → (negsuc (2 ^ 31 - 1) ≤ℤ p → q ≤ℤ pos (2 ^ 31 - 1) → (p ≤ℤ signed_half n) × (signed_half n ≤ℤ q)) → HalfBetween (ends_that_fit p q) n
+    → (negsuc (2 ^ 31 - 1) ≤ℤ p → q ≤ℤ pos (2 ^ 31 - 1) → (p ≤ℤ signed_half n) × (signed_half n ≤ℤ q)) →
+    HalfBetween (ends_that_fit p q) n
 ends_keep p q n f =
     cond_both (λ r. HalfBetween r n) (fits p && fits q) (ends p q) all
     (λ e. f (fits_low p (and_first _ _ e)) (fits_high q (and_second _ _ e)))
@@ -58,16 +61,21 @@ high_end_too_far p q f g = rw (fits_yes p f, fits_no q g)
 low_sum : (m n : ℕ) → (m + n) % 2 ^ 64 % 2 ^ 32 ≡ (m % 2 ^ 32 + n % 2 ^ 32) % 2 ^ 32
 low_sum m n = omega arith
 
-low_difference : (m n : ℕ) → n < 2 ^ 64 → (m + (2 ^ 64 - n)) % 2 ^ 64 % 2 ^ 32 ≡ (m % 2 ^ 32 + (2 ^ 32 - n % 2 ^ 32)) % 2 ^ 32
+low_difference : (m n : ℕ) → n < 2 ^ 64 →
+    (m + (2 ^ 64 - n)) % 2 ^ 64 % 2 ^ 32 ≡ (m % 2 ^ 32 + (2 ^ 32 - n % 2 ^ 32)) % 2 ^ 32
 low_difference m n h = omega arith
 
-signed_add : (m n : ℕ) → FitsSigned w32 (signed_half m +ℤ signed_half n) → signed_half ((m + n) % 2 ^ 64) ≡ signed_half m +ℤ signed_half n
+signed_add : (m n : ℕ) → FitsSigned w32 (signed_half m +ℤ signed_half n) →
+    signed_half ((m + n) % 2 ^ 64) ≡ signed_half m +ℤ signed_half n
 signed_add m n f =
-    ap (λ k. cast_signed w32 k) (low_sum m n) ∙ wrapping_add-bits w32 (m % 2 ^ 32) (n % 2 ^ 32) (omega arith) (omega arith) ∙ int_wrap_fits w32 (signed_half m +ℤ signed_half n) f
+    ap (λ k. cast_signed w32 k) (low_sum m n) ∙ wrapping_add-bits w32 (m % 2 ^ 32) (n % 2 ^ 32) (omega arith)
+    (omega arith) ∙ int_wrap_fits w32 (signed_half m +ℤ signed_half n) f
 
-signed_sub : (m n : ℕ) → n < 2 ^ 64 → FitsSigned w32 (signed_half m -ℤ signed_half n) → signed_half ((m + (2 ^ 64 - n)) % 2 ^ 64) ≡ signed_half m -ℤ signed_half n
+signed_sub : (m n : ℕ) → n < 2 ^ 64 → FitsSigned w32 (signed_half m -ℤ signed_half n) →
+    signed_half ((m + (2 ^ 64 - n)) % 2 ^ 64) ≡ signed_half m -ℤ signed_half n
 signed_sub m n h f =
-    ap (λ k. cast_signed w32 k) (low_difference m n h) ∙ wrapping_sub-bits w32 (m % 2 ^ 32) (n % 2 ^ 32) (omega arith) (omega arith) ∙ int_wrap_fits w32 (signed_half m -ℤ signed_half n) f
+    ap (λ k. cast_signed w32 k) (low_difference m n h) ∙ wrapping_sub-bits w32 (m % 2 ^ 32) (n % 2 ^ 32) (omega arith)
+    (omega arith) ∙ int_wrap_fits w32 (signed_half m -ℤ signed_half n) f
 
 between_add : (a b x y : ℤ) → a ≤ℤ x → b ≤ℤ y → (a +ℤ b) ≤ℤ (x +ℤ y)
 between_add a b x y p q = omega (arith, ints)
@@ -80,7 +88,8 @@ le_through a b c p q = omega (arith, ints)
 
 -- what a row gives of numbers whose halves are between the ends
 abbrev Keeps : Row → Type 0
-Keeps r = (h k i j : ℤ) (m n : ℕ) → n < 2 ^ 64 → h ≤ℤ signed_half m → signed_half m ≤ℤ k → i ≤ℤ signed_half n → signed_half n ≤ℤ j
+Keeps r = (h k i j : ℤ) (m n : ℕ) → n < 2 ^ 64 → h ≤ℤ signed_half m → signed_half m ≤ℤ k → i ≤ℤ signed_half n →
+    signed_half n ≤ℤ j
     → HalfBetween (half_row r h k i j) (row_value r m n)
 
 add_keeps : Keeps Add
@@ -88,7 +97,8 @@ add_keeps h k i j m n g a b c d =
     let low : (h +ℤ i) ≤ℤ (signed_half m +ℤ signed_half n) = between_add _ _ _ _ a c in
     let high : (signed_half m +ℤ signed_half n) ≤ℤ (k +ℤ j) = between_add _ _ _ _ b d in
     ends_keep (h +ℤ i) (k +ℤ j) ((m + n) % 2 ^ 64)
-    (λ l u. let e = signed_add m n (fits_between (signed_half m +ℤ signed_half n) (le_through _ _ _ l low) (le_through _ _ _ high u)) in
+    (λ l u. let e = signed_add m n (fits_between (signed_half m +ℤ signed_half n) (le_through _ _ _ l low)
+    (le_through _ _ _ high u)) in
     (rw e low, rw e high))
 
 sub_keeps : Keeps Sub
@@ -96,7 +106,8 @@ sub_keeps h k i j m n g a b c d =
     let low : (h -ℤ j) ≤ℤ (signed_half m -ℤ signed_half n) = between_sub _ _ _ _ a d in
     let high : (signed_half m -ℤ signed_half n) ≤ℤ (k -ℤ i) = between_sub _ _ _ _ b c in
     ends_keep (h -ℤ j) (k -ℤ i) ((m + (2 ^ 64 - n)) % 2 ^ 64)
-    (λ l u. let e = signed_sub m n g (fits_between (signed_half m -ℤ signed_half n) (le_through _ _ _ l low) (le_through _ _ _ high u)) in
+    (λ l u. let e = signed_sub m n g (fits_between (signed_half m -ℤ signed_half n) (le_through _ _ _ l low)
+    (le_through _ _ _ high u)) in
     (rw e low, rw e high))
 
 -- the low half of the low 32 bits
@@ -131,7 +142,8 @@ IsHalf z e = (z.low ≡ e.0) × (z.high ≡ e.1)
 abbrev pub HalfMoves : Row → Half → Half → Half → Type 0
 HalfMoves r x y z = IsHalf z (half_row r x.low x.high y.low y.high)
 
-pub half_moves_sound : (r : Row) (x y z : Half) → HalfMoves r x y z → (m n : ℕ) → InHalf x m → InHalf y n → InHalf z (row_value r m n)
+pub half_moves_sound : (r : Row) (x y z : Half) → HalfMoves r x y z → (m n : ℕ) → InHalf x m → InHalf y n →
+    InHalf z (row_value r m n)
 half_moves_sound r x y z e m n p q =
     let h = half_row_keeps r x.low x.high y.low y.high m n q.2 p.0 p.1 q.0 q.1 in
     (rw e.0 h.0, rw e.1 h.1, row_value_fits r m n p.2 q.2)

@@ -42,4 +42,5 @@ joined_unknown x y = bit_or (bit_or x.unknown y.unknown) (bit_xor x.value y.valu
 
 pub joined_unknown_fits : (x y : Bits) → joined_unknown x y < 2 ^ 64
 joined_unknown_fits x y =
-    or_lt 64 _ _ (or_lt 64 x.unknown y.unknown x.unknown_fits y.unknown_fits) (xor_lt 64 x.value y.value x.value_fits y.value_fits)
+    or_lt 64 _ _ (or_lt 64 x.unknown y.unknown x.unknown_fits y.unknown_fits)
+    (xor_lt 64 x.value y.value x.value_fits y.value_fits)

@@ -5,7 +5,8 @@ use Rattle.std.proofs.Common.{arith, ap, subst, refl}
 use Rattle.std.proofs.Props.{props}
 use mathlib.Core.Path.{ap₂}
 use Rattle.std.proofs.lemmas.Int.{ints, clamps}
-use Rattle.abstract_num.specs.Parts.{InURange, InSRange, InHalf, HaveSameHalf, joined_urange, joined_srange, joined_half, BelowURange, BelowSRange, BelowHalf}
+use Rattle.abstract_num.specs.Parts.{InURange, InSRange, InHalf, HaveSameHalf, joined_urange, joined_srange}
+use Rattle.abstract_num.specs.Parts.{joined_half, BelowURange, BelowSRange, BelowHalf}
 use Rattle.abstract_num.specs.declared.urange.URange.{URange}
 use Rattle.abstract_num.specs.declared.srange.SRange.{SRange}
 use Rattle.abstract_num.specs.declared.half.Half.{Half}
@@ -19,7 +20,8 @@ order_once a b = hlevel props
 bound_once : (b : ℕ) → IsProp (b < 2 ^ 64)
 bound_once b = hlevel props
 
-urange_same_from : (a b c d : ℕ) (o : a ≤ b) (f : b < 2 ^ 64) → a ≡ c → b ≡ d → (o' : c ≤ d) (f' : d < 2 ^ 64) → urange_of a b o f ≡ urange_of c d o' f'
+urange_same_from : (a b c d : ℕ) (o : a ≤ b) (f : b < 2 ^ 64) → a ≡ c → b ≡ d → (o' : c ≤ d) (f' : d < 2 ^ 64) →
+    urange_of a b o f ≡ urange_of c d o' f'
 urange_same_from a b c d o f p q =
     subst (λ (w : ℕ). (o' : w ≤ d) (f' : d < 2 ^ 64) → urange_of a b o f ≡ urange_of w d o' f') p
     (subst (λ (w : ℕ). (o' : a ≤ w) (f' : w < 2 ^ 64) → urange_of a b o f ≡ urange_of a w o' f') q
@@ -32,7 +34,8 @@ urange_same x y p q = urange_same_from x.low x.high y.low y.high x.ordered x.fit
 pub urange_join_commutes : (x y : URange) → joined_urange x y ≡ joined_urange y x
 urange_join_commutes x y = urange_same (joined_urange x y) (joined_urange y x) (omega arith) (omega arith)
 
-pub urange_join_associates : (x y z : URange) → joined_urange (joined_urange x y) z ≡ joined_urange x (joined_urange y z)
+pub urange_join_associates : (x y z : URange) →
+    joined_urange (joined_urange x y) z ≡ joined_urange x (joined_urange y z)
 urange_join_associates x y z =
     urange_same (joined_urange (joined_urange x y) z) (joined_urange x (joined_urange y z)) (omega arith) (omega arith)
 
@@ -65,9 +68,11 @@ pub srange_join_commutes : (x y : SRange) → joined_srange x y ≡ joined_srang
 srange_join_commutes x y =
     srange_same (joined_srange x y) (joined_srange y x) (omega (arith, ints, clamps)) (omega (arith, ints, clamps))
 
-pub srange_join_associates : (x y z : SRange) → joined_srange (joined_srange x y) z ≡ joined_srange x (joined_srange y z)
+pub srange_join_associates : (x y z : SRange) →
+    joined_srange (joined_srange x y) z ≡ joined_srange x (joined_srange y z)
 srange_join_associates x y z =
-    srange_same (joined_srange (joined_srange x y) z) (joined_srange x (joined_srange y z)) (omega (arith, ints, clamps)) (omega (arith, ints, clamps))
+    srange_same (joined_srange (joined_srange x y) z) (joined_srange x (joined_srange y z))
+    (omega (arith, ints, clamps)) (omega (arith, ints, clamps))
 
 pub srange_join_of_same : (x : SRange) → joined_srange x x ≡ x
 srange_join_of_same x = srange_same (joined_srange x x) x (omega (arith, ints, clamps)) (omega (arith, ints, clamps))
@@ -104,7 +109,8 @@ half_join_commutes x y =
 
 pub half_join_associates : (x y z : Half) → joined_half (joined_half x y) z ≡ joined_half x (joined_half y z)
 half_join_associates x y z =
-    half_same (joined_half (joined_half x y) z) (joined_half x (joined_half y z)) (omega (arith, ints, clamps)) (omega (arith, ints, clamps))
+    half_same (joined_half (joined_half x y) z) (joined_half x (joined_half y z)) (omega (arith, ints, clamps))
+    (omega (arith, ints, clamps))
 
 pub half_join_of_same : (x : Half) → joined_half x x ≡ x
 half_join_of_same x = half_same (joined_half x x) x (omega (arith, ints, clamps)) (omega (arith, ints, clamps))

@@ -7,7 +7,8 @@ use Rattle.std.proofs.lemmas.Nat.{and_le_l, or_lt, xor_lt, shr_le}
 use Rattle.abstract_num.specs.proved.Shifts.{arsh_lt}
 use Rattle.abstract_num.specs.Meaning.{row_value}
 use Rattle.abstract_num.specs.declared.row.Row.{Row}
-use Rattle.abstract_num.specs.declared.row.Row.TheVariants.{Add, Sub, Mul, Div, Mod, And, Or, Xor, LshBy, RshBy, Rsh, ArshBy, Arsh, SignedLshBy, SignedArshBy, Cut}
+use Rattle.abstract_num.specs.declared.row.Row.TheVariants.{Add, Sub, Mul, Div, Mod, And, Or, Xor, LshBy, RshBy, Rsh}
+use Rattle.abstract_num.specs.declared.row.Row.TheVariants.{ArshBy, Arsh, SignedLshBy, SignedArshBy, Cut}
 
 pub row_value_fits : (r : Row) (m n : ℕ) → m < 2 ^ 64 → n < 2 ^ 64 → row_value r m n < 2 ^ 64
 row_value_fits Add m n p q = omega arith

@@ -1,6 +1,7 @@
 -- Proved; nothing here need be believed.
 -- Signed numbers times a power of two, and divided by it.
-use Rattle.std.specs.Prelude.{ℕ, ℤ, pos, negsuc, zero, suc, ◌*ℤ◌, ◌≤ℤ◌, FitsSigned, ◌+◌, ◌-◌, ◌*◌, ◌/◌, ◌%◌, ◌^◌, ◌≡◌, ◌<◌, ◌≤◌, nat_le, nat_lt, Option, Some, None}
+use Rattle.std.specs.Prelude.{ℕ, ℤ, pos, negsuc, zero, suc, ◌*ℤ◌, ◌≤ℤ◌, FitsSigned, ◌+◌, ◌-◌, ◌*◌, ◌/◌, ◌%◌, ◌^◌, ◌≡◌}
+use Rattle.std.specs.Prelude.{◌<◌, ◌≤◌, nat_le, nat_lt, Option, Some, None}
 use Rattle.std.specs.Option.{SomeIff}
 use Rattle.std.specs.Int.{w8, w16, w32, w64, cast_signed, int_shr}
 use Rattle.std.specs.Int.Signed.{mag, mag_shr}
@@ -70,10 +71,12 @@ shifted_fits k m h =
 
 -- numbers from the middle on are negative
 high_is : (m : ℕ) → 2 ^ 63 ≤ m → signed m ≡ negsuc (2 ^ 64 - suc m)
-high_is m h = cond_both (λ z. z ≡ negsuc (2 ^ 64 - suc m)) (nat_lt m (2 ^ 63)) _ _ (λ e. absurd (grind arith)) (λ e. refl)
+high_is m h =
+    cond_both (λ z. z ≡ negsuc (2 ^ 64 - suc m)) (nat_lt m (2 ^ 63)) _ _ (λ e. absurd (grind arith)) (λ e. refl)
 
 pub high_half_is : (l : ℕ) → 2 ^ 31 ≤ l → cast_signed w32 l ≡ negsuc (2 ^ 32 - suc l)
-high_half_is l h = cond_both (λ z. z ≡ negsuc (2 ^ 32 - suc l)) (nat_lt l (2 ^ 31)) _ _ (λ e. absurd (grind arith)) (λ e. refl)
+high_half_is l h =
+    cond_both (λ z. z ≡ negsuc (2 ^ 32 - suc l)) (nat_lt l (2 ^ 31)) _ _ (λ e. absurd (grind arith)) (λ e. refl)
 
 product_low : (v : ℕ) → v < 2 ^ 63 → signed (v % 2 ^ 64) ≡ pos v
 product_low v h = let e : v % 2 ^ 64 ≡ v = omega arith in ap (λ k. signed k) e ∙ omega (arith, ints)
@@ -83,7 +86,8 @@ rest_high : (v t u : ℕ) → 0 < u → u ≤ 2 ^ 63 → v + u ≡ 2 ^ 64 * t �
 rest_high v t u b c e = omega arith
 
 high_signed : (u : ℕ) → 0 < u → u ≤ 2 ^ 63 → signed (2 ^ 64 - u) ≡ negsuc (u - 1)
-high_signed u b c = let e : 2 ^ 64 - suc (2 ^ 64 - u) ≡ u - 1 = omega arith in high_is (2 ^ 64 - u) (omega arith) ∙ ap (λ k. negsuc k) e
+high_signed u b c = let e : 2 ^ 64 - suc (2 ^ 64 - u) ≡ u - 1 =
+    omega arith in high_is (2 ^ 64 - u) (omega arith) ∙ ap (λ k. negsuc k) e
 
 wrapped_high : (v t u : ℕ) → 0 < u → u ≤ 2 ^ 63 → v + u ≡ 2 ^ 64 * t → signed (v % 2 ^ 64) ≡ negsuc (u - 1)
 wrapped_high v t u b c e = ap (λ k. signed k) (rest_high v t u b c e) ∙ high_signed u b c
@@ -97,19 +101,22 @@ positive m t l f =
     let g : FitsSigned w64 (pos m *ℤ pos t) = subst (λ (z : ℤ). FitsSigned w64 (z *ℤ pos t)) s f in
     product_low (m * t) g.sfits ∙ sym (ap (λ (z : ℤ). z *ℤ pos t) s)
 
-negative : (m t : ℕ) → 0 < t → m < 2 ^ 64 → 2 ^ 63 ≤ m → FitsSigned w64 (signed m *ℤ pos t) → signed (m * t % 2 ^ 64) ≡ signed m *ℤ pos t
+negative : (m t : ℕ) → 0 < t → m < 2 ^ 64 → 2 ^ 63 ≤ m → FitsSigned w64 (signed m *ℤ pos t) →
+    signed (m * t % 2 ^ 64) ≡ signed m *ℤ pos t
 negative m t a b l f =
     let u = (2 ^ 64 - m) * t in
     let up : 0 < u = mul-pos {m = 2 ^ 64 - m} {n = t} (omega arith) a in
     let s : signed m ≡ negsuc (2 ^ 64 - suc m) = high_is m l in
     let k : suc (2 ^ 64 - suc m) ≡ 2 ^ 64 - m = omega arith in
-    let e : signed m *ℤ pos t ≡ negsuc (u - 1) = ap (λ (z : ℤ). z *ℤ pos t) s ∙ ap (λ (n : ℕ). neg_ℤ (pos (n * t))) k ∙ neg_pos u up in
+    let e : signed m *ℤ pos t ≡ negsuc (u - 1) =
+    ap (λ (z : ℤ). z *ℤ pos t) s ∙ ap (λ (n : ℕ). neg_ℤ (pos (n * t))) k ∙ neg_pos u up in
     let g : FitsSigned w64 (negsuc (u - 1)) = subst (λ (z : ℤ). FitsSigned w64 z) e f in
     let c : u ≤ 2 ^ 63 = omega (arith, g.sfits) in
     wrapped_high (m * t) t u up c (with_rest m t b) ∙ sym e
 
 -- a product that fits doesn't wrap
-pub signed_times : (m t : ℕ) → 0 < t → m < 2 ^ 64 → FitsSigned w64 (signed m *ℤ pos t) → signed (m * t % 2 ^ 64) ≡ signed m *ℤ pos t
+pub signed_times : (m t : ℕ) → 0 < t → m < 2 ^ 64 → FitsSigned w64 (signed m *ℤ pos t) →
+    signed (m * t % 2 ^ 64) ≡ signed m *ℤ pos t
 signed_times m t a b f = below_or_not (2 ^ 63) m (λ l. positive m t l f) (λ l. negative m t a b l f)
 
 raised_rest : (m : ℕ) → m * 2 ^ 32 % 2 ^ 64 ≡ m % 2 ^ 32 * 2 ^ 32
@@ -127,7 +134,8 @@ raised_high l h b =
     let s : cast_signed w32 l ≡ negsuc (2 ^ 32 - suc l) = high_half_is l h in
     let k : suc (2 ^ 32 - suc l) ≡ 2 ^ 32 - l = omega arith in
     let r : 2 ^ 64 - suc (l * 2 ^ 32) ≡ u - 1 = omega arith in
-    high_is (l * 2 ^ 32) (omega arith) ∙ ap (λ k. negsuc k) r ∙ sym (ap (λ (z : ℤ). z *ℤ pos (2 ^ 32)) s ∙ ap (λ (n : ℕ). neg_ℤ (pos (n * 2 ^ 32))) k ∙ neg_pos u (omega arith))
+    high_is (l * 2 ^ 32) (omega arith) ∙ ap (λ k. negsuc k) r ∙ sym
+    (ap (λ (z : ℤ). z *ℤ pos (2 ^ 32)) s ∙ ap (λ (n : ℕ). neg_ℤ (pos (n * 2 ^ 32))) k ∙ neg_pos u (omega arith))
 
 -- times 2 ^ 32, a number is its low half times that
 pub raised_is : (m : ℕ) → signed (m * 2 ^ 32 % 2 ^ 64) ≡ signed_half m *ℤ pos (2 ^ 32)
@@ -170,14 +178,16 @@ fits_halfway z a b k e f =
 abbrev pub IsScaled : ℤ → ℕ → Option ℤ → Type 0
 IsScaled n k r = SomeIff r (FitsSigned w64 (n *ℤ pos (2 ^ k))) (n *ℤ pos (2 ^ k))
 
-pub scaled_on : (n : ℤ) (a b k : ℕ) (part : ℤ) (r : Option ℤ) → a + b ≡ k → part ≡ n *ℤ pos (2 ^ a) → IsScaled part b r → IsScaled n k r
+pub scaled_on : (n : ℤ) (a b k : ℕ) (part : ℤ) (r : Option ℤ) → a + b ≡ k → part ≡ n *ℤ pos (2 ^ a) →
+    IsScaled part b r → IsScaled n k r
 scaled_on n a b k part None e p h =
     λ f. h (subst (λ (z : ℤ). FitsSigned w64 z) (sym (ap (λ (z : ℤ). z *ℤ pos (2 ^ b)) p ∙ scaled_twice n a b k e)) f)
 scaled_on n a b k part (Some z) e p h =
     let same : part *ℤ pos (2 ^ b) ≡ n *ℤ pos (2 ^ k) = ap (λ (z : ℤ). z *ℤ pos (2 ^ b)) p ∙ scaled_twice n a b k e in
     (subst (λ (z : ℤ). FitsSigned w64 z) same h.0, h.1 ∙ same)
 
-pub scaled_not : (n : ℤ) (a b k : ℕ) → a + b ≡ k → (FitsSigned w64 (n *ℤ pos (2 ^ a)) → ⊥) → FitsSigned w64 (n *ℤ pos (2 ^ k)) → ⊥
+pub scaled_not : (n : ℤ) (a b k : ℕ) → a + b ≡ k → (FitsSigned w64 (n *ℤ pos (2 ^ a)) → ⊥) →
+    FitsSigned w64 (n *ℤ pos (2 ^ k)) → ⊥
 scaled_not n a b k e h f = h (fits_halfway n a b k e f)
 
 -- a product, divided again
@@ -185,7 +195,8 @@ shr_neg : (u t : ℕ) → 0 < t → shr_z (neg_ℤ (pos (suc u * t))) t ≡ negs
 shr_neg u t h =
     let up : 0 < suc u * t = mul-pos {m = suc u} {n = t} (omega arith) h in
     let split : suc u * t - 1 ≡ u * t + (t - 1) = omega (arith, suc-mul u t) in
-    ap (λ (z : ℤ). shr_z z t) (neg_pos (suc u * t) up) ∙ ap (λ (k : ℕ). negsuc (k / t)) split ∙ ap (λ (k : ℕ). negsuc k) (div-mul-add u t (t - 1) (omega arith))
+    ap (λ (z : ℤ). shr_z z t) (neg_pos (suc u * t) up) ∙ ap (λ (k : ℕ). negsuc (k / t)) split ∙ ap
+    (λ (k : ℕ). negsuc k) (div-mul-add u t (t - 1) (omega arith))
 
 pub shr_of_product : (z : ℤ) (t : ℕ) → 0 < t → shr_z (z *ℤ pos t) t ≡ z
 shr_of_product (pos m) t h =
@@ -204,7 +215,8 @@ byte_low l h =
     e ∙ sym (ap (λ (z : ℤ). z *ℤ pos (2 ^ 56)) s)
 
 high_byte_is : (l : ℕ) → 2 ^ 7 ≤ l → cast_signed w8 l ≡ negsuc (2 ^ 8 - suc l)
-high_byte_is l h = cond_both (λ z. z ≡ negsuc (2 ^ 8 - suc l)) (nat_lt l (2 ^ 7)) _ _ (λ e. absurd (grind arith)) (λ e. refl)
+high_byte_is l h =
+    cond_both (λ z. z ≡ negsuc (2 ^ 8 - suc l)) (nat_lt l (2 ^ 7)) _ _ (λ e. absurd (grind arith)) (λ e. refl)
 
 byte_high : (l : ℕ) → 2 ^ 7 ≤ l → l < 2 ^ 8 → signed (l * 2 ^ 56) ≡ cast_signed w8 l *ℤ pos (2 ^ 56)
 byte_high l h b =
@@ -212,7 +224,8 @@ byte_high l h b =
     let s : cast_signed w8 l ≡ negsuc (2 ^ 8 - suc l) = high_byte_is l h in
     let k : suc (2 ^ 8 - suc l) ≡ 2 ^ 8 - l = omega arith in
     let r : 2 ^ 64 - suc (l * 2 ^ 56) ≡ u - 1 = omega arith in
-    high_is (l * 2 ^ 56) (omega arith) ∙ ap (λ k. negsuc k) r ∙ sym (ap (λ (z : ℤ). z *ℤ pos (2 ^ 56)) s ∙ ap (λ (n : ℕ). neg_ℤ (pos (n * 2 ^ 56))) k ∙ neg_pos u (omega arith))
+    high_is (l * 2 ^ 56) (omega arith) ∙ ap (λ k. negsuc k) r ∙ sym
+    (ap (λ (z : ℤ). z *ℤ pos (2 ^ 56)) s ∙ ap (λ (n : ℕ). neg_ℤ (pos (n * 2 ^ 56))) k ∙ neg_pos u (omega arith))
 
 pub byte_raised : (m : ℕ) → signed (m * 2 ^ 56 % 2 ^ 64) ≡ cast_signed w8 (m % 2 ^ 8) *ℤ pos (2 ^ 56)
 byte_raised m =
@@ -229,7 +242,8 @@ half_low l h =
     e ∙ sym (ap (λ (z : ℤ). z *ℤ pos (2 ^ 48)) s)
 
 high_short_is : (l : ℕ) → 2 ^ 15 ≤ l → cast_signed w16 l ≡ negsuc (2 ^ 16 - suc l)
-high_short_is l h = cond_both (λ z. z ≡ negsuc (2 ^ 16 - suc l)) (nat_lt l (2 ^ 15)) _ _ (λ e. absurd (grind arith)) (λ e. refl)
+high_short_is l h =
+    cond_both (λ z. z ≡ negsuc (2 ^ 16 - suc l)) (nat_lt l (2 ^ 15)) _ _ (λ e. absurd (grind arith)) (λ e. refl)
 
 half_high : (l : ℕ) → 2 ^ 15 ≤ l → l < 2 ^ 16 → signed (l * 2 ^ 48) ≡ cast_signed w16 l *ℤ pos (2 ^ 48)
 half_high l h b =
@@ -237,7 +251,8 @@ half_high l h b =
     let s : cast_signed w16 l ≡ negsuc (2 ^ 16 - suc l) = high_short_is l h in
     let k : suc (2 ^ 16 - suc l) ≡ 2 ^ 16 - l = omega arith in
     let r : 2 ^ 64 - suc (l * 2 ^ 48) ≡ u - 1 = omega arith in
-    high_is (l * 2 ^ 48) (omega arith) ∙ ap (λ k. negsuc k) r ∙ sym (ap (λ (z : ℤ). z *ℤ pos (2 ^ 48)) s ∙ ap (λ (n : ℕ). neg_ℤ (pos (n * 2 ^ 48))) k ∙ neg_pos u (omega arith))
+    high_is (l * 2 ^ 48) (omega arith) ∙ ap (λ k. negsuc k) r ∙ sym
+    (ap (λ (z : ℤ). z *ℤ pos (2 ^ 48)) s ∙ ap (λ (n : ℕ). neg_ℤ (pos (n * 2 ^ 48))) k ∙ neg_pos u (omega arith))
 
 pub half_raised : (m : ℕ) → signed (m * 2 ^ 48 % 2 ^ 64) ≡ cast_signed w16 (m % 2 ^ 16) *ℤ pos (2 ^ 48)
 half_raised m =

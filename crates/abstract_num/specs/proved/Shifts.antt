@@ -19,7 +19,8 @@ bit_at_shr n k i = ap (λ x. x % 2) (shr-shr n k i)
 
 pub arsh_low : (k n : ℕ) → n < 2 ^ 63 → arsh k n ≡ n / 2 ^ k
 arsh_low k n p =
-    cond_both (λ z. cast_unsigned w64 (int_shr z k) ≡ n / 2 ^ k) (nat_lt n (2 ^ 63)) _ _ (λ e. refl) (λ e. absurd (grind arith))
+    cond_both (λ z. cast_unsigned w64 (int_shr z k) ≡ n / 2 ^ k) (nat_lt n (2 ^ 63)) _ _ (λ e. refl)
+    (λ e. absurd (grind arith))
 
 arsh_high : (k n : ℕ) → 2 ^ 63 ≤ n → n < 2 ^ 64 → arsh k n ≡ bit_not w64 (bit_not w64 n / 2 ^ k)
 arsh_high k n p q =
@@ -51,9 +52,26 @@ bit_at_arsh k n i h q =
     let small : bit_not w64 n < 2 ^ 63 = omega arith in
     let fits : bit_not w64 n / 2 ^ k < 2 ^ 64 = omega (arith, shr_le (bit_not w64 n) k) in
     let j : min (k + i) 63 < 64 = omega arith in
-    omega (arith, ap (λ x. bit_at x i) (arsh_high k n p q), bit_at_not w64 (bit_not w64 n / 2 ^ k) i fits h, bit_low k (bit_not w64 n) i h small, bit_at_not w64 n (min (k + i) 63) q j, bit_at-lt n (min (k + i) 63)))
+    omega (
+      arith,
+      ap (λ x. bit_at x i) (arsh_high k n p q),
+      bit_at_not w64 (bit_not w64 n / 2 ^ k) i fits h,
+      bit_low k (bit_not w64 n) i h small,
+      bit_at_not w64 n (min (k + i) 63) q j,
+      bit_at-lt n (min (k + i) 63),
+    ))
 
-pub clear_arsh : (k n v m : ℕ) → n < 2 ^ 64 → m < 2 ^ 64 → v < 2 ^ 64 → clear n m ≡ v → clear (arsh k n) (arsh k m) ≡ arsh k v
+pub clear_arsh : (k n v m : ℕ) → n < 2 ^ 64 → m < 2 ^ 64 → v < 2 ^ 64 → clear n m ≡ v →
+    clear (arsh k n) (arsh k m) ≡ arsh k v
 clear_arsh k n v m p q r e =
-    same_from_bits_below 64 (clear (arsh k n) (arsh k m)) (arsh k v) (clear_lt (arsh k n) (arsh k m) (arsh_lt k n p)) (arsh_lt k v r)
-    (λ i h. omega (arith, bit_at_clear (arsh k n) (arsh k m) i, bit_at_arsh k n i h p, bit_at_arsh k m i h q, bit_at_arsh k v i h r, bit_at_clear n m (min (k + i) 63), ap (λ x. bit_at x (min (k + i) 63)) e))
+    same_from_bits_below 64 (clear (arsh k n) (arsh k m)) (arsh k v) (clear_lt (arsh k n) (arsh k m) (arsh_lt k n p))
+    (arsh_lt k v r)
+    (λ i h. omega (
+      arith,
+      bit_at_clear (arsh k n) (arsh k m) i,
+      bit_at_arsh k n i h p,
+      bit_at_arsh k m i h q,
+      bit_at_arsh k v i h r,
+      bit_at_clear n m (min (k + i) 63),
+      ap (λ x. bit_at x (min (k + i) 63)) e,
+    ))

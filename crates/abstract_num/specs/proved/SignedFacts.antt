@@ -1,6 +1,7 @@
 -- Proved; nothing here need be believed.
 -- The signed parts keep every number of which the fact holds.
-use Rattle.std.specs.Prelude.{ℕ, ℤ, pos, ◌+ℤ◌, ◌-ℤ◌, ◌≤ℤ◌, ◌<ℤ◌, ◌^◌, ◌<◌, ◌≡◌, ◌≢◌, ◌&&◌, int_le, int_lt, true, false, Option, Some, None, IsSomeAnd}
+use Rattle.std.specs.Prelude.{ℕ, ℤ, pos, ◌+ℤ◌, ◌-ℤ◌, ◌≤ℤ◌, ◌<ℤ◌, ◌^◌, ◌<◌, ◌≡◌, ◌≢◌, ◌&&◌, int_le, int_lt, true, false}
+use Rattle.std.specs.Prelude.{Option, Some, None, IsSomeAnd}
 use Rattle.std.specs.Int.{int_min, int_max, w64, cast_unsigned}
 use Rattle.std.proofs.Common.{sym, ap, ◌∙◌, arith}
 use Rattle.std.proofs.lemmas.Int.{ints, clamps, of_z-to_z, by_lt_z}
@@ -12,7 +13,8 @@ use Rattle.abstract_num.specs.Signed.{signed}
 use Rattle.abstract_num.specs.SignedFacts.{TwoSigned, if_at, signed_fact, crosses}
 use Rattle.abstract_num.specs.proved.SignedRows.{SignedBetween, IsReach}
 use Rattle.abstract_num.specs.declared.fact.Fact.{Fact}
-use Rattle.abstract_num.specs.declared.fact.Fact.TheVariants.{Same, Above, AtLeast, SignedAbove, SignedAtLeast, HalfAbove, HalfAtLeast, Meets, Not, NoneOf}
+use Rattle.abstract_num.specs.declared.fact.Fact.TheVariants.{Same, Above, AtLeast, SignedAbove, SignedAtLeast}
+use Rattle.abstract_num.specs.declared.fact.Fact.TheVariants.{HalfAbove, HalfAtLeast, Meets, Not, NoneOf}
 use Rattle.abstract_num.specs.declared.srange.SRange.{SRange}
 
 abbrev pub AreReaches : TwoSigned → SRange × SRange → Type 0
@@ -78,10 +80,14 @@ pub signed_fact_keeps : (f : Fact) (p q r s : ℤ) (m n : ℕ)
     → p ≤ℤ signed m → signed m ≤ℤ q → r ≤ℤ signed n → signed n ≤ℤ s → m < 2 ^ 64 → IsFact f m n
     → SignedBetween (signed_fact f p q r s).0 m × SignedBetween (signed_fact f p q r s).1 n
 signed_fact_keeps Same p q r s m n a b c d l h =
-    let e : signed m ≡ signed n = ap (λ k. signed k) h in
-    ((most p r (signed m) a (rw e c), least q s (signed m) b (rw e d)), (most p r (signed n) (rw (sym e) a) c, least q s (signed n) (rw (sym e) b) d))
-signed_fact_keeps SignedAbove p q r s m n a b c d l h =
-    ((most _ _ _ a (step_up r (signed n) (signed m) c h), b), (c, least _ _ _ d (step_down q (signed n) (signed m) b h)))
+    let e : signed m ≡ signed n = ap (λ k. signed k) h in (
+      (most p r (signed m) a (rw e c), least q s (signed m) b (rw e d)),
+      (most p r (signed n) (rw (sym e) a) c, least q s (signed n) (rw (sym e) b) d),
+    )
+signed_fact_keeps SignedAbove p q r s m n a b c d l h = (
+  (most _ _ _ a (step_up r (signed n) (signed m) c h), b),
+  (c, least _ _ _ d (step_down q (signed n) (signed m) b h)),
+)
 signed_fact_keeps SignedAtLeast p q r s m n a b c d l h =
     ((most _ _ _ a (through r (signed n) (signed m) c h), b), (c, least _ _ _ d (through (signed n) (signed m) q h b)))
 signed_fact_keeps (Not k) p q r s m n a b c d l h =
@@ -131,5 +137,6 @@ past_one p = omega (arith, ints)
 -- a range of c alone
 pub alone_crosses : (p q r s : ℤ) (c : ℕ) → p ≡ q → p ≡ signed c → crosses (signed_fact (Not c) p q r s) ≡ true
 alone_crosses p q r s c e f =
-    let h : (q -ℤ if_at q (signed c)) <ℤ (p +ℤ if_at p (signed c)) = rw (← e) (rw (alone p (signed c) f) (past_one p)) in
+    let h : (q -ℤ if_at q (signed c)) <ℤ (p +ℤ if_at p (signed c)) =
+    rw (← e) (rw (alone p (signed c) f) (past_one p)) in
     or_true _ _ (lt_yes _ _ h)

@@ -9,7 +9,8 @@ use Rattle.abstract_num.specs.Refined.{IsRefined}
 use Rattle.abstract_num.specs.UnsignedFacts.{TwoRanges, if_at, unsigned_fact, crosses}
 use Rattle.abstract_num.specs.proved.UnsignedRows.{Between, IsSpan}
 use Rattle.abstract_num.specs.declared.fact.Fact.{Fact}
-use Rattle.abstract_num.specs.declared.fact.Fact.TheVariants.{Same, Above, AtLeast, SignedAbove, SignedAtLeast, HalfAbove, HalfAtLeast, Meets, Not, NoneOf}
+use Rattle.abstract_num.specs.declared.fact.Fact.TheVariants.{Same, Above, AtLeast, SignedAbove, SignedAtLeast}
+use Rattle.abstract_num.specs.declared.fact.Fact.TheVariants.{HalfAbove, HalfAtLeast, Meets, Not, NoneOf}
 use Rattle.abstract_num.specs.declared.urange.URange.{URange}
 
 abbrev pub AreSpans : TwoRanges → URange × URange → Type 0

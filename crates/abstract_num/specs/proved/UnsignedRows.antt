@@ -2,7 +2,8 @@
 -- The unsigned part keeps every number.
 use Rattle.std.specs.Prelude.{ℕ, ◌*◌, ◌/◌, ◌%◌, ◌^◌, ◌≡◌, ◌≤◌, ◌<◌, max, nat_lt, bit_or, bit_xor}
 use Rattle.std.proofs.Common.{sym, arith, subst, zero-le}
-use Rattle.std.proofs.lemmas.Nat.{and_le_l, and_le_r, or_lt, xor_lt, le_or_l, le_or_r, leading_length, mul-le, shr_le, pow_pos, le-div, div-add-mod'}
+use Rattle.std.proofs.lemmas.Nat.{and_le_l, and_le_r, or_lt, xor_lt, le_or_l, le_or_r, leading_length, mul-le, shr_le}
+use Rattle.std.proofs.lemmas.Nat.{pow_pos, le-div, div-add-mod'}
 use Rattle.std.proofs.Math.Nat.{div-le_self}
 use Rattle.abstract_num.specs.proved.Shifts.{arsh_low}
 use Rattle.abstract_num.specs.proved.Cases.{cond_both}
@@ -11,7 +12,8 @@ use Rattle.abstract_num.specs.proved.RowsFit.{row_value_fits}
 use Rattle.abstract_num.specs.Parts.{InURange}
 use Rattle.abstract_num.specs.UnsignedRows.{ends, all, digits, power, unsigned_row}
 use Rattle.abstract_num.specs.declared.row.Row.{Row}
-use Rattle.abstract_num.specs.declared.row.Row.TheVariants.{Add, Sub, Mul, Div, Mod, And, Or, Xor, LshBy, RshBy, Rsh, ArshBy, Arsh, SignedLshBy, SignedArshBy, Cut}
+use Rattle.abstract_num.specs.declared.row.Row.TheVariants.{Add, Sub, Mul, Div, Mod, And, Or, Xor, LshBy, RshBy, Rsh}
+use Rattle.abstract_num.specs.declared.row.Row.TheVariants.{ArshBy, Arsh, SignedLshBy, SignedArshBy, Cut}
 use Rattle.abstract_num.specs.declared.urange.URange.{URange}
 
 -- n is between two ends
@@ -20,7 +22,8 @@ Between e n = (e.0 ≤ n) × (n ≤ e.1)
 
 -- what a row gives of numbers between the ends
 abbrev Keeps : Row → Type 0
-Keeps r = (a b c d m n : ℕ) → b < 2 ^ 64 → d < 2 ^ 64 → a ≤ m → m ≤ b → c ≤ n → n ≤ d → Between (unsigned_row r a b c d) (row_value r m n)
+Keeps r = (a b c d m n : ℕ) → b < 2 ^ 64 → d < 2 ^ 64 → a ≤ m → m ≤ b → c ≤ n → n ≤ d →
+    Between (unsigned_row r a b c d) (row_value r m n)
 
 add_keeps : Keeps Add
 add_keeps a b c d m n f g p q r s = grind arith
@@ -142,7 +145,8 @@ IsSpan z e = (z.low ≡ e.0) × (z.high ≡ e.1)
 abbrev pub URangeMoves : Row → URange → URange → URange → Type 0
 URangeMoves r x y z = IsSpan z (unsigned_row r x.low x.high y.low y.high)
 
-pub urange_moves_sound : (r : Row) (x y z : URange) → URangeMoves r x y z → (m n : ℕ) → InURange x m → InURange y n → InURange z (row_value r m n)
+pub urange_moves_sound : (r : Row) (x y z : URange) → URangeMoves r x y z → (m n : ℕ) → InURange x m → InURange y n →
+    InURange z (row_value r m n)
 urange_moves_sound r x y z e m n p q =
     let h = unsigned_row_keeps r x.low x.high y.low y.high m n x.fits y.fits p.0 p.1 q.0 q.1 in
     (rw e.0 h.0, rw e.1 h.1, row_value_fits r m n p.2 q.2)

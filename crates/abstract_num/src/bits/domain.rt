@@ -10,7 +10,8 @@ use crate::row::Row;
 impl Domain for Bits {
     ghost use Rattle.abstract_num.specs.Parts.{InBits, joined_bits, BelowBits};
     ghost use Rattle.abstract_num.specs.proved.Ranges.{same_number_itself};
-    ghost use Rattle.abstract_num.specs.proved.KnownBits.{bits_join_commutes, bits_join_associates, bits_join_of_same, bits_join_is_above, bits_below_holds};
+    ghost use Rattle.abstract_num.specs.proved.KnownBits.{bits_join_commutes, bits_join_associates, bits_join_of_same};
+    ghost use Rattle.abstract_num.specs.proved.KnownBits.{bits_join_is_above, bits_below_holds};
     ghost use Rattle.abstract_num.specs.proved.BitsRows.{BitsMove, bits_move_sound};
     ghost use Rattle.abstract_num.specs.proved.BitsFacts.{BitsRefine, bits_refine_sound};
 

@@ -9,7 +9,8 @@ use crate::row::Row;
 
 impl Domain for Half {
     ghost use Rattle.abstract_num.specs.Parts.{InHalf, HaveSameHalf, joined_half, BelowHalf};
-    ghost use Rattle.abstract_num.specs.proved.Ranges.{same_half_itself, half_join_commutes, half_join_associates, half_join_of_same, half_join_is_above, half_below_holds};
+    ghost use Rattle.abstract_num.specs.proved.Ranges.{same_half_itself, half_join_commutes, half_join_associates};
+    ghost use Rattle.abstract_num.specs.proved.Ranges.{half_join_of_same, half_join_is_above, half_below_holds};
     ghost use Rattle.abstract_num.specs.proved.HalfRows.{HalfMoves, half_moves_sound};
     ghost use Rattle.abstract_num.specs.proved.HalfFacts.{HalfRefines, half_refines_sound};
 

@@ -12,7 +12,8 @@ use crate::half::Half;
 /// The halves between the ends, or none if two ends cross.
 #[inline(always)]
 fn between(low: i32, high: i32, other_low: i32, other_high: i32) -> Option<(Half, Half)>
-    ensures { IsRefined (crosses ((low, high), (other_low, other_high))) (AreHalves ((low, high), (other_low, other_high))) result }
+    ensures { IsRefined (crosses ((low, high), (other_low, other_high)))
+        (AreHalves ((low, high), (other_low, other_high))) result }
 {
     if high < low || other_high < other_low {
         None

@@ -9,7 +9,9 @@ use crate::srange::{SRange, edges, rows};
 
 impl Domain for SRange {
     ghost use Rattle.abstract_num.specs.Parts.{InSRange, joined_srange, BelowSRange};
-    ghost use Rattle.abstract_num.specs.proved.Ranges.{same_number_itself, srange_join_commutes, srange_join_associates, srange_join_of_same, srange_join_is_above, srange_below_holds};
+    ghost use Rattle.abstract_num.specs.proved.Ranges.{same_number_itself, srange_join_commutes};
+    ghost use Rattle.abstract_num.specs.proved.Ranges.{srange_join_associates, srange_join_of_same};
+    ghost use Rattle.abstract_num.specs.proved.Ranges.{srange_join_is_above, srange_below_holds};
     ghost use Rattle.abstract_num.specs.proved.SignedRows.{SRangeMoves, srange_moves_sound};
     ghost use Rattle.abstract_num.specs.proved.SignedFacts.{SRangeRefines, srange_refines_sound};
 

@@ -12,7 +12,8 @@ use crate::srange::SRange;
 /// The ranges between the ends, or none if two ends cross.
 #[inline(always)]
 fn between(low: i64, high: i64, other_low: i64, other_high: i64) -> Option<(SRange, SRange)>
-    ensures { IsRefined (crosses ((low, high), (other_low, other_high))) (AreReaches ((low, high), (other_low, other_high))) result }
+    ensures { IsRefined (crosses ((low, high), (other_low, other_high)))
+        (AreReaches ((low, high), (other_low, other_high))) result }
 {
     if high < low || other_high < other_low {
         None

@@ -9,7 +9,9 @@ use crate::urange::{URange, edges, rows};
 
 impl Domain for URange {
     ghost use Rattle.abstract_num.specs.Parts.{InURange, joined_urange, BelowURange};
-    ghost use Rattle.abstract_num.specs.proved.Ranges.{same_number_itself, urange_join_commutes, urange_join_associates, urange_join_of_same, urange_join_is_above, urange_below_holds};
+    ghost use Rattle.abstract_num.specs.proved.Ranges.{same_number_itself, urange_join_commutes};
+    ghost use Rattle.abstract_num.specs.proved.Ranges.{urange_join_associates, urange_join_of_same};
+    ghost use Rattle.abstract_num.specs.proved.Ranges.{urange_join_is_above, urange_below_holds};
     ghost use Rattle.abstract_num.specs.proved.UnsignedRows.{URangeMoves, urange_moves_sound};
     ghost use Rattle.abstract_num.specs.proved.UnsignedFacts.{URangeRefines, urange_refines_sound};
 

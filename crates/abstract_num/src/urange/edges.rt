@@ -11,7 +11,8 @@ use crate::urange::URange;
 /// The ranges between the ends, or none if two ends cross.
 #[inline(always)]
 fn between(low: u64, high: u64, other_low: u64, other_high: u64) -> Option<(URange, URange)>
-    ensures { IsRefined (crosses ((low, high), (other_low, other_high))) (AreSpans ((low, high), (other_low, other_high))) result }
+    ensures { IsRefined (crosses ((low, high), (other_low, other_high)))
+        (AreSpans ((low, high), (other_low, other_high))) result }
 {
     if high < low || other_high < other_low {
         None

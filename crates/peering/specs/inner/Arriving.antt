@@ -1,12 +1,14 @@
 -- Steps of the code alone; no promise of the crate rests on them.
 -- What is decided before a node moves: the move, and the state after it.
-use Rattle.std.specs.Prelude.{◌≡◌, ℕ, List, [], ◌∷◌, ◌++◌, length, take, drop, Option, Some, None, ◌==◌, unwrap_or, Bool, true, false, if◌then◌else◌}
+use Rattle.std.specs.Prelude.{◌≡◌, ℕ, List, [], ◌∷◌, ◌++◌, length, take, drop, Option, Some, None, ◌==◌, unwrap_or}
+use Rattle.std.specs.Prelude.{Bool, true, false, if◌then◌else◌}
 use Rattle.pg_log.specs.Requests.{ClientRequest}
 use Rattle.pg_log.specs.declared.log_error.LogError.{LogError}
 use Rattle.pg_log.specs.declared.log_error.LogError.TheVariants.{NoMemory}
 use Rattle.pg_log.specs.Log.{Classes}
 use Rattle.group_world.specs.Maps.{GroupMap}
-use Rattle.group_world.specs.Node.{NodeState, Outcome, nothing, and_sends, fresh, is_installing, is_installed, packet, to_others}
+use Rattle.group_world.specs.Node.{NodeState, Outcome, nothing, and_sends, fresh, is_installing, is_installed, packet}
+use Rattle.group_world.specs.Node.{to_others}
 use Rattle.peering.specs.Numbered.{NumberedNode}
 use Rattle.group_world.specs.Unanswered.{reps_from}
 use Rattle.group_world.specs.Rules.{is_usable, replies_from}
@@ -30,7 +32,15 @@ log_after s (Some status) = if is_installing status then [] else s.log
 abbrev pub after_move : NodeState → GroupMap → Option Status → List ℕ → NodeState
 after_move s m None joined = s
 after_move s m (Some status) joined =
-    record { interval = m.interval; members = m; status = status; log = log_after s (Some status); committed = s.committed; joined = joined; acked = [] }
+    record {
+      interval = m.interval;
+      members = m;
+      status = status;
+      log = log_after s (Some status);
+      committed = s.committed;
+      joined = joined;
+      acked = [];
+    }
 
 -- the interval after a move
 abbrev pub interval_after : NodeState → GroupMap → Option Status → ℕ
@@ -57,7 +67,11 @@ install_first classes n s sender m list a = if is_usable classes s list then
 -- and for one that doesn't
 abbrev pub install_again : ℕ → NodeState → Party → GroupMap → Arrival → Outcome
 install_again n s sender m a = if is_installed (unwrap_or a.status s.status) then
-    record { node = after_move s m a.status a.joined.items; sent = a.sent.items ++ packet n sender (InstalledIn (interval_after s m a.status)) ∷ []; refusal = None }
+    record {
+      node = after_move s m a.status a.joined.items;
+      sent = a.sent.items ++ packet n sender (InstalledIn (interval_after s m a.status)) ∷ [];
+      refusal = None;
+    }
     else record { node = after_move s m a.status a.joined.items; sent = a.sent.items; refusal = None }
 
 -- A LIST IS TAKEN, or a length is acknowledged.
@@ -76,11 +90,16 @@ acks_if n receiver s (Some k) = and_sends (nothing s) (packet n receiver (Ack s.
 -- what it sends, if it commits up to a place
 abbrev pub sent_with : Classes → ℕ → NodeState → ClientRequest → ℕ → List Packet
 sent_with classes n s r point =
-    to_others n s.members.acting (Rep s.interval (length s.log) r) ++ replies_from classes n (s.log ++ r ∷ []) s.committed (drop s.committed (take point (s.log ++ r ∷ [])))
+    to_others n s.members.acting (Rep s.interval (length s.log) r) ++
+    replies_from classes n (s.log ++ r ∷ []) s.committed (drop s.committed (take point (s.log ++ r ∷ [])))
 
 -- the outcome, with the acknowledged lengths, the commit point and the messages after it
 abbrev pub grown : NodeState → ClientRequest → Commit → Outcome
-grown s r w = record { node = record s { log = s.log ++ r ∷ []; committed = w.point; acked = w.acked.items }; sent = w.sent.items; refusal = None }
+grown s r w = record {
+  node = record s { log = s.log ++ r ∷ []; committed = w.point; acked = w.acked.items };
+  sent = w.sent.items;
+  refusal = None;
+}
 
 -- SENT AGAIN.
 

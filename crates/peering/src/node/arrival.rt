@@ -50,7 +50,8 @@ impl Arrival {
     /// It takes no memory.
     pub(crate) fn installs<C: Classes>(self, node: &mut GroupNode<C>) -> Vec<Packet>
         ensures number { node.new.number ≡ node.old.number }
-        ensures state { node.new.state ≡ record (node.old.state) { status = Status.Installing; joined = self.joined.items; acked = [] } }
+        ensures state { node.new.state ≡ record
+            (node.old.state) { status = Status.Installing; joined = self.joined.items; acked = [] } }
         ensures sent { result.items ≡ self.sent.items }
     {
         let Arrival {

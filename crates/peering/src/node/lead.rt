@@ -1,6 +1,7 @@
 //! A primary before it is active: it adopts a list, notes the members that have installed it, and
 //! becomes active.
-ghost use Rattle.std.specs.Prelude.{◌≡◌, length, IfOk, IfErr, OnErr, if◌then◌else◌, ◌&&◌, ◌==◌, not, is_none, None, true, ◌≤◌};
+ghost use Rattle.std.specs.Prelude.{◌≡◌, length, IfOk, IfErr, OnErr, if◌then◌else◌, ◌&&◌, ◌==◌, not, is_none, None};
+ghost use Rattle.std.specs.Prelude.{true, ◌≤◌};
 ghost use Rattle.placement.specs.Placement.{has};
 ghost use Rattle.pg_log.specs.Entries.{requests_of};
 ghost use Rattle.pg_log.specs.Log.{Classes as Table, Legal};
@@ -31,7 +32,8 @@ impl<C: Classes> GroupNode<C> {
         list: Requests,
     ) -> Result<Vec<Packet>, HandleError>
         requires { IsLegalBy table.now C.classes self.old.state.log }
-        ensures done { IfOk result (λ sent. IsDone self.old self.new sent.items (adopt_log table.now self.old.number self.old.state interval list)) }
+        ensures done { IfOk result (λ sent. IsDone self.old self.new sent.items
+            (adopt_log table.now self.old.number self.old.state interval list)) }
         ensures err { OnErr result (self.new ≡ self.old) }
         ensures why { IfErr result (λ e. e ≡ HandleError.NoMemory) }
     {
@@ -69,7 +71,8 @@ impl<C: Classes> GroupNode<C> {
 
     /// True if a list is a beginning of the log, and so can be run.
     fn has_run(&self, list: &[Request]) -> bool
-        ensures { (classes : Table) → Legal classes self.now.state.log → result ≡ true → first_refusal classes list.now ≡ None }
+        ensures { (classes : Table) → Legal classes self.now.state.log → result ≡ true →
+            first_refusal classes list.now ≡ None }
     {
         // For the proof: a beginning of a legal list is legal, and nothing refuses a request of a
         // legal list.
@@ -130,7 +133,8 @@ impl<C: Classes> GroupNode<C> {
         sender: Party,
         interval: Epoch,
     ) -> Result<Vec<Packet>, HandleError>
-        ensures done { IfOk result (λ sent. IsDone self.old self.new sent.items (note_installed self.old.number self.old.state sender interval)) }
+        ensures done { IfOk result (λ sent. IsDone self.old self.new sent.items
+            (note_installed self.old.number self.old.state sender interval)) }
         ensures err { OnErr result (self.new ≡ self.old) }
         ensures why { IfErr result (λ e. e ≡ HandleError.NoMemory) }
     {
@@ -153,7 +157,8 @@ impl<C: Classes> GroupNode<C> {
     /// True if it has to note that a member has installed: in this interval, and the member isn't
     /// noted yet.
     fn awaits(&self, member: NodeId, interval: Epoch) -> bool
-        ensures { result ≡ ((interval == self.now.state.interval) && (is_installing self.now.state.status && (has member self.now.state.members.acting && not (has member self.now.state.joined)))) }
+        ensures { result ≡ ((interval == self.now.state.interval) && (is_installing self.now.state.status &&
+            (has member self.now.state.members.acting && not (has member self.now.state.joined)))) }
     {
         interval == self.interval
             && self.status == Status::Installing

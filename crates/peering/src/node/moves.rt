@@ -1,12 +1,14 @@
 //! A node at a map: it learns one, or answers a Query or an Install that carries one.
-ghost use Rattle.std.specs.Prelude.{◌≡◌, ◌≤◌, ◌++◌, ◌∷◌, [], length, unwrap_or, false, Some, ◌&&◌, ◌==◌, IfOk, IfErr, OnOk, OnErr};
+ghost use Rattle.std.specs.Prelude.{◌≡◌, ◌≤◌, ◌++◌, ◌∷◌, [], length, unwrap_or, false, Some, ◌&&◌, ◌==◌, IfOk, IfErr};
+ghost use Rattle.std.specs.Prelude.{OnOk, OnErr};
 ghost use denote.Enum.Bare.{sameb};
 ghost use Rattle.group_world.specs.Node.{and_sends, is_waiting, packet};
 ghost use Rattle.group_world.specs.contracts.status.Status.{the_type};
 ghost use Rattle.group_world.specs.Rules.{would_forget, ignores, arrive, lead, learn_map, answer_query, install};
 ghost use Rattle.peering.specs.Numbered.{IsDone};
 ghost use Rattle.peering_messages.specs.Sending.{IsLegalBy, adopted_sent};
-ghost use Rattle.peering.specs.inner.Arriving.{after_move, Makes, log_after, interval_after, install_first, install_again};
+ghost use Rattle.peering.specs.inner.Arriving.{after_move, Makes, log_after, interval_after, install_first};
+ghost use Rattle.peering.specs.inner.Arriving.{install_again};
 
 use crate::node::GroupNode;
 use crate::node::arrival::Arrival;
@@ -26,7 +28,8 @@ struct ListFrom<'a> {
 impl<C: Classes> GroupNode<C> {
     /// Learns a map.
     pub(crate) fn learn_map(&mut self, map: GroupMap) -> Result<Vec<Packet>, HandleError>
-        ensures done { IfOk result (λ sent. IsDone self.old self.new sent.items (learn_map self.old.number self.old.state map)) }
+        ensures done { IfOk result
+            (λ sent. IsDone self.old self.new sent.items (learn_map self.old.number self.old.state map)) }
         ensures err { OnErr result (self.new ≡ self.old) }
         ensures why { IfErr result (λ e. e ≡ HandleError.NoMemory) }
     {
@@ -44,7 +47,8 @@ impl<C: Classes> GroupNode<C> {
         asker: Party,
         map: GroupMap,
     ) -> Result<Vec<Packet>, HandleError>
-        ensures done { IfOk result (λ sent. IsDone self.old self.new sent.items (answer_query self.old.number self.old.state asker map)) }
+        ensures done { IfOk result
+            (λ sent. IsDone self.old self.new sent.items (answer_query self.old.number self.old.state asker map)) }
         ensures err { OnErr result (self.new ≡ self.old) }
         ensures why { IfErr result (λ e. e ≡ HandleError.NoMemory) }
     {
@@ -58,7 +62,10 @@ impl<C: Classes> GroupNode<C> {
     /// The step at the map of a Query that it doesn't ignore, with its Log.
     fn answering(&self, asker: Party, map: &GroupMap) -> Result<Arrival, HandleError>
         requires { would_forget self.now.number self.now.state map.now ≡ false }
-        ensures ok { IfOk result (λ a. Makes self.now.state map.now a (and_sends (arrive self.now.number self.now.state map.now) (packet self.now.number asker (MessageKind.Log (arrive self.now.number self.now.state map.now).node.interval (arrive self.now.number self.now.state map.now).node.log)))) }
+        ensures ok { IfOk result
+            (λ a. Makes self.now.state map.now a (and_sends (arrive self.now.number self.now.state map.now)
+            (packet self.now.number asker (MessageKind.Log (arrive self.now.number self.now.state map.now).node.interval
+            (arrive self.now.number self.now.state map.now).node.log)))) }
         ensures within { IfOk result (λ a. self.now.state.committed ≤ length (log_after self.now.state a.status)) }
         ensures err { IfErr result (λ e. e ≡ HandleError.NoMemory) }
     {
@@ -75,7 +82,8 @@ impl<C: Classes> GroupNode<C> {
         status: Option<Status>,
         sent: &mut Vec<Packet>,
     ) -> Result<(), HandleError>
-        ensures ok { OnOk result (sent.new.items ≡ sent.old.items ++ packet self.now.number receiver (MessageKind.Log (interval_after self.now.state map.now status) (log_after self.now.state status)) ∷ []) }
+        ensures ok { OnOk result (sent.new.items ≡ sent.old.items ++ packet self.now.number receiver
+            (MessageKind.Log (interval_after self.now.state map.now status) (log_after self.now.state status)) ∷ []) }
         ensures err { IfErr result (λ e. e ≡ HandleError.NoMemory) }
     {
         let list = self.log_after(status)?;
@@ -91,7 +99,8 @@ impl<C: Classes> GroupNode<C> {
         status: Option<Status>,
         sent: &mut Vec<Packet>,
     ) -> Result<(), HandleError>
-        ensures ok { OnOk result (sent.new.items ≡ sent.old.items ++ packet self.now.number receiver (MessageKind.Installed (interval_after self.now.state map.now status)) ∷ []) }
+        ensures ok { OnOk result (sent.new.items ≡ sent.old.items ++ packet self.now.number receiver
+            (MessageKind.Installed (interval_after self.now.state map.now status)) ∷ []) }
         ensures err { IfErr result (λ e. e ≡ HandleError.NoMemory) }
     {
         let kind = MessageKind::Installed(self.interval_after(map, status));
@@ -108,7 +117,8 @@ impl<C: Classes> GroupNode<C> {
         list: Requests,
     ) -> Result<Vec<Packet>, HandleError>
         requires { IsLegalBy table.now C.classes self.old.state.log }
-        ensures done { IfOk result (λ sent. IsDone self.old self.new sent.items (install table.now self.old.number self.old.state sender map list)) }
+        ensures done { IfOk result (λ sent. IsDone self.old self.new sent.items
+            (install table.now self.old.number self.old.state sender map list)) }
         ensures err { OnErr result (self.new ≡ self.old) }
         ensures why { IfErr result (λ e. e ≡ HandleError.NoMemory) }
     {
@@ -140,7 +150,8 @@ impl<C: Classes> GroupNode<C> {
     ) -> Result<Vec<Packet>, HandleError>
         requires legal { IsLegalBy table.now C.classes self.old.state.log }
         requires waits { unwrap_or arrival.status self.old.state.status ≡ Status.Waiting }
-        ensures done { IfOk result (λ sent. IsDone self.old self.new sent.items (install_first table.now self.old.number self.old.state from.now.sender map from.now.list.now arrival)) }
+        ensures done { IfOk result (λ sent. IsDone self.old self.new sent.items
+            (install_first table.now self.old.number self.old.state from.now.sender map from.now.list.now arrival)) }
         ensures err { OnErr result (self.new ≡ self.old) }
         ensures why { IfErr result (λ e. e ≡ HandleError.NoMemory) }
     {
@@ -163,7 +174,8 @@ impl<C: Classes> GroupNode<C> {
         mut arrival: Arrival,
     ) -> Result<Vec<Packet>, HandleError>
         requires { self.old.state.committed ≤ length (log_after self.old.state arrival.status) }
-        ensures done { IfOk result (λ sent. IsDone self.old self.new sent.items (install_again self.old.number self.old.state sender map arrival)) }
+        ensures done { IfOk result (λ sent. IsDone self.old self.new sent.items
+            (install_again self.old.number self.old.state sender map arrival)) }
         ensures err { OnErr result (self.new ≡ self.old) }
         ensures why { IfErr result (λ e. e ≡ HandleError.NoMemory) }
     {

@@ -72,7 +72,8 @@ fn reps_unacked(
     acting: &[NodeId],
     acked: &[usize],
 ) -> Result<Vec<Packet>, HandleError>
-    ensures ok { IfOk result (λ v. v.items ≡ reps_unacked number (at_interval log.now.interval (requests_of log.now.entries.now)) acting.now acked.now) }
+    ensures ok { IfOk result (λ v. v.items ≡
+        reps_unacked number (at_interval log.now.interval (requests_of log.now.entries.now)) acting.now acked.now) }
     ensures err { IfErr result (λ e. e ≡ HandleError.NoMemory) }
 {
     let mut sent = Vec::new(alloc);
@@ -91,7 +92,8 @@ fn reps_for(
     from: Place,
     sent: &mut Vec<Packet>,
 ) -> Result<(), HandleError>
-    ensures ok { OnOk result (sent.new.items ≡ sent.old.items ++ reps_for number node log.now.interval from (requests_of (drop from log.now.entries.now))) }
+    ensures ok { OnOk result (sent.new.items ≡ sent.old.items ++
+        reps_for number node log.now.interval from (requests_of (drop from log.now.entries.now))) }
     ensures err { IfErr result (λ e. e ≡ HandleError.NoMemory) }
 {
     if node == number {

@@ -1,8 +1,10 @@
 //! An active primary and its members: requests, their replication, and acknowledgements.
-ghost use Rattle.std.specs.Prelude.{◌≡◌, ◌≤◌, ◌+◌, ◌++◌, ◌∷◌, [], length, max, if◌then◌else◌, is_none, IfOk, IfErr, OnOk, OnErr, None, Some};
+ghost use Rattle.std.specs.Prelude.{◌≡◌, ◌≤◌, ◌+◌, ◌++◌, ◌∷◌, [], length, max, if◌then◌else◌, is_none, IfOk, IfErr};
+ghost use Rattle.std.specs.Prelude.{OnOk, OnErr, None, Some};
 ghost use mathlib.Core.List.{IsPrefix};
 ghost use Rattle.pg_log.specs.Refusals.{place_of, refusal};
-ghost use Rattle.group_world.specs.Rules.{request as request_step, request_at, append_new, replicate, acknowledge, least_of, raised};
+ghost use Rattle.group_world.specs.Rules.{request as request_step, request_at, append_new, replicate, acknowledge};
+ghost use Rattle.group_world.specs.Rules.{least_of, raised};
 ghost use Rattle.pg_log.specs.Entries.{IsNextEntry};
 ghost use Rattle.peering.specs.Numbered.{IsDone, IsRefusal};
 ghost use Rattle.peering_messages.specs.Sending.{IsLegalBy, IsNextReply};
@@ -35,7 +37,8 @@ impl<C: Classes> GroupNode<C> {
         request: Request,
     ) -> Result<Vec<Packet>, HandleError>
         requires legal { IsLegalBy table.now C.classes self.old.state.log }
-        ensures done { IfOk result (λ sent. IsDone self.old self.new sent.items (request_step table.now self.old.number self.old.state request)) }
+        ensures done { IfOk result (λ sent. IsDone self.old self.new sent.items
+            (request_step table.now self.old.number self.old.state request)) }
         ensures err { OnErr result (self.new ≡ self.old) }
         ensures why { IfErr result (λ e. IsRefusal (request_step table.now self.old.number self.old.state request) e) }
     {
@@ -49,9 +52,13 @@ impl<C: Classes> GroupNode<C> {
     /// A client's request at an active primary.
     fn serve(&mut self, table: &ClassTable, request: Request) -> Result<Vec<Packet>, HandleError>
         requires legal { IsLegalBy table.now C.classes self.old.state.log }
-        ensures done { IfOk result (λ sent. IsDone self.old self.new sent.items (request_at table.now self.old.number self.old.state request (place_of request.client request.number self.old.state.log))) }
+        ensures done { IfOk result
+            (λ sent. IsDone self.old self.new sent.items (request_at table.now self.old.number self.old.state request
+            (place_of request.client request.number self.old.state.log))) }
         ensures err { OnErr result (self.new ≡ self.old) }
-        ensures why { IfErr result (λ e. IsRefusal (request_at table.now self.old.number self.old.state request (place_of request.client request.number self.old.state.log)) e) }
+        ensures why { IfErr result
+            (λ e. IsRefusal (request_at table.now self.old.number self.old.state request
+            (place_of request.client request.number self.old.state.log)) e) }
     {
         match self.group().reply_of(request.client(), request.number()) {
             None => self.append(table, request),
@@ -68,7 +75,8 @@ impl<C: Classes> GroupNode<C> {
     ) -> Result<Vec<Packet>, HandleError>
         requires legal { IsLegalBy table.now C.classes self.now.state.log }
         requires logged { place_of request.now.client request.now.number self.now.state.log ≡ Some place }
-        ensures done { IfOk result (λ sent. IsDone self.now self.now sent.items (request_at table.now self.now.number self.now.state request.now (Some place))) }
+        ensures done { IfOk result (λ sent. IsDone self.now self.now sent.items
+            (request_at table.now self.now.number self.now.state request.now (Some place))) }
         ensures why { IfErr result (λ e. e ≡ HandleError.NoMemory) }
     {
         // For the proof: the place of a logged pair is in range, and has the pair.
@@ -91,9 +99,11 @@ impl<C: Classes> GroupNode<C> {
     /// Appends a request that isn't logged.
     fn append(&mut self, table: &ClassTable, request: Request) -> Result<Vec<Packet>, HandleError>
         requires legal { IsLegalBy table.now C.classes self.old.state.log }
-        ensures done { IfOk result (λ sent. IsDone self.old self.new sent.items (request_at table.now self.old.number self.old.state request None)) }
+        ensures done { IfOk result (λ sent. IsDone self.old self.new sent.items
+            (request_at table.now self.old.number self.old.state request None)) }
         ensures err { OnErr result (self.new ≡ self.old) }
-        ensures why { IfErr result (λ e. IsRefusal (request_at table.now self.old.number self.old.state request None) e) }
+        ensures why { IfErr result
+            (λ e. IsRefusal (request_at table.now self.old.number self.old.state request None) e) }
     {
         // It runs before anything is sent, and each message is built before the entry is kept: so
         // refusals 1 to 7 come before 8, and a refusal leaves the node as it was.
@@ -106,7 +116,8 @@ impl<C: Classes> GroupNode<C> {
         requires legal { IsLegalBy table.now C.classes self.old.state.log }
         requires next { IsNextEntry C.classes self.old.state.log entry }
         requires reply { IsNextReply table.now self.old.state.log entry }
-        ensures done { IfOk result (λ sent. IsDone self.old self.new sent.items (append_new table.now self.old.number self.old.state entry.request)) }
+        ensures done { IfOk result (λ sent. IsDone self.old self.new sent.items
+            (append_new table.now self.old.number self.old.state entry.request)) }
         ensures err { OnErr result (self.new ≡ self.old) }
         ensures why { IfErr result (λ e. e ≡ HandleError.NoMemory) }
     {
@@ -118,7 +129,8 @@ impl<C: Classes> GroupNode<C> {
     fn commit_new(&self, table: &ClassTable, entry: &Entry) -> Result<Commit, HandleError>
         requires legal { IsLegalBy table.now C.classes self.now.state.log }
         requires reply { IsNextReply table.now self.now.state.log entry.now }
-        ensures ok { IfOk result (λ w. grown self.now.state entry.now.request w ≡ append_new table.now self.now.number self.now.state entry.now.request) }
+        ensures ok { IfOk result (λ w. grown self.now.state entry.now.request w ≡
+            append_new table.now self.now.number self.now.state entry.now.request) }
         ensures within { IfOk result (λ w. w.point ≤ length self.now.state.log + 1) }
         ensures err { IfErr result (λ e. e ≡ HandleError.NoMemory) }
     {
@@ -141,7 +153,8 @@ impl<C: Classes> GroupNode<C> {
         requires legal { IsLegalBy table.now C.classes self.now.state.log }
         requires reply { IsNextReply table.now self.now.state.log entry.now }
         requires within { point ≤ length self.now.state.log + 1 }
-        ensures ok { IfOk result (λ v. v.items ≡ sent_with table.now self.now.number self.now.state entry.now.request point) }
+        ensures ok { IfOk result (λ v. v.items ≡
+            sent_with table.now self.now.number self.now.state entry.now.request point) }
         ensures err { IfErr result (λ e. e ≡ HandleError.NoMemory) }
     {
         let rep = RepRef {
@@ -164,7 +177,8 @@ impl<C: Classes> GroupNode<C> {
     fn grow(&mut self, entry: Entry, commit: Commit) -> Result<Vec<Packet>, HandleError>
         requires next { IsNextEntry C.classes self.old.state.log entry }
         requires within { commit.point ≤ length self.old.state.log + 1 }
-        ensures done { IfOk result (λ sent. IsDone self.old self.new sent.items (grown self.old.state entry.request commit)) }
+        ensures done { IfOk result
+            (λ sent. IsDone self.old self.new sent.items (grown self.old.state entry.request commit)) }
         ensures err { OnErr result (self.new ≡ self.old) }
         ensures why { IfErr result (λ e. e ≡ HandleError.NoMemory) }
     {
@@ -185,7 +199,8 @@ impl<C: Classes> GroupNode<C> {
         ensures unrefused { IfOk result (λ _. refusal table.now self.old.state.log request ≡ None) }
         ensures reply { IfOk result (λ e. IsNextReply table.now self.old.state.log e) }
         ensures same { self.new ≡ self.old }
-        ensures why { IfErr result (λ e. IsRefusal (request_at table.now self.old.number self.old.state request None) e) }
+        ensures why { IfErr result
+            (λ e. IsRefusal (request_at table.now self.old.number self.old.state request None) e) }
     {
         // For the proof: a list with one request more is legal exactly if nothing refuses the
         // request, and added classes change nothing of a legal list.
@@ -210,7 +225,8 @@ impl<C: Classes> GroupNode<C> {
         rep: Rep,
     ) -> Result<Vec<Packet>, HandleError>
         requires { IsPrefix table.now C.classes }
-        ensures done { IfOk result (λ sent. IsDone self.old self.new sent.items (replicate table.now self.old.number self.old.state sender rep.epoch rep.place rep.request)) }
+        ensures done { IfOk result (λ sent. IsDone self.old self.new sent.items
+            (replicate table.now self.old.number self.old.state sender rep.epoch rep.place rep.request)) }
         ensures err { OnErr result (self.new ≡ self.old) }
         ensures why { IfErr result (λ e. e ≡ HandleError.NoMemory) }
     {
@@ -231,7 +247,9 @@ impl<C: Classes> GroupNode<C> {
     fn takes_rep(&mut self, table: &ClassTable, rep: Rep) -> Result<Option<usize>, HandleError>
         requires { IsPrefix table.now C.classes }
         ensures number { OnOk result (self.new.number ≡ self.old.number) }
-        ensures acks { IfOk result (λ length. (sender : Party) → acks_if self.old.number sender self.new.state length ≡ replicate table.now self.old.number self.old.state sender rep.epoch rep.place rep.request) }
+        ensures acks { IfOk result (λ length. (sender : Party) →
+            acks_if self.old.number sender self.new.state length ≡
+            replicate table.now self.old.number self.old.state sender rep.epoch rep.place rep.request) }
         ensures err { OnErr result (self.new ≡ self.old) }
         ensures why { IfErr result (λ e. e ≡ HandleError.NoMemory) }
     {
@@ -258,7 +276,8 @@ impl<C: Classes> GroupNode<C> {
         ack: Ack,
     ) -> Result<Vec<Packet>, HandleError>
         requires { IsLegalBy table.now C.classes self.old.state.log }
-        ensures done { IfOk result (λ sent. IsDone self.old self.new sent.items (acknowledge table.now self.old.number self.old.state (Party.Node ack.sender) ack.epoch ack.length)) }
+        ensures done { IfOk result (λ sent. IsDone self.old self.new sent.items
+            (acknowledge table.now self.old.number self.old.state (Party.Node ack.sender) ack.epoch ack.length)) }
         ensures err { OnErr result (self.new ≡ self.old) }
         ensures why { IfErr result (λ e. e ≡ HandleError.NoMemory) }
     {

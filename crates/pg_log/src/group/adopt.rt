@@ -1,6 +1,7 @@
 //! A log that becomes another list: what both begin with stays, and only the rest is run.
 
-ghost use Rattle.std.specs.Prelude.{◌≡◌, ◌<◌, ◌≤◌, ◌+◌, ◌∷◌, ◌++◌, ◌⊎◌, ◌↔◌, [], Some, None, IsTrue, IfOk, IfErr, OnOk, OnErr, Ok, Err, length, take, vec_capacity};
+ghost use Rattle.std.specs.Prelude.{◌≡◌, ◌<◌, ◌≤◌, ◌+◌, ◌∷◌, ◌++◌, ◌⊎◌, ◌↔◌, [], Some, None, IsTrue, IfOk, IfErr, OnOk};
+ghost use Rattle.std.specs.Prelude.{OnErr, Ok, Err, length, take, vec_capacity};
 ghost use Rattle.std.specs.FinMap as fin;
 ghost use mathlib.Core.List.{IsPrefix};
 ghost use Rattle.pg_log.specs.Log.{fold};
@@ -57,7 +58,8 @@ impl<C: Classes> Group<C> {
         requires { IsPrefix table.now C.classes }
         ensures ok { OnOk result ((self.new ≡ list.now) × (first_refusal table.now list.now ≡ None)) }
         ensures refused { OnErr result (self.new ≡ self.old) }
-        ensures err { IfErr result (λ e. (first_refusal table.now list.now ≡ Some e) ⊎ ((e ≡ LogError.NoMemory) × SomeCanRun table.now list.now)) }
+        ensures err { IfErr result (λ e. (first_refusal table.now list.now ≡ Some e) ⊎
+            ((e ≡ LogError.NoMemory) × SomeCanRun table.now list.now)) }
     {
         *self = Self::replay(self.log.alloc, table, list)?;
         Ok(())
@@ -95,7 +97,8 @@ impl<C: Classes> Group<C> {
         requires kept { KeepsLog C.classes log.old }
         requires common { take at (requests_of log.old.entries.items) ≡ take at list.now }
         requires within { (0 < at) × (at ≤ length log.old.entries.items) × (at ≤ length list.now) }
-        ensures ok { OnOk result ((requests_of log.new.entries.items ≡ list.now) × (rest_refusal table.now list.now at ≡ None)) }
+        ensures ok { OnOk result ((requests_of log.new.entries.items ≡ list.now) ×
+            (rest_refusal table.now list.now at ≡ None)) }
         ensures refused { OnErr result (log.new.entries.items ≡ log.old.entries.items) }
         ensures err { IfErr result (λ e. RestRefuses table.now list.now at e) }
         ensures kept { KeepsLog C.classes log.new }
@@ -151,7 +154,8 @@ impl<C: Classes> Group<C> {
         requires kept { KeepsLog C.classes log.old }
         requires begun { requests_of log.old.entries.items ≡ take at list.now }
         requires within { (0 < at) × (at ≤ length list.now) }
-        ensures ok { OnOk result ((requests_of log.new.entries.items ≡ list.now) × (rest_refusal table.now list.now at ≡ None)) }
+        ensures ok { OnOk result ((requests_of log.new.entries.items ≡ list.now) ×
+            (rest_refusal table.now list.now at ≡ None)) }
         ensures err { IfErr result (λ e. RestRefuses table.now list.now at e) }
         ensures kept { KeepsLog C.classes log.new }
         ensures begun { IsPrefix log.old.entries.items log.new.entries.items }
@@ -168,8 +172,10 @@ impl<C: Classes> Group<C> {
     fn extend_by(log: &mut Log, table: &ClassTable, request: &Request) -> Result<(), LogError>
         requires table { IsPrefix table.now C.classes }
         requires kept { KeepsLog C.classes log.old }
-        ensures ok { OnOk result ((requests_of log.new.entries.items ≡ requests_of log.old.entries.items ++ request.now ∷ []) × (refusal table.now (requests_of log.old.entries.items) request.now ≡ None)) }
-        ensures err { IfErr result (λ e. Refuses (refusal table.now (requests_of log.old.entries.items) request.now) e) }
+        ensures ok { OnOk result ((requests_of log.new.entries.items ≡ requests_of log.old.entries.items ++
+            request.now ∷ []) × (refusal table.now (requests_of log.old.entries.items) request.now ≡ None)) }
+        ensures err { IfErr result
+            (λ e. Refuses (refusal table.now (requests_of log.old.entries.items) request.now) e) }
         ensures kept { KeepsLog C.classes log.new }
         ensures begun { IsPrefix log.old.entries.items log.new.entries.items }
         ensures entries_room { vec_capacity log.old.entries ≤ vec_capacity log.new.entries }
@@ -188,7 +194,8 @@ fn put_back(log: &mut Log, at: usize, tail: &mut Vec<Entry>)
     requires entries_room { at + length tail.old.items ≤ vec_capacity log.old.entries }
     requires room { HasRoom log.old.places (take at (requests_of log.old.entries.items) ++ requests_of tail.old.items) }
     ensures entries { log.new.entries.items ≡ take at log.old.entries.items ++ tail.old.items }
-    ensures places { ArePlaces log.new.places (take at (requests_of log.old.entries.items) ++ requests_of tail.old.items) }
+    ensures places { ArePlaces log.new.places
+        (take at (requests_of log.old.entries.items) ++ requests_of tail.old.items) }
     ensures objects { log.new.objects ≡ log.old.objects }
 {
     log.places.take_back(&log.entries[at..]);

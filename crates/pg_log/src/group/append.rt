@@ -1,7 +1,8 @@
 //! A log with one request more.
 
 ghost use Rattle.std.specs.Int.{w64, cast_unsigned};
-ghost use Rattle.std.specs.Prelude.{◌≡◌, ◌<◌, ◌≤◌, ◌∷◌, ◌++◌, ◌⊎◌, [], List, length, vec_len, vec_capacity, IfOk, IfErr, OnOk, OnErr, Some, None, Ok, Err};
+ghost use Rattle.std.specs.Prelude.{◌≡◌, ◌<◌, ◌≤◌, ◌∷◌, ◌++◌, ◌⊎◌, [], List, length, vec_len, vec_capacity, IfOk};
+ghost use Rattle.std.specs.Prelude.{IfErr, OnOk, OnErr, Some, None, Ok, Err};
 ghost use mathlib.Core.List.{IsPrefix};
 ghost use Rattle.bpf_decode.specs.Class.{ClassMethod};
 ghost use Rattle.bpf_machine.specs.Safe.{IsSafe};
@@ -10,7 +11,8 @@ ghost use Rattle.pg_log.specs.Requests.{ClientRequest};
 ghost use Rattle.pg_log.specs.Log.{Legal, NumbersRise, fold, reply_at};
 ghost use Rattle.pg_log.specs.Places.{ArePlaces, RoomStays};
 ghost use Rattle.pg_log.specs.Refusals.{place_of, refusal, Refuses, append_answer, list_after};
-ghost use Rattle.pg_log.specs.Entries.{IsOutcome, IsOutcomeOn, IsSafeRequest, IsNextEntry, Keeps, KeepsLog, requests_of};
+ghost use Rattle.pg_log.specs.Entries.{IsOutcome, IsOutcomeOn, IsSafeRequest, IsNextEntry, Keeps, KeepsLog};
+ghost use Rattle.pg_log.specs.Entries.{requests_of};
 
 use crate::class_test::method_of;
 use crate::classes::Classes;
@@ -40,8 +42,10 @@ impl<C: Classes> Group<C> {
         requires { IsPrefix table.now C.classes }
         // The answer by the list; want of memory only if the request would be added.
         ensures answer { (result ≡ append_answer table.now self.old request)
-            ⊎ ((result ≡ Err LogError.NoMemory) × (place_of request.client request.number self.old ≡ None) × (refusal table.now self.old request ≡ None)) }
-        ensures ok { OnOk result (self.new ≡ list_after (place_of request.client request.number self.old) self.old request) }
+            ⊎ ((result ≡ Err LogError.NoMemory) × (place_of request.client request.number self.old ≡ None) ×
+            (refusal table.now self.old request ≡ None)) }
+        ensures ok { OnOk result (self.new ≡ list_after
+            (place_of request.client request.number self.old) self.old request) }
         ensures refused { OnErr result (self.new ≡ self.old) }
     {
         if let Some(place) = self.place(&request) {
@@ -62,8 +66,10 @@ impl<C: Classes> Group<C> {
         requires table { IsPrefix table.now C.classes }
         requires none { place_of request.client request.number self.old ≡ None }
         ensures answer { (result ≡ append_answer table.now self.old request)
-            ⊎ ((result ≡ Err LogError.NoMemory) × (place_of request.client request.number self.old ≡ None) × (refusal table.now self.old request ≡ None)) }
-        ensures ok { OnOk result (self.new ≡ list_after (place_of request.client request.number self.old) self.old request) }
+            ⊎ ((result ≡ Err LogError.NoMemory) × (place_of request.client request.number self.old ≡ None) ×
+            (refusal table.now self.old request ≡ None)) }
+        ensures ok { OnOk result (self.new ≡ list_after
+            (place_of request.client request.number self.old) self.old request) }
         ensures refused { OnErr result (self.new ≡ self.old) }
     {
         let entry = self.next_entry(table, request)?;
@@ -80,7 +86,8 @@ impl<C: Classes> Group<C> {
         ensures next { IfOk result (λ e. IsNextEntry C.classes self.old e) }
         ensures request { IfOk result (λ e. e.request ≡ request) }
         ensures unrefused { IfOk result (λ _. refusal table.now self.old request ≡ None) }
-        ensures reply { IfOk result (λ e. reply_at C.classes (self.old ++ request ∷ []) (length self.old) ≡ Some (record { code = cast_unsigned w64 e.code; output = e.output.items })) }
+        ensures reply { IfOk result (λ e. reply_at C.classes (self.old ++ request ∷ []) (length self.old) ≡
+            Some (record { code = cast_unsigned w64 e.code; output = e.output.items })) }
         ensures err { IfErr result (λ e. Refuses (refusal table.now self.old request) e) }
         ensures same { self.new ≡ self.old }
     {
@@ -108,7 +115,8 @@ impl<C: Classes> Group<C> {
     /// Runs a request that may follow the log on its object, and gives the outcome. It leaves the
     /// group as it was.
     pub(crate) fn run(&mut self, table: &ClassTable, request: &Request) -> Result<Outcome, LogError>
-        ensures ok { IfOk result (λ o. (refusal table.now self.old request.now ≡ None) × IsOutcomeOn table.now (fold C.classes self.old) request.now o.code o.output.items o.change) }
+        ensures ok { IfOk result (λ o. (refusal table.now self.old request.now ≡ None) ×
+            IsOutcomeOn table.now (fold C.classes self.old) request.now o.code o.output.items o.change) }
         ensures err { IfErr result (λ e. Refuses (refusal table.now self.old request.now) e) }
         ensures same { self.new ≡ self.old }
         ensures safe { IfOk result (λ _. IsSafeRequest table.now request.now) }
@@ -150,7 +158,8 @@ impl<C: Classes> Group<C> {
     fn admit(log: &mut Log, entry: &Entry) -> Result<(), LogError>
         requires kept { KeepsLog C.classes log.old }
         requires next { IsNextEntry C.classes (requests_of log.old.entries.items) entry.now }
-        ensures ok { OnOk result (Keeps C.classes (log.old.entries.items ++ entry.now ∷ []) log.new.objects log.new.places) }
+        ensures ok { OnOk result (Keeps C.classes
+            (log.old.entries.items ++ entry.now ∷ []) log.new.objects log.new.places) }
         ensures reserved { OnOk result (vec_len log.new.entries < vec_capacity log.new.entries) }
         ensures err { IfErr result (λ e. e ≡ LogError.NoMemory) }
         ensures stays { OnErr result (KeepsLog C.classes log.new) }
@@ -167,7 +176,8 @@ impl<C: Classes> Group<C> {
     fn put(log: &mut Log, entry: &Entry) -> Result<(), LogError>
         requires kept { KeepsLog C.classes log.old }
         requires next { IsNextEntry C.classes (requests_of log.old.entries.items) entry.now }
-        ensures ok { OnOk result (Keeps C.classes (log.old.entries.items ++ entry.now ∷ []) log.new.objects log.new.places) }
+        ensures ok { OnOk result (Keeps C.classes
+            (log.old.entries.items ++ entry.now ∷ []) log.new.objects log.new.places) }
         ensures err { IfErr result (λ e. e ≡ LogError.NoMemory) }
         ensures stays { OnErr result (KeepsLog C.classes log.new) }
         ensures entries { log.new.entries ≡ log.old.entries }
@@ -195,9 +205,12 @@ pub(crate) fn run_after(
     table: &ClassTable,
     request: &Request,
 ) -> Result<Outcome, LogError>
-    ensures ok { (list : List ClientRequest) → length list ≡ length log.old.entries.items → ArePlaces log.old.places list → NumbersRise list
-        → IfOk result (λ o. (refusal table.now list request.now ≡ None) × IsOutcomeOn table.now log.old.objects request.now o.code o.output.items o.change) }
-    ensures err { (list : List ClientRequest) → length list ≡ length log.old.entries.items → ArePlaces log.old.places list → NumbersRise list
+    ensures ok { (list : List ClientRequest) → length list ≡ length log.old.entries.items →
+        ArePlaces log.old.places list → NumbersRise list
+        → IfOk result (λ o. (refusal table.now list request.now ≡ None) ×
+        IsOutcomeOn table.now log.old.objects request.now o.code o.output.items o.change) }
+    ensures err { (list : List ClientRequest) → length list ≡ length log.old.entries.items →
+        ArePlaces log.old.places list → NumbersRise list
         → IfErr result (λ e. Refuses (refusal table.now list request.now) e) }
     ensures entries { log.new.entries ≡ log.old.entries }
     ensures objects { log.new.objects ≡ log.old.objects }
@@ -251,7 +264,8 @@ fn run_method(
     request: &Request,
 ) -> Result<Outcome, LogError>
     requires { length request.now.input ≤ method.now.in_cap }
-    ensures ok { IfOk result (λ o. IsOutcome (Some method.now) (option_copied object.entry) request.now o.code o.output.items o.change) }
+    ensures ok { IfOk result
+        (λ o. IsOutcome (Some method.now) (option_copied object.entry) request.now o.code o.output.items o.change) }
     ensures safe { IfOk result (λ _. IsSafe method.now) }
     ensures err { IfErr result (λ e. e ≡ LogError.NoMemory) }
 {

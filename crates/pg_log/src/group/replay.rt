@@ -25,7 +25,8 @@ impl<C: Classes> Group<C> {
     pub fn replay(alloc: Global, table: &ClassTable, list: &[Request]) -> Result<Group<C>, LogError>
         requires { IsPrefix table.now C.classes }
         ensures ok { IfOk result (λ g. (g ≡ list.now) × (first_refusal table.now list.now ≡ None)) }
-        ensures err { IfErr result (λ e. (first_refusal table.now list.now ≡ Some e) ⊎ ((e ≡ LogError.NoMemory) × SomeCanRun table.now list.now)) }
+        ensures err { IfErr result (λ e. (first_refusal table.now list.now ≡ Some e) ⊎
+            ((e ≡ LogError.NoMemory) × SomeCanRun table.now list.now)) }
     {
         let mut group = Group::new(alloc);
         group.run_all(table, list)?;
@@ -37,7 +38,8 @@ impl<C: Classes> Group<C> {
         requires table { IsPrefix table.now C.classes }
         requires empty { self.old ≡ [] }
         ensures ok { OnOk result ((self.new ≡ list.now) × (first_refusal table.now list.now ≡ None)) }
-        ensures err { IfErr result (λ e. (first_refusal table.now list.now ≡ Some e) ⊎ ((e ≡ LogError.NoMemory) × SomeCanRun table.now list.now)) }
+        ensures err { IfErr result (λ e. (first_refusal table.now list.now ≡ Some e) ⊎
+            ((e ≡ LogError.NoMemory) × SomeCanRun table.now list.now)) }
     {
         for request in list {
             self.run_next(table, request)?;
@@ -48,7 +50,8 @@ impl<C: Classes> Group<C> {
     /// Runs a request that may follow the log, and logs a copy of it.
     fn run_next(&mut self, table: &ClassTable, request: &Request) -> Result<(), LogError>
         requires { IsPrefix table.now C.classes }
-        ensures ok { OnOk result ((self.new ≡ self.old ++ request.now ∷ []) × (refusal table.now self.old request.now ≡ None)) }
+        ensures ok { OnOk result ((self.new ≡ self.old ++ request.now ∷ []) ×
+            (refusal table.now self.old request.now ≡ None)) }
         ensures err { IfErr result (λ e. Refuses (refusal table.now self.old request.now) e) }
     {
         let entry = self.next_entry_of(table, request)?;

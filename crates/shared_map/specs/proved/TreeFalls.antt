@@ -11,4 +11,7 @@ use Rattle.shared_map.specs.Tree.{listed, pair}
 -- no side is deeper than the branch has entries
 pub depth_le-length-listed : {V : Type 0} (n : Link V) → max (deep-Link V n) 0 ≤ length (listed n)
 depth_le-length-listed Leaf = omega arith
-depth_le-length-listed (Fork b) = omega (arith, length-append (arc_value b).left.entries (pair (arc_value (arc_value b).entry) ∷ (arc_value b).right.entries))
+depth_le-length-listed (Fork b) = omega (
+  arith,
+  length-append (arc_value b).left.entries (pair (arc_value (arc_value b).entry) ∷ (arc_value b).right.entries),
+)

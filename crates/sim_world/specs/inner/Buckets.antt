@@ -1,6 +1,7 @@
 -- Where a message that is sent again is looked for: the numbers of all messages lie in buckets, and
 -- equal messages have one bucket. No promise of the crate rests on it.
-use Rattle.std.specs.Prelude.{◌≡◌, ◌&&◌, ℕ, suc, ◌<◌, ◌%◌, ◌==◌, Bool, false, List, [], ◌∷◌, length, Option, Some, None, if◌then◌else◌, slice_index_or}
+use Rattle.std.specs.Prelude.{◌≡◌, ◌&&◌, ℕ, suc, ◌<◌, ◌%◌, ◌==◌, Bool, false, List, [], ◌∷◌, length, Option, Some, None}
+use Rattle.std.specs.Prelude.{if◌then◌else◌, slice_index_or}
 use Rattle.pg_log.specs.Requests.{ClientRequest}
 use Rattle.group_world.specs.Maps.{GroupMap}
 use Rattle.group_world.specs.Rules.{is_same_request}
@@ -37,7 +38,8 @@ is_same_carried (Rep interval place r) other = is_rep other interval place r
 is_same_carried _ other = false
 
 abbrev pub is_same_kept : KeptMessage → KeptMessage → Bool
-is_same_kept j k = is_same_party j.receiver k.receiver && (is_same_party j.message.sender k.message.sender && is_same_carried j.message.kind k.message.kind)
+is_same_kept j k = is_same_party j.receiver k.receiver &&
+    (is_same_party j.message.sender k.message.sender && is_same_carried j.message.kind k.message.kind)
 
 -- the lowest number of an equal message, from a number on; the one past the last if there is none
 abbrev pub kept_number_from : ℕ → KeptMessage → List KeptMessage → ℕ
@@ -65,7 +67,8 @@ bucket_of k = bucket k.message.kind
 -- the numbers of the messages of a bucket; the first message has that number
 abbrev pub numbers_in : ℕ → ℕ → List KeptMessage → List ℕ
 numbers_in at number [] = []
-numbers_in at number (k ∷ ks) = if bucket_of k == at then number ∷ numbers_in at (suc number) ks else numbers_in at (suc number) ks
+numbers_in at number (k ∷ ks) =
+    if bucket_of k == at then number ∷ numbers_in at (suc number) ks else numbers_in at (suc number) ks
 
 -- each bucket has the numbers of its messages
 pub record AreInBuckets (sent : List KeptMessage) (buckets : List (List ℕ)) : Type 0 where
@@ -80,4 +83,5 @@ is_equal_to j (Some k) = is_same_kept j k
 -- the first of these numbers whose message is equal; the one past the last if there is none
 abbrev pub first_equal : KeptMessage → List KeptMessage → List ℕ → ℕ
 first_equal j sent [] = suc (length sent)
-first_equal j sent (number ∷ numbers) = if is_equal_to j (numbered sent number) then number else first_equal j sent numbers
+first_equal j sent (number ∷ numbers) =
+    if is_equal_to j (numbered sent number) then number else first_equal j sent numbers

@@ -1,6 +1,8 @@
 -- The parts of a played world, and what a line does to them. Nothing here need be believed: it is
 -- proved to be what a line does in the group's world (`Holds`).
-use Rattle.std.specs.Prelude.{◌≡◌, Result, Ok, Err, ℕ, zero, suc, ◌-◌, nat_lt, Bool, List, [], ◌∷◌, ◌++◌, length, drop, map, Option, Some, None, if◌then◌else◌, slice_get, slice_set, slice_index_or, replicate, true, false, codes}
+use Rattle.std.specs.Prelude.{◌≡◌, Result, Ok, Err, ℕ, zero, suc, ◌-◌, nat_lt, Bool, List, [], ◌∷◌, ◌++◌, length, drop}
+use Rattle.std.specs.Prelude.{map, Option, Some, None, if◌then◌else◌, slice_get, slice_set, slice_index_or, replicate}
+use Rattle.std.specs.Prelude.{true, false, codes}
 use Rattle.pg_log.specs.Log.{Classes}
 use Rattle.std.specs.Option.{option_map}
 use Rattle.carried.specs.Carried.{message_of}
@@ -11,7 +13,8 @@ use Rattle.group_world.specs.Maps.{GroupMap}
 use Rattle.group_world.specs.Node.{Outcome, fresh}
 use Rattle.group_world.specs.Rules.{local_step}
 use Rattle.group_world.specs.Unanswered.{unanswered}
-use Rattle.group_world.specs.Monitor.{MonitorState, no_maps, map_refusal, next_map, with_map, activation_refusal, with_activated}
+use Rattle.group_world.specs.Monitor.{MonitorState, no_maps, map_refusal, next_map, with_map, activation_refusal}
+use Rattle.group_world.specs.Monitor.{with_activated}
 use Rattle.group_world.specs.World.{activated_for}
 use Rattle.group_world.specs.declared.monitor_error.MonitorError.{MonitorError}
 use Rattle.group_world.specs.declared.handle_error.HandleError.{HandleError}
@@ -27,7 +30,8 @@ use Rattle.sim_text.specs.Texts.{again_text, made_of, said_text, shown_of}
 use Rattle.sim_text.specs.declared.line.Line.{Line}
 use Rattle.sim_text.specs.declared.line.Line.TheVariants as lines
 use Rattle.sim_text.specs.declared.taken.Taken.{Taken}
-use Rattle.sim_text.specs.declared.taken.Taken.TheVariants.{Bad, Skipped, Stopped, Sent, Refused, MonitorRefused, Made, Shown, Again}
+use Rattle.sim_text.specs.declared.taken.Taken.TheVariants.{Bad, Skipped, Stopped, Sent, Refused, MonitorRefused, Made}
+use Rattle.sim_text.specs.declared.taken.Taken.TheVariants.{Shown, Again}
 use Rattle.sim_world.specs.declared.deliver.Delivery.{Delivery}
 use Rattle.sim_world.specs.declared.deliver.Delivery.TheVariants.{ToNode, ToMonitor, ToClient}
 use Rattle.sim_world.specs.declared.kept.KeptMessage.{KeptMessage}
@@ -84,7 +88,13 @@ has_stopped w n = slice_index_or w.stopped n false
 abbrev pub after_outcome : Parts → ℕ → Outcome → Parts
 after_outcome w n o =
     let nodes = slice_set w.nodes n (record { number = (nth_node w.nodes n).number; state = o.node }) in
-    record { maps = w.maps; monitor = w.monitor; nodes = nodes; stopped = w.stopped; sent = w.sent ++ map (kept nodes) o.sent }
+    record {
+      maps = w.maps;
+      monitor = w.monitor;
+      nodes = nodes;
+      stopped = w.stopped;
+      sent = w.sent ++ map (kept nodes) o.sent;
+    }
 
 abbrev pub with_outcome : Parts → ℕ → Outcome → Option HandleError → Turn
 with_outcome w n o None = record { parts = after_outcome w n o; taken = Sent (length o.sent) }
@@ -110,14 +120,26 @@ arrives classes w n coming = unless_held w n (arrived classes w n coming)
 -- THE MONITOR
 abbrev pub map_made : Parts → List ℕ → Option MonitorError → Turn
 map_made w acting None = record {
-  parts = record { maps = w.maps ++ next_map w.monitor acting ∷ []; monitor = with_map w.monitor acting; nodes = w.nodes; stopped = w.stopped; sent = w.sent };
+  parts = record {
+    maps = w.maps ++ next_map w.monitor acting ∷ [];
+    monitor = with_map w.monitor acting;
+    nodes = w.nodes;
+    stopped = w.stopped;
+    sent = w.sent;
+  };
   taken = Made (made_of (next_map w.monitor acting));
 }
 map_made w acting (Some why) = rests w (MonitorRefused why)
 
 abbrev pub activated : Parts → Party → ℕ → Option MonitorError → Turn
 activated w asker interval None = record {
-  parts = record { maps = w.maps; monitor = with_activated w.monitor; nodes = w.nodes; stopped = w.stopped; sent = w.sent ++ kept w.nodes (activated_for asker interval) ∷ [] };
+  parts = record {
+    maps = w.maps;
+    monitor = with_activated w.monitor;
+    nodes = w.nodes;
+    stopped = w.stopped;
+    sent = w.sent ++ kept w.nodes (activated_for asker interval) ∷ [];
+  };
   taken = Sent 1;
 }
 activated w asker interval (Some why) = rests w (MonitorRefused why)
@@ -154,7 +176,8 @@ seen classes w n None = rests w Bad
 seen classes w n (Some m) = arrives classes w n (Some (AMap m))
 
 abbrev pub with_stopped : Parts → ℕ → Bool → Parts
-with_stopped w n b = record { maps = w.maps; monitor = w.monitor; nodes = w.nodes; stopped = slice_set w.stopped n b; sent = w.sent }
+with_stopped w n b =
+    record { maps = w.maps; monitor = w.monitor; nodes = w.nodes; stopped = slice_set w.stopped n b; sent = w.sent }
 
 abbrev pub stop_set : Parts → ℕ → Bool → Turn
 stop_set w n b = if has_node w n then record { parts = with_stopped w n b; taken = Sent 0 } else rests w Bad
@@ -163,7 +186,8 @@ abbrev pub shown : Parts → ℕ → Turn
 shown w n = if has_node w n then rests w (Shown (shown_of n (nth_node w.nodes n).state)) else rests w Bad
 
 abbrev pub sent_again : Parts → ℕ → Turn
-sent_again w n = rests w (Again (map (again_number w.sent) (unanswered (nth_node w.nodes n).number (nth_node w.nodes n).state)))
+sent_again w n =
+    rests w (Again (map (again_number w.sent) (unanswered (nth_node w.nodes n).number (nth_node w.nodes n).state)))
 
 abbrev pub resent : Parts → ℕ → Turn
 resent w n = unless_held w n (sent_again w n)

@@ -35,7 +35,8 @@ ok 0:9 1 0 1: stxdw [r10-24], r3; stw [r10-10], 0; ldxdw r4, [r10-24]; stb [r4+0
 ok 2:10 1 0 1: BACK; add r3, r4; stb [r3+0], 1; mov r0, 0; exit
 3:10 3:10 1 0 6*: stdw [r10-8], 5; BACK; add r3, r4; stb [r3+0], 1; mov r0, 0; exit
 3:10 3:10 1 0 5: stw [r10-8], 5; ldxw r4, [r10-8]; add r3, r4; stb [r3+0], 1; mov r0, 0; exit
-# what two flows leave: a number and a pointer, an untouched slot and a pointer, two offsets, an untouched slot and a number
+# what two flows leave: a number and a pointer, an untouched slot and a pointer, two offsets, an untouched slot and a \
+    number
 4:5 1:9 1 1 1: mov r0, 0; KEEP; jeq r2, 0, +1; stdw [r10-8], 7; BACK; exit
 2:5 1:9 1 1 1: jeq r2, 0, +1; KEEP; BACK; exit
 5:10 0:9 1 1 5*: KEEP; jeq r2, 0, +2; add r3, 4; KEEP; BACK; stb [r4+0], 1; mov r0, 0; exit

@@ -40,7 +40,8 @@ flown rules None i p q inflow = inflow
 flown rules (Some f) i p q inflow = along (flow (precision_of rules) (room_of i) (answer_of rules f i) i p f) q inflow
 
 -- what the pass has once instruction i at slot p, whose frame is given, has flowed on
-pub record HasLeft (rules : RuleSet) (frame : Option PlainFrame) (kept : Table) (i : Insn) (p : ℕ) (pass : Pass) : Type 0 where
+pub record HasLeft (rules : RuleSet) (frame : Option PlainFrame) (kept : Table) (i : Insn) (p : ℕ)
+    (pass : Pass) : Type 0 where
   pub landing : pass.landing ≡ p + slot_count i
   pub size : length pass.kept ≡ length kept
   pub flows : (q : ℕ) → q < length kept → awaited pass q ≡ flown rules frame i p q (frame_at kept q)
@@ -56,7 +57,8 @@ IsSound rules i p (Some f) = Sound rules i p f
 
 -- every flow of a method keeps what its frame holds
 abbrev pub AllSound : RuleSet → Caps → List (Option Insn) → Type 0
-AllSound rules caps code = (p : ℕ) (i : Insn) → fetch code p ≡ Some i → IsSound rules i p (frame_at (whole_table rules caps code) p)
+AllSound rules caps code =
+    (p : ℕ) (i : Insn) → fetch code p ≡ Some i → IsSound rules i p (frame_at (whole_table rules caps code) p)
 
 -- no instruction begins within another
 abbrev pub IsSpaced : List (Option Insn) → Type 0
