@@ -1,30 +1,32 @@
 /*
- * Sillarnica's verified classes for a host that keeps the objects itself. Calls 1.
+ * Sillarnica's verified classes for a host that keeps the objects itself. Calls 2.
  *
  * Memory: the caller owns all of it, before and after. Nothing is kept, and `malloc` and `free` are used within a call alone:
  * but for a handle, which holds memory of its own from open to close. What is written (refusal, answer, numbers, text, out,
  * handle) is apart from all else that is handed in. A null pointer is allowed for a slice of length 0, and for nothing else.
  * Threads: there is no state and nothing to initialise. Any number of calls may run at once, on one image too; on one handle
- * one at a time.
+ * one at a time, on copies of it as many as there are.
  *
  * An object's flat form has one spelling. Numbers are little-endian:
  *
  *     object  = 0                                       absent
  *             | 1 u32:n byte*n entries entries          data (n <= 65536), xattrs (at most 32), keys of the omap (at most 1024)
  *     entries = u16:count entry*count                   their names strictly rise by their bytes
- *     entry   = name value
- *     name    = u8:k byte*k                             1 <= k <= 64
- *     value   = u16:m byte*m                            m <= 4096
+ *     entry   = u8:k byte*k u16:m byte*m                name (1 <= k <= 64) and value (m <= 4096)
  *
- * Edits make of the object before the object after. They come in the order in which the host makes them, and there are
- * none if nothing changed:
+ * Edits are what the method's helpers did to the object, each that didn't answer a negative number, in their order: none is
+ * merged or left out, also where it changes nothing. Made in that order they make of the object before the object after. A
+ * negative code leaves none.
  *
- *     1                     create, without data, xattrs and keys
- *     2                     remove
- *     3 name value          set an xattr           4 name    remove an xattr
- *     5 name value          set a key              6 name    remove a key
- *     7 u32:n               cut the data to n bytes, or extend it with zeros
- *     8 u32:at u32:n byte*n write n bytes at a place within the data
+ *     edit  = 1                     create, without data, xattrs and keys
+ *           | 2                     remove
+ *           | 3 text:name text      set an xattr         | 4 text:name    remove an xattr that is there
+ *           | 5 text:key text       set a key            | 6 text:key     remove a key that is there
+ *           | 7 u64:n               cut the data to n bytes, or extend it with zeros
+ *           | 8 u64:at u32:n byte*n write n bytes, 1 or more; zeros fill a gap between the data's end and `at`
+ *     text  = u16:n byte*n
+ *
+ * `sillarnica_edits.h` has the loop over them.
  */
 #ifndef SILLARNICA_H
 #define SILLARNICA_H
@@ -33,6 +35,9 @@
 #include <stdint.h>
 
 #define SILLARNICA_VERSION "0.5.0-dev"
+
+/* What sillarnica_version answers. */
+#define SILLARNICA_CALLS 2
 
 #ifdef __cplusplus
 extern "C" {
@@ -45,11 +50,28 @@ enum {
 	SILLARNICA_VERDICT = 2,          /* a rule refuses the class; the refusal says which and where */
 	SILLARNICA_NO_METHOD = -95,      /* the class has no method of that name */
 	SILLARNICA_INPUT_TOO_LONG = -7,  /* the input is longer than the method takes */
-	SILLARNICA_MALFORMED = -22,      /* the bytes are no object's flat form */
+	SILLARNICA_MALFORMED = -22,      /* the bytes are no object's flat form, or the client's number is 2^32 or more */
 	SILLARNICA_NO_MEMORY = -12,      /* memory was refused; the call may be made again */
 	SILLARNICA_NO_ROOM = -34,        /* the buffer is too small; the answer says what is needed */
 	SILLARNICA_CLOSED = -9           /* the handle is closed */
 };
+
+/* An answer in words. */
+static inline const char *sillarnica_error(int32_t answer)
+{
+	switch (answer) {
+	case SILLARNICA_OK: return "done";
+	case SILLARNICA_IMAGE: return "the bytes are no image";
+	case SILLARNICA_VERDICT: return "a rule refuses the class";
+	case SILLARNICA_NO_METHOD: return "the class has no such method";
+	case SILLARNICA_INPUT_TOO_LONG: return "the input is longer than the method takes";
+	case SILLARNICA_MALFORMED: return "the bytes are no object, or the client has no number of 32 bits";
+	case SILLARNICA_NO_MEMORY: return "memory was refused";
+	case SILLARNICA_NO_ROOM: return "the buffer is too small";
+	case SILLARNICA_CLOSED: return "the handle is closed";
+	default: return "no answer of this library";
+	}
+}
 
 /*
  * Why a class is refused. kind 1: the image, after `method` methods that were read whole, by the refusal `number` (1 to 11);
@@ -67,16 +89,25 @@ struct sillarnica_answer {
 	uint64_t steps, output_len, edits_len;
 };
 
+/* What a method declares (flags 1 reads, 2 writes, 3 both; the most bytes of input and output), which parts of an object it
+ * needs (1 data, 2 xattrs, 4 keys, added), and how many bytes its name has: at most 64. */
+struct sillarnica_declared {
+	uint32_t flags, in_cap, out_cap, needs;
+	uint64_t name_len;
+};
+
 /*
  * A handle of a verified class, so that a host verifies once and calls many times. Zeroed it is closed. The fields are the
- * library's. Copy it only to give the other one up. It may go from thread to thread, as long as one call at a time is on it.
+ * library's. Assign it only to give the other one up; sillarnica_verified_copy makes a second one. It may go from thread to
+ * thread, as long as one call at a time is on it. It holds the class, some 24 bytes a slot of its methods, and the memory of
+ * a run, at most 132 KB, once one was made.
  */
 struct sillarnica_verified {
 	void *held;
 	uint32_t is_open;
 };
 
-/* 1. What is declared here, the flat form and the edits change only with this number; further calls leave it as it is. */
+/* 2. What is declared here, the flat form and the edits change only with this number; further calls leave it as it is. */
 uint32_t sillarnica_version(void);
 
 /*
@@ -100,6 +131,13 @@ int32_t sillarnica_method(const uint8_t *image, size_t image_len, const uint8_t 
 	uint32_t *flags, uint32_t *in_cap, uint32_t *out_cap);
 
 /*
+ * The method of a number, from 0 on: *told, and as many bytes of its name as fit. 0; -95 past the last; 1 (the bytes are no
+ * image) or -12. But for 0 nothing is written. No rule is asked.
+ */
+int32_t sillarnica_method_at(const uint8_t *image, size_t image_len, size_t n, struct sillarnica_declared *told,
+	uint8_t *name, size_t name_len);
+
+/*
  * Which parts of an object the method can see or change: 1 data, 2 xattrs, 4 keys, added. The flat
  * form that is handed to a call may leave the others out, as if the object had no data, xattrs or
  * keys, or have anything there. Answer and edits are those of the whole object, whatever it has there,
@@ -109,7 +147,7 @@ int32_t sillarnica_method(const uint8_t *image, size_t image_len, const uint8_t 
 int32_t sillarnica_needs(const uint8_t *image, size_t image_len, const uint8_t *method, size_t method_len);
 
 /*
- * Calls a method on an object for a client (`caller`). It is a function of its arguments.
+ * Calls a method on an object for a client (`caller`, below 2^32). It is a function of its arguments.
  *
  * 0: *answer is the method's code, its instructions and the lengths, and out begins with the output and then the edits; the
  *    rest of out is as it was. A negative code is the method's own error, which changed nothing.
@@ -118,7 +156,7 @@ int32_t sillarnica_needs(const uint8_t *image, size_t image_len, const uint8_t *
  * Of several refusals it is the first in the order 1, 2, -95, -7, -22, -34; -12 may come in place of any answer.
  */
 int32_t sillarnica_call(const uint8_t *image, size_t image_len, const uint8_t *method, size_t method_len,
-	const uint8_t *object, size_t object_len, uint32_t caller, const uint8_t *input, size_t input_len,
+	const uint8_t *object, size_t object_len, uint64_t caller, const uint8_t *input, size_t input_len,
 	struct sillarnica_refusal *refusal, struct sillarnica_answer *answer, uint8_t *out, size_t out_len);
 
 /*
@@ -134,10 +172,23 @@ int32_t sillarnica_verified_open(const uint8_t *image, size_t image_len, struct 
  * afterwards too, whatever the answer. There is no 1 and no 2. -9: *verified is closed, and nothing is written.
  */
 int32_t sillarnica_verified_call(struct sillarnica_verified *verified, const uint8_t *method, size_t method_len,
-	const uint8_t *object, size_t object_len, uint32_t caller, const uint8_t *input, size_t input_len,
+	const uint8_t *object, size_t object_len, uint64_t caller, const uint8_t *input, size_t input_len,
 	struct sillarnica_answer *answer, uint8_t *out, size_t out_len);
 
-/* Frees the class that is held. *verified is closed then; closing it again does nothing. */
+/*
+ * Opens *copy on the class that *verified holds, which both share, for another thread, say. 0; or -9 (*verified is closed) or
+ * -12, and *copy is closed. *verified stays as it was; what *copy held isn't looked at. Each is closed by itself.
+ */
+int32_t sillarnica_verified_copy(struct sillarnica_verified *verified, struct sillarnica_verified *copy);
+
+/* As sillarnica_method_at, of the class that is held: 0, -95, or -9 (*verified is closed). */
+int32_t sillarnica_verified_method_at(struct sillarnica_verified *verified, size_t n, struct sillarnica_declared *told,
+	uint8_t *name, size_t name_len);
+
+/* As sillarnica_needs, of the class that is held: the parts, -95, or -9 (*verified is closed). */
+int32_t sillarnica_verified_needs(struct sillarnica_verified *verified, const uint8_t *method, size_t method_len);
+
+/* Frees what *verified holds; the class, once no copy holds it. *verified is closed then; closing it again does nothing. */
 void sillarnica_verified_close(struct sillarnica_verified *verified);
 
 #ifdef __cplusplus

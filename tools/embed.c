@@ -11,7 +11,7 @@
 #include <string.h>
 
 struct slice { const uint8_t *at; size_t len; };
-struct call { struct slice image, method, object, input; uint32_t caller; };
+struct call { struct slice image, method, object, input; uint64_t caller; };
 struct found { int32_t result; struct sillarnica_refusal why; struct sillarnica_answer said; uint8_t *out; };
 /* a handle, and the image whose class it holds, if it is open */
 struct holder { struct sillarnica_verified verified; struct slice image; int is_open; };
@@ -185,10 +185,27 @@ static void by_handle(size_t n, uint8_t *out) {
 	}
 }
 
-static void *all(void *nothing) {
+/* A copy of one handle a thread, on one class, which the last to be closed frees. */
+static struct holder shared;
+
+static void by_copy(struct sillarnica_verified *copy, uint8_t *out) {
+	struct found f;
+	for (size_t n = 0; out && copy->is_open && n < count; n++) {
+		struct call c = calls[n];
+		if (c.image.len != shared.image.len || memcmp(c.image.at, shared.image.at, c.image.len)) continue;
+		fill(&f, out, most);
+		f.result = sillarnica_verified_call(copy, c.method.at, c.method.len, c.object.at, c.object.len, c.caller, c.input.at, c.input.len,
+			&f.said, f.out, most);
+		want(is_same(&founds[n], &f), n, "another answer of a copy in a thread");
+	}
+	sillarnica_verified_close(copy);
+}
+
+static void *all(void *copy) {
 	uint8_t *out = (uint8_t *)malloc(most);
 	struct holder held;
 	memset(&held, 0, sizeof held);
+	by_copy((struct sillarnica_verified *)copy, out);
 	for (size_t n = 0; out && n < count; n++) {
 		struct found f;
 		for (int by = 0; by < 2; by++) {
@@ -199,7 +216,7 @@ static void *all(void *nothing) {
 	}
 	sillarnica_verified_close(&held.verified);
 	free(out);
-	return nothing;
+	return copy;
 }
 
 static struct slice field(const uint8_t **p) {
@@ -222,7 +239,7 @@ static void print(const struct found *f) {
 }
 
 int main(int argc, char **argv) {
-	if (argc < 3 || sillarnica_version() != 1) return 2;
+	if (argc < 3 || sillarnica_version() != SILLARNICA_CALLS) return 2;
 	FILE *file = fopen(argv[1], "rb");
 	if (!file || fseek(file, 0, SEEK_END)) return 2;
 	size_t len = (size_t)ftell(file);
@@ -259,7 +276,18 @@ int main(int argc, char **argv) {
 	}
 	int threads = atoi(argv[2]);
 	pthread_t ids[64];
-	for (int i = 0; i < threads; i++) pthread_create(&ids[i], NULL, all, NULL);
+	static struct sillarnica_verified copies[64];
+	struct sillarnica_refusal why;
+	if (!count || threads > 64) return 2;
+	shared.image = calls[0].image;
+	want(sillarnica_verified_open(shared.image.at, shared.image.len, &why, &shared.verified) == (founds[0].result > 0 ? founds[0].result : 0), 0,
+		"the shared handle");
+	for (int i = 0; i < threads; i++) {
+		int32_t result = sillarnica_verified_copy(&shared.verified, &copies[i]);
+		want(result == (shared.verified.is_open ? 0 : -9) && copies[i].is_open == shared.verified.is_open, 0, "a copy of a handle");
+	}
+	sillarnica_verified_close(&shared.verified);
+	for (int i = 0; i < threads; i++) pthread_create(&ids[i], NULL, all, &copies[i]);
 	for (int i = 0; i < threads; i++) pthread_join(ids[i], NULL);
 	for (size_t n = 0; n < count; n++) free(founds[n].out);
 	free(out), free(text), free(calls), free(founds);

@@ -312,34 +312,32 @@ static size_t edit(struct object *o, const uint8_t *p, size_t left) {
 		o->is_there = p[0] == 1, o->len = 0, o->parts[0].count = o->parts[1].count = 0;
 		return 1;
 	}
-	if (!o->is_there || left < 5) return 0;
-	size_t n = number_at(p + 1, 4), count;
-	if (p[0] == 7) {
-		if (n > DATA) return 0;
-		if (n > o->len) memset(o->data + o->len, 0, n - o->len);
-		return o->len = n, 5;
-	}
-	if (p[0] == 8) {
-		if (left < 9 || (count = number_at(p + 5, 4)) > left - 9 || n > o->len || count > o->len - n) return 0;
-		return memcpy(o->data + n, p + 9, count), 9 + count;
+	if (!o->is_there || p[0] > 8) return 0;
+	if (p[0] >= 7) {
+		size_t n = left < 9 ? DATA + 1 : number_at(p + 1, 8), count = p[0] == 7 || left < 13 ? 0 : number_at(p + 9, 4), to = n + count;
+		if (n > DATA || to > DATA || (p[0] == 8 && (!count || left - 13 < count))) return 0;
+		if (to > o->len) memset(o->data + o->len, 0, to - o->len);
+		if (p[0] == 7) return o->len = n, 9;
+		if (to > o->len) o->len = to;
+		return memcpy(o->data + n, p + 13, count), 13 + count;
 	}
 	struct part *part = &o->parts[p[0] >= 5];
-	if (p[0] > 8 || left < 2 + NAME || p[1] != NAME) return 0;
-	if (p[0] % 2 == 0) return unset(part, p + 2) ? 2 + NAME : 0;
-	if (left < 4 + NAME + VALUE || number_at(p + 2 + NAME, 2) != VALUE) return 0;
+	if (left < 3 + NAME || number_at(p + 1, 2) != NAME) return 0;
+	if (p[0] % 2 == 0) return unset(part, p + 3) ? 3 + NAME : 0;
+	if (left < 5 + NAME + VALUE || number_at(p + 3 + NAME, 2) != VALUE) return 0;
 	if (part->count >= (p[0] >= 5 ? KEYS : XATTRS) + 1) return 0;
-	return set(part, p + 2, p + 4 + NAME), 4 + NAME + VALUE;
+	return set(part, p + 3, p + 5 + NAME), 5 + NAME + VALUE;
 }
 
-/* A call that makes of an object another: its code, and at least so many bytes of edits and at most so many. */
+/* A call that makes of an object another: its code, and how many bytes its edits have. */
 static void changes(struct asked *a, const char *method, const struct object *before, const struct object *after, struct bytes input,
-	int64_t code, size_t least, size_t most) {
+	int64_t code, size_t edits) {
 	static struct object made;
 	struct bytes form = flat(before), wants = flat(after);
 	struct found f = answer(a, method, form, input, (long)form.len);
 	want(f.result == 0 && f.said.code == code && f.said.output_len == 0, method, f.result);
 	size_t len = f.result ? 0 : f.said.edits_len, at = 0, n = 1;
-	want(least <= len && len <= most, "as many bytes of edits", (long)len);
+	want(len == edits, "as many bytes of edits", (long)len);
 	memcpy(&made, before, sizeof made);
 	while (at < len && (n = edit(&made, out + at, len - at))) at += n;
 	want(n && at == len, "an edit that can't be made", (long)at);
@@ -531,28 +529,28 @@ static void try_full_object(void) {
 	struct bytes form = flat(&full);
 	want(form.len == 4461673, "the largest flat form has another size", (long)form.len);
 
-	/* from nothing to all, in two calls: an edit has a number and its fields, and a set key is one edit */
-	size_t set_one = 4 + NAME + VALUE, most = 64 + DATA + XATTRS * set_one;
-	changes(&a, "low", &absent, &half, first, 0, DATA + (XATTRS + KEYS / 2) * set_one, most + KEYS / 2 * set_one);
-	changes(&a, "high", &half, &full, first, 0, KEYS / 2 * set_one, KEYS / 2 * set_one);
-	/* another value everywhere; and the same once more, which changes nothing */
+	/* from nothing to all, in two calls: each write and each set is an edit, a number and its fields */
+	size_t set_one = 5 + NAME + VALUE, writes_all = (DATA / VALUE) * (13 + VALUE), sets_low = (XATTRS + KEYS / 2) * set_one;
+	changes(&a, "low", &absent, &half, first, 0, 1 + writes_all + sets_low);
+	changes(&a, "high", &half, &full, first, 0, KEYS / 2 * set_one);
+	/* another value everywhere; and the same once more, which changes nothing and is written all the same */
 	memcpy(&other, &full, sizeof other);
 	for (int i = 0; i < DATA; i += VALUE) memcpy(other.data + i, second.at, VALUE);
 	for (int i = 0; i < XATTRS; i++) other.parts[0].at[i].value = second.at;
 	for (int i = 0; i < KEYS / 2; i++) other.parts[1].at[i].value = second.at;
-	changes(&a, "low", &full, &other, second, 0, DATA + (XATTRS + KEYS / 2) * set_one, most + KEYS / 2 * set_one);
-	changes(&a, "low", &full, &full, first, 0, 0, 0);
+	changes(&a, "low", &full, &other, second, 0, writes_all + sets_low);
+	changes(&a, "low", &full, &full, first, 0, writes_all + sets_low);
 	/* both ends */
 	memcpy(&other, &full, sizeof other);
 	other.data[0] = other.data[DATA - 1] = second.at[0];
 	for (int i = 0; i < 2; i++) other.parts[i].at[0].value = other.parts[i].at[other.parts[i].count - 1].value = second.at;
-	changes(&a, "ends", &full, &other, second, 0, 2 + 4 * set_one, most);
-	/* all of it goes */
+	changes(&a, "ends", &full, &other, second, 0, 2 * 14 + 4 * set_one);
+	/* all of it goes: a removal and a creation */
 	empty.is_there = 1;
-	changes(&a, "again", &full, &empty, none, 0, 1, 64 + (XATTRS + KEYS) * (2 + NAME));
+	changes(&a, "again", &full, &empty, none, 0, 2);
 	/* what is full takes no more: EFBIG, ENOSPC */
-	changes(&a, "more", &full, &full, second, -27, 0, 0), changes(&a, "morekeys", &full, &full, second, -28, 0, 0);
-	changes(&a, "morexattrs", &full, &full, second, -28, 0, 0);
+	changes(&a, "more", &full, &full, second, -27, 0), changes(&a, "morekeys", &full, &full, second, -28, 0);
+	changes(&a, "morexattrs", &full, &full, second, -28, 0);
 	/* what is read of it */
 	entry_name(KEYS - 1, name);
 	gives(&a, "stat", form, DATA, NULL, 0), gives(&a, "next", form, NAME, name, NAME);

@@ -7,15 +7,15 @@ enum { FORMS = 1, EDITS, IMAGES, OPENS, CLOSED };
 
 int32_t __real_sillarnica_verify(const uint8_t *, size_t, struct sillarnica_refusal *);
 int32_t __wrap_sillarnica_verify(const uint8_t *, size_t, struct sillarnica_refusal *);
-int32_t __real_sillarnica_call(const uint8_t *, size_t, const uint8_t *, size_t, const uint8_t *, size_t, uint32_t, const uint8_t *, size_t,
+int32_t __real_sillarnica_call(const uint8_t *, size_t, const uint8_t *, size_t, const uint8_t *, size_t, uint64_t, const uint8_t *, size_t,
 	struct sillarnica_refusal *, struct sillarnica_answer *, uint8_t *, size_t);
-int32_t __wrap_sillarnica_call(const uint8_t *, size_t, const uint8_t *, size_t, const uint8_t *, size_t, uint32_t, const uint8_t *, size_t,
+int32_t __wrap_sillarnica_call(const uint8_t *, size_t, const uint8_t *, size_t, const uint8_t *, size_t, uint64_t, const uint8_t *, size_t,
 	struct sillarnica_refusal *, struct sillarnica_answer *, uint8_t *, size_t);
 int32_t __real_sillarnica_verified_open(const uint8_t *, size_t, struct sillarnica_refusal *, struct sillarnica_verified *);
 int32_t __wrap_sillarnica_verified_open(const uint8_t *, size_t, struct sillarnica_refusal *, struct sillarnica_verified *);
-int32_t __real_sillarnica_verified_call(struct sillarnica_verified *, const uint8_t *, size_t, const uint8_t *, size_t, uint32_t, const uint8_t *,
+int32_t __real_sillarnica_verified_call(struct sillarnica_verified *, const uint8_t *, size_t, const uint8_t *, size_t, uint64_t, const uint8_t *,
 	size_t, struct sillarnica_answer *, uint8_t *, size_t);
-int32_t __wrap_sillarnica_verified_call(struct sillarnica_verified *, const uint8_t *, size_t, const uint8_t *, size_t, uint32_t, const uint8_t *,
+int32_t __wrap_sillarnica_verified_call(struct sillarnica_verified *, const uint8_t *, size_t, const uint8_t *, size_t, uint64_t, const uint8_t *,
 	size_t, struct sillarnica_answer *, uint8_t *, size_t);
 void __real_sillarnica_verified_close(struct sillarnica_verified *);
 void __wrap_sillarnica_verified_close(struct sillarnica_verified *);
@@ -42,7 +42,7 @@ int32_t __wrap_sillarnica_verify(const uint8_t *image, size_t image_len, struct 
 }
 
 int32_t __wrap_sillarnica_call(const uint8_t *image, size_t image_len, const uint8_t *method, size_t method_len,
-	const uint8_t *object, size_t object_len, uint32_t caller, const uint8_t *input, size_t input_len,
+	const uint8_t *object, size_t object_len, uint64_t caller, const uint8_t *input, size_t input_len,
 	struct sillarnica_refusal *why, struct sillarnica_answer *said, uint8_t *out, size_t out_len) {
 	struct sillarnica_answer found;
 	if (is_long(image_len, why)) return 1;
@@ -61,7 +61,7 @@ int32_t __wrap_sillarnica_verified_open(const uint8_t *image, size_t image_len, 
 }
 
 int32_t __wrap_sillarnica_verified_call(struct sillarnica_verified *verified, const uint8_t *method, size_t method_len,
-	const uint8_t *object, size_t object_len, uint32_t caller, const uint8_t *input, size_t input_len,
+	const uint8_t *object, size_t object_len, uint64_t caller, const uint8_t *input, size_t input_len,
 	struct sillarnica_answer *said, uint8_t *out, size_t out_len) {
 	struct sillarnica_answer found;
 	spoil(verified);

@@ -4,7 +4,7 @@
 #include <stddef.h>
 #include <stdint.h>
 
-enum { METHODS = 32, DATA = 65536, XATTRS = 32, KEYS = 1024, NAME = 64, VALUE = 4096, CAPACITY = 65535, STACK = 512, LAYOUTS = 12 };
+enum { METHODS = 32, DATA = 65536, XATTRS = 32, KEYS = 1024, NAME = 64, VALUE = 4096, CAPACITY = 65535, STACK = 512, LAYOUTS = 12, LISTED = 1 << 22 };
 
 struct slice { const uint8_t *at; size_t len; };
 
@@ -19,7 +19,8 @@ struct class_of { unsigned rules, count; struct method methods[METHODS]; };
 struct entry { struct slice name, value; };
 struct part { size_t count; struct entry at[KEYS]; };
 struct object { int is_there; size_t len; uint8_t data[DATA]; struct part parts[2]; }; /* xattrs, keys */
-struct outcome { int64_t code; uint64_t steps; size_t len; uint8_t output[CAPACITY]; };
+/* its edits as they are written, if they are not too many for the model */
+struct outcome { int64_t code; uint64_t steps; size_t len; uint8_t output[CAPACITY]; int is_listed; struct slice edits; };
 /* a refusal as the library tells it; number 0 is none */
 struct where { uint32_t number; uint64_t method; int64_t slot; };
 

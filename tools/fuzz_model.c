@@ -305,15 +305,16 @@ static int make_edit(struct object *o, unsigned kind, struct slice *rest) {
 	if (kind == 1 || kind == 2) return o->is_there == (kind == 2) ? clear_object(o, kind == 1), 1 : 0;
 	if (!o->is_there) return 0;
 	if (kind == 7 || kind == 8) {
-		const uint8_t *at = cut(rest, 4);
+		const uint8_t *at = cut(rest, 8);
 		if (!at) return 0;
-		size_t place = number_at(at, 4);
+		size_t place = number_at(at, 8);
 		if (kind == 7) return place <= DATA ? resize_data(o, place), 1 : 0;
-		if (!read_field(rest, 4, 0, DATA, &e.value) || place > o->len || e.value.len > o->len - place) return 0;
-		if (e.value.len) memcpy(o->data + place, e.value.at, e.value.len);
+		if (!read_field(rest, 4, 1, DATA, &e.value) || place > DATA || e.value.len > DATA - place) return 0;
+		if (place + e.value.len > o->len) resize_data(o, place + e.value.len);
+		memcpy(o->data + place, e.value.at, e.value.len);
 		return 1;
 	}
-	if (kind < 3 || kind > 8 || !read_field(rest, 1, 1, NAME, &e.name)) return 0;
+	if (kind < 3 || kind > 8 || !read_field(rest, 2, 1, NAME, &e.name)) return 0;
 	if (kind % 2 == 0) return unset_entry(&o->parts[which], e.name);
 	return read_field(rest, 2, 0, VALUE, &e.value) && set_entry(&o->parts[which], which ? KEYS : XATTRS, e);
 }

@@ -1,5 +1,5 @@
 #!/usr/bin/env bash
-# Puts the library into a folder, as a host takes it: libsillarnica.a and sillarnica.h.
+# Puts the library into a folder, as a host takes it: libsillarnica.a and its headers.
 #
 #     tools/library.sh FOLDER [ARCHIVE]
 #
@@ -12,5 +12,5 @@ heap=$(dirname "$(rt doc)")/c/liblibc_c.a
 mkdir -p "$1"
 rm -f "$1/libsillarnica.a"
 (cd "$1" && printf 'create libsillarnica.a\naddlib %s\naddlib %s\nsave\nend\n' "$archive" "$heap" | ar -M)
-cp "$top/include/sillarnica.h" "$1"
+cp "$top"/include/*.h "$1"
 echo "sillarnica $(cat "$top/VERSION")"

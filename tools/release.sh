@@ -40,7 +40,7 @@ install -m 644 "$top/tools/radoscls.bash" "$out/share/bash-completion/completion
 
 # the library: one archive, and of it a shared object that has these calls alone
 "$top/tools/library.sh" "$out/lib" "$archive" > /dev/null
-mv "$out/lib/sillarnica.h" "$out/include/"
+mv "$out"/lib/*.h "$out/include/"
 shared=libsillarnica.so.$face
 cc -shared -Wl,--whole-archive "$out/lib/libsillarnica.a" -Wl,--no-whole-archive -Wl,-soname,"$shared" \
     -Wl,--version-script,<(echo 'SILLARNICA_'"$face"' { global: sillarnica_*; local: *; };') -Wl,-z,now,-z,relro -Wl,--no-undefined -o "$out/lib/$shared"
@@ -106,7 +106,7 @@ package "libsillarnica$face" "libc6 (>= ${libc:-2.34})" "verified classes in BPF
 mkdir -p "$tree/usr/lib/$triplet/pkgconfig"
 ln -s "$shared" "$tree/usr/lib/$triplet/libsillarnica.so"
 install -m 644 "$out/lib/libsillarnica.a" "$tree/usr/lib/$triplet/"
-install -D -m 644 "$out/include/sillarnica.h" "$tree/usr/include/sillarnica.h"
+install -D -m 644 -t "$tree/usr/include" "$out"/include/*.h
 sed -e 's,^prefix=.*,prefix=/usr,' -e "s,^libdir=.*,libdir=/usr/lib/$triplet," "$out/lib/pkgconfig/sillarnica.pc" > "$tree/usr/lib/$triplet/pkgconfig/sillarnica.pc"
 package libsillarnica-dev "libsillarnica$face (= $debian)" "verified classes in BPF: header, archive and pkg-config" \
     "What a host in C or C++ is built with."

@@ -39,20 +39,23 @@ def edited(object, edits):
         at += n
         return edits[at - n:at]
 
+    def number(form):
+        return struct.unpack(form, take(struct.calcsize(form)))[0]
+
     while at < len(edits):
         kind = take(1)[0]
         if kind <= 2:
             object = (b"", {}, {}) if kind == 1 else None
         elif kind == 7:
-            (n,) = struct.unpack("<I", take(4))
+            n = number("<Q")
             object = (object[0][:n].ljust(n, b"\0"), *object[1:])
         elif kind == 8:
-            where, n = struct.unpack("<II", take(8))
-            object = (object[0][:where] + take(n) + object[0][where + n:], *object[1:])
+            where, text = number("<Q"), take(number("<I"))
+            object = (object[0][:where].ljust(where, b"\0") + text + object[0][where + len(text):], *object[1:])
         else:
-            part, name = object[1 if kind <= 4 else 2], take(take(1)[0])
+            part, name = object[1 if kind <= 4 else 2], take(number("<H"))
             if kind % 2:
-                part[name] = take(struct.unpack("<H", take(2))[0])
+                part[name] = take(number("<H"))
             else:
                 del part[name]
     return object
@@ -84,7 +87,7 @@ class Library:
         """The result, the answer, the output and the edits of a call of an image or of a handle; with a larger buffer where
         the first is too small."""
         answer, out = Answer(), ctypes.create_string_buffer(room)
-        asked = [*self.slices(method, form), ctypes.c_uint32(caller), *self.slices(text)]
+        asked = [*self.slices(method, form), ctypes.c_uint64(caller), *self.slices(text)]
         told = [ctypes.byref(answer), out, ctypes.c_size_t(room)]
         if isinstance(of, Verified):
             result = self.calls.sillarnica_verified_call(ctypes.byref(of), *asked, *told)

@@ -8,9 +8,10 @@
 
 A class is verified once, when it is opened: then each of its methods runs on every object and input to its exit, in no more
 instructions than it has. A call is a function of its arguments. Its reply has the method's code, negative where the method
-refuses, and then nothing changes; its output; the edits that make of the object before the object after; and that object.
+refuses, and then nothing changes; its output; the edits, one for each thing that the method did to the object, in order, also
+where it changed nothing; and the object after them.
 
-The shared library is the one of the environment's variable SILLARNICA_LIBRARY, or the system's `libsillarnica.so.1`.
+The shared library is the one of the environment's variable SILLARNICA_LIBRARY, or the system's `libsillarnica.so.2`.
 """
 from __future__ import annotations
 
@@ -25,7 +26,7 @@ __version__ = "0.5.0.dev0"
 __all__ = ["Class", "Edit", "InputTooLong", "Malformed", "Method", "NoMethod", "Object", "Refused", "Reply", "edited"]
 
 # The number of what the library declares: it rises when a call or a format changes.
-CALLS = 1
+CALLS = 2
 DATA, XATTRS, KEYS = 1, 2, 4
 
 
@@ -77,8 +78,8 @@ class Method(NamedTuple):
 
 
 class Edit(NamedTuple):
-    """A change of an object: `create`, `remove`, `setxattr`, `rmxattr`, `set_key`, `remove_key`, `truncate` to `at` bytes, or
-    `write` of `value` at `at`, which is within the data."""
+    """What a method did to an object: `create`, `remove`, `setxattr`, `rmxattr`, `set_key`, `remove_key`, `truncate` to `at`
+    bytes, or `write` of `value` at `at`, with zeros between the data's end and there."""
 
     kind: str
     name: bytes = b""
@@ -102,6 +103,10 @@ class _Refusal(ctypes.Structure):
 
 class _Answer(ctypes.Structure):
     _fields_ = [("code", ctypes.c_int64), ("steps", ctypes.c_uint64), ("output_len", ctypes.c_uint64), ("edits_len", ctypes.c_uint64)]
+
+
+class _Declared(ctypes.Structure):
+    _fields_ = [(name, ctypes.c_uint32) for name in ("flags", "in_cap", "out_cap", "needs")] + [("name_len", ctypes.c_uint64)]
 
 
 class _Verified(ctypes.Structure):
@@ -166,10 +171,10 @@ def _edits(text: bytes) -> Iterator[Edit]:
         if kind <= 2:
             yield Edit(_KINDS[kind])
         elif kind <= 6:
-            name = take(number("<B"))
+            name = take(number("<H"))
             yield Edit(_KINDS[kind], name, take(number("<H")) if kind in (3, 5) else b"")
         else:
-            place = number("<I")
+            place = number("<Q")
             yield Edit(_KINDS[kind], b"", take(number("<I")) if kind == 8 else b"", place)
 
 
@@ -186,7 +191,7 @@ def edited(object: Optional[Object], edits: List[Edit]) -> Optional[Object]:
         elif edit.kind == "truncate":
             made.data = made.data[: edit.at].ljust(edit.at, b"\0")
         elif edit.kind == "write":
-            made.data = made.data[: edit.at] + edit.value + made.data[edit.at + len(edit.value) :]
+            made.data = made.data[: edit.at].ljust(edit.at, b"\0") + edit.value + made.data[edit.at + len(edit.value) :]
         else:
             part = made.xattrs if edit.kind.endswith("xattr") else made.keys
             if edit.kind.startswith("set"):
@@ -196,31 +201,19 @@ def edited(object: Optional[Object], edits: List[Edit]) -> Optional[Object]:
     return made
 
 
-def _names(image: bytes) -> List[bytes]:
-    """The names of the methods of an image that was accepted."""
-    (count,), at, names = struct.unpack_from("<H", image, 4), 8, []
-    for _ in range(count):
-        name = image[at + 1 : at + 1 + image[at]]
-        at += 1 + len(name) + 5
-        (slots,) = struct.unpack_from("<H", image, at)
-        at += 2 + 8 * slots + (2 if image[:4] == b"RCL3" else 0)
-        names.append(name)
-    return names
-
-
 class Class:
-    """A verified class. It may be used by several threads: one call at a time is made, the others wait."""
+    """A verified class. Several threads may use it at once: each call has a handle of its own, all of one class."""
 
     def __init__(self, image: bytes) -> None:
         """Verifies the class of an image. Raises `Refused`, or MemoryError."""
         self._verified, refusal = _Verified(), _Refusal()
         self._lock = threading.Lock()
+        self._free: List[_Verified] = []
         result = _calls.sillarnica_verified_open(*_slices(image), ctypes.byref(refusal), ctypes.byref(self._verified))
         if result in (1, 2):
             raise Refused(_explained(image), refusal.kind, refusal.number, refusal.method, refusal.slot)
         if result:
             raise MemoryError("no memory for the class")
-        self._image = image
 
     @classmethod
     def open(cls, path: Union[str, "os.PathLike[str]"]) -> "Class":
@@ -231,17 +224,19 @@ class Class:
     @property
     def methods(self) -> List[Method]:
         """The methods, in the order of their names."""
-        return [self._method(name) for name in _names(self._image)]
-
-    def _method(self, name: bytes) -> Method:
-        flags, in_cap, out_cap = ctypes.c_uint32(), ctypes.c_uint32(), ctypes.c_uint32()
-        written = [ctypes.byref(it) for it in (flags, in_cap, out_cap)]
-        result = _calls.sillarnica_method(*_slices(self._image, name), *written)
-        needs = _calls.sillarnica_needs(*_slices(self._image, name)) if not result else result
-        if result or needs < 0:
-            raise MemoryError("no memory for a method")
-        parts = (bool(needs & part) for part in (DATA, XATTRS, KEYS))
-        return Method(name.decode(), bool(flags.value & 1), bool(flags.value & 2), in_cap.value, out_cap.value, *parts)
+        found: List[Method] = []
+        told, name = _Declared(), ctypes.create_string_buffer(64)
+        with self._lock:
+            while True:
+                where = [ctypes.c_size_t(len(found)), ctypes.byref(told), name, ctypes.c_size_t(64)]
+                result = _calls.sillarnica_verified_method_at(ctypes.byref(self._verified), *where)
+                if result == -9:
+                    raise ValueError("the class is closed")
+                if result:
+                    return found
+                parts = (bool(told.needs & part) for part in (DATA, XATTRS, KEYS))
+                flags = (bool(told.flags & 1), bool(told.flags & 2))
+                found.append(Method(name.raw[: told.name_len].decode(), *flags, told.in_cap, told.out_cap, *parts))
 
     def call(self, method: str, input: bytes = b"", object: Optional[Object] = None, caller: int = 1) -> Reply:
         """Calls a method on an object for a client, whose number has 32 bits. Raises `NoMethod`, `InputTooLong`, `Malformed`, or
@@ -259,18 +254,43 @@ class Class:
         edits = [*_edits(out[answer.output_len : end])]
         return Reply(answer.code, output, answer.steps, edits, edited(object, edits))
 
+    def _handle(self) -> _Verified:
+        """A handle that no other call has: one that a call gave back, or another copy."""
+        with self._lock:
+            if self._verified.is_open == 1 and self._free:
+                return self._free.pop()
+            copy = _Verified()
+            result = _calls.sillarnica_verified_copy(ctypes.byref(self._verified), ctypes.byref(copy))
+        if result == -9:
+            raise ValueError("the class is closed")
+        if result:
+            raise MemoryError("no memory for a handle")
+        return copy
+
+    def _give_back(self, handle: _Verified) -> None:
+        with self._lock:
+            if self._verified.is_open == 1:
+                self._free.append(handle)
+                return
+        _calls.sillarnica_verified_close(ctypes.byref(handle))
+
     def _called(self, name: bytes, form: bytes, caller: int, text: bytes, room: int) -> Tuple[int, _Answer, bytes]:
         answer, out = _Answer(), ctypes.create_string_buffer(room)
-        asked = [*_slices(name, form), ctypes.c_uint32(caller), *_slices(text)]
+        asked = [*_slices(name, form), ctypes.c_uint64(caller), *_slices(text)]
         written = [ctypes.byref(answer), out, ctypes.c_size_t(room)]
-        with self._lock:
-            result = _calls.sillarnica_verified_call(ctypes.byref(self._verified), *asked, *written)
+        handle = self._handle()
+        try:
+            result = _calls.sillarnica_verified_call(ctypes.byref(handle), *asked, *written)
+        finally:
+            self._give_back(handle)
         return result, answer, out.raw
 
     def close(self) -> None:
         """Gives the memory back. Closing again does nothing."""
         with self._lock:
-            _calls.sillarnica_verified_close(ctypes.byref(self._verified))
+            for handle in [self._verified, *self._free]:
+                _calls.sillarnica_verified_close(ctypes.byref(handle))
+            self._free.clear()
 
     def __enter__(self) -> "Class":
         return self
@@ -279,7 +299,7 @@ class Class:
         self.close()
 
     def __del__(self) -> None:
-        if hasattr(self, "_lock"):
+        if hasattr(self, "_free"):
             self.close()
 
 

@@ -1,62 +1,33 @@
 -- A call on an object that is like another in the parts that the method needs is answered as one on
 -- that.
-use Rattle.std.proofs.Common.{◌≡◌, ◌∙◌, ℕ, ℤ, ◌≤◌, Bool, true, false, List, [], ◌∷◌, Some, None, refl, ap, sym, subst, arith, length}
-use Rattle.std.specs.Prelude.{if◌then◌else◌}
+use Rattle.std.proofs.Common.{◌≡◌, ◌∙◌, ℕ, ℤ, pos, ◌<ℤ◌, ◌^◌, ◌≤◌, Bool, true, false, List, [], Some, None, Ok, refl, ap, sym, subst, inl, inr, arith, length}
+use Rattle.std.specs.Prelude.{◌⊎◌, if◌then◌else◌}
 use Rattle.std.specs.FinMap as fin
-use Rattle.std.specs.List.{AllByRecursion}
-use Rattle.std.specs.Str.{bytes_eq}
 use Rattle.std.specs.Int.{w64, cast_unsigned}
-use Rattle.std.proofs.lemmas.Option.{none-some, same_Some}
-use Rattle.bpf_decode.specs.Class.{ClassMethod, Class, IsMethod, IsImage}
+use Rattle.std.proofs.lemmas.Option.{same_Some}
+use Rattle.bpf_decode.specs.Class.{ClassMethod, IsMethod}
 use Rattle.object_store.specs.Object.{Content, PlainObject, nothing, content_of, AreBytes, AreWithin, IsContent, IsObject}
 use Rattle.object_store.specs.declared.limits.TheConstants.{DATA_LIMIT, XATTR_LIMIT, KEY_LIMIT}
-use Rattle.bpf_decode.specs.Instruction.{spelling}
-use Rattle.bpf_machine.specs.State.{Ended}
+use Rattle.txn.specs.Edits.{Edit, all_edited, spelled}
 use Rattle.bpf_machine.specs.State as machine
-use Rattle.bpf_machine.specs.Flat.{entry}
-use Rattle.bpf_machine.specs.Safe.{caps_of, first_layout, RunsTo, IsSafe, RunsAreChains, HasLayout}
-use Rattle.interp.specs.Plain.{AnswersMethod, method_named, outcome_of_answer}
-use Rattle.interp.specs.declared.outcome.Outcome.{Outcome}
+use Rattle.bpf_machine.specs.Lists.{Lists, EndsHaveLists, ListsAreOne}
+use Rattle.bpf_machine.specs.Safe.{caps_of, RunsTo, RunsAreChains, HasLayout, Simulates}
+use Rattle.verifier.specs.Verified.{IsVerified}
+use Rattle.interp.specs.Plain.{AnswersMethod, ListsMethod, AnswersListed, method_named, outcome_of_answer}
+use Rattle.interp.specs.declared.outcome.Listed.{Listed}
 use Rattle.footprint.specs.declared.parts.Parts.{Parts}
 use Rattle.footprint.specs.Parts.{reduced, joined, restored, Covers}
 use Rattle.footprint.specs.Needed.{needed}
-use Rattle.footprint.specs.Frame.{whole_outcome, Frames, FrameLaw}
+use Rattle.footprint.specs.Frame.{whole_outcome, Frames, FrameLaw, ListFrames, ListFrameLaw}
 use Rattle.footprint.proofs.Runs.{restored_reduced}
-use Rattle.object_bytes.specs.Flat.{flat, Spells}
-use Rattle.object_bytes.specs.Edits.{spelled, Leads}
-use Rattle.object_bytes.specs.Changes.{edits}
+use Rattle.object_bytes.specs.Flat.{Spells}
 use Rattle.object_bytes.proofs.Again.{nothing_is}
-use Rattle.object_bytes.proofs.LeftOut.{edits_same, leads_whole}
-use Rattle.object_bytes.proofs.Made.{leads}
-use Rattle.class_calls.specs.Answers.{IsLoaded, Says, IsAnswered, RefusesCall}
+use Rattle.class_calls.specs.Answers.{IsAnsweredBy, RefusesMethod, IsMalformed}
 use Rattle.class_calls.specs.declared.answer.Answer.{Answer}
-use Rattle.class_calls.specs.declared.answer.AnswerError.{AnswerError}
-use Rattle.class_calls.specs.declared.answer.AnswerError.TheVariants as ask
-use Rattle.class_calls.specs.Needs.{AreAlike, IsAsked, AnswersOn, NeededAreEnough}
-
--- ---- what holds of each method of a class
-named_has : (P : ClassMethod → Type 0) (class : List ClassMethod) (name : List ℕ) (m : ClassMethod) → AllByRecursion P class → method_named class name ≡ Some m → P m
-named_has P [] name m all e = absurd (none-some m e)
-named_has P (n ∷ ns) name m all e = by (bytes_eq n.name name) (named_has P ns name m all.1) e
-  where
-    by : (b : Bool) → (method_named ns name ≡ Some m → P m) → (if b then Some n else method_named ns name) ≡ Some m → P m
-    by true more e = subst P (same_Some n m e) all.0
-    by false more e = more e
-
--- ---- a method has one run on an object
-ended_same : (o p : machine.Outcome) (j k : ℕ) → Ended o j ≡ Ended p k → (o ≡ p) × (j ≡ k)
-ended_same o p j k e = (cc, cc)
-
-one_run : RunsAreChains → HasLayout → (m : ClassMethod) → IsMethod m → (object : PlainObject) (caller : ℕ) (input : List ℕ) (o p : machine.Outcome) (j k : ℕ)
-    → j ≤ length m.instructions → k ≤ length m.instructions → RunsTo m object caller input o j → RunsTo m object caller input p k → (o ≡ p) × (j ≡ k)
-one_run chains layouts m g object caller input o p j k h i q r =
-    let caps = caps_of m in
-    let lay = first_layout caps in
-    let ok = layouts caps (omega (arith, g.in_cap)) (omega (arith, g.out_cap)) in
-    let first = entry caps lay object caller input in
-    let n = length m.instructions in
-    ended_same o p j k
-    (sym ((chains caps lay (spelling m.instructions) object n first o j).1 (h, q lay ok)) ∙ (chains caps lay (spelling m.instructions) object n first p k).1 (i, r lay ok))
+use Rattle.class_calls.specs.declared.answer.MethodError.{MethodError}
+use Rattle.class_calls.specs.declared.answer.MethodError.TheVariants as method
+use Rattle.class_calls.specs.Needs.{AreAlike, IsAsked, told_outcome, AnswersOn, NeededAreEnough}
+use Rattle.class_calls.proofs.One.{OneObject, one_run}
 
 -- ---- what is restored is within the limits
 by_if : {A : Type 0} (P : A → Type 0) (b : Bool) (x y : A) → P x → P y → P (if b then x else y)
@@ -97,205 +68,208 @@ reduced_restored kept whole (Some c) =
       omap = twice kept.keys c.omap w.omap fin.empty i;
     })
 
--- ---- the outcome on the kept parts alone
-module _ (chains : RunsAreChains) (layouts : HasLayout) (frame : FrameLaw) (m : ClassMethod) (is_method : IsMethod m) (safe : IsSafe m) (kept : Parts) (covers : Covers kept (needed m.instructions)) (given : PlainObject) (within : IsObject given) (caller : ℕ) (input : List ℕ) (asked : IsAsked caller input) (short : length input ≤ m.in_cap) (o : Outcome) (a : AnswersMethod m given caller input o) where
-  abbrev low : PlainObject
-  low = reduced kept given
+-- ---- the run on the needed parts alone
+-- what it comes to, with its list
+pub record Below (m : ClassMethod) (low : PlainObject) (caller : ℕ) (input : List ℕ) : Type 0 where
+  pub outcome : machine.Outcome
+  pub steps : ℕ
+  pub bounded : steps ≤ length m.instructions
+  pub runs : RunsTo m low caller input outcome steps
+  pub list : List Edit
+  pub lists : Lists m low caller input outcome steps list
+  pub leads : all_edited list low ≡ Ok outcome.object
 
-  -- a safe method has a run there
-  record Below : Type 0 where
-    outcome : machine.Outcome
-    steps : ℕ
-    bounded : steps ≤ length m.instructions
-    runs : RunsTo m low caller input outcome steps
-
-  below : Below
+module _ (simulates : Simulates) (have_lists : EndsHaveLists) (m : ClassMethod) (v : IsVerified m) (low : PlainObject) (within : IsObject low) (caller : ℕ) (input : List ℕ) (asked : IsAsked caller input) (short : length input ≤ m.in_cap) where
+  below : Below m low caller input
   below =
-      let s = safe low caller input (record { within_limits = reduced_within kept given within; client = asked.client; short = short; bytes = asked.bytes }) in
-      record { outcome = s.0; steps = s.1; bounded = s.2; runs = s.3 }
+      let end = v.ends low caller input (record { within_limits = within; client = asked.client; short = short; bytes = asked.bytes }) in
+      let sim = simulates m v.method.fit low caller input short end.0 end.1 end.2 in
+      let list = have_lists m v.method.fit low caller input end.0 end.1 end.2 in
+      record { outcome = end.0; steps = end.1; bounded = sim.0; runs = sim.1; list = list.0; lists = list.1; leads = list.2 }
 
-  below_framed : Frames m kept given caller input below.outcome below.steps
-  below_framed = frame m is_method kept covers given caller input below.outcome below.steps below.runs
+-- ---- what an answer on a given object says of it
+module _ (chains : RunsAreChains) (layouts : HasLayout) (one_list : ListsAreOne) (frame : FrameLaw) (list_frame : ListFrameLaw) (m : ClassMethod) (v : IsVerified m) (given : PlainObject) (caller : ℕ) (input : List ℕ) (b : Below m (reduced (needed m.instructions) given) caller input) (listed : Listed) (a : AnswersMethod m given caller input listed.outcome) (l : ListsMethod m given caller input listed) where
+  abbrev kept : Parts
+  kept = needed m.instructions
 
-  -- and that is the given run
-  below_same : (whole_outcome kept given below.outcome ≡ outcome_of_answer o) × (below.steps ≡ o.steps)
-  below_same =
-      one_run chains layouts m is_method given caller input (whole_outcome kept given below.outcome) (outcome_of_answer o) below.steps o.steps below.bounded a.bounded below_framed.runs a.runs
+  covers : Covers kept kept
+  covers = record { bytes = λ e. e; xattrs = λ e. e; keys = λ e. e }
 
-  after_is : restored kept given below.outcome.object ≡ o.change.after
-  after_is = ap (λ (x : machine.Outcome). x.object) below_same.0
+  framed : Frames m kept given caller input b.outcome b.steps
+  framed = frame m v.method kept covers given caller input b.outcome b.steps b.runs
 
-  below_is : below.outcome.object ≡ reduced kept o.change.after
-  below_is =
-      sym below_framed.empty ∙ sym (reduced_restored kept given below.outcome.object) ∙ ap (reduced kept) after_is
+  list_framed : ListFrames m kept given caller input b.outcome b.steps b.list
+  list_framed = list_frame m v.method kept covers given caller input b.outcome b.steps b.list b.lists b.leads
 
-  abbrev lowered : Outcome
-  lowered = record { code = o.code; output = o.output; change = record { before = low; after = below.outcome.object }; steps = o.steps }
+  -- the given run is that below, with what isn't needed
+  same : (whole_outcome kept given b.outcome ≡ outcome_of_answer listed.outcome) × (b.steps ≡ listed.outcome.steps)
+  same = one_run chains layouts m v.method given caller input (whole_outcome kept given b.outcome) (outcome_of_answer listed.outcome) b.steps listed.outcome.steps b.bounded a.bounded framed.runs a.runs
 
-  lowered_is : below.outcome ≡ outcome_of_answer lowered
-  lowered_is =
-      let code = ap (λ (x : machine.Outcome). x.code) below_same.0 in
-      let output = ap (λ (x : machine.Outcome). x.output) below_same.0 in
-      λ i. record { code = code i; output = output i; object = below.outcome.object }
+  list_same : b.list ≡ l.list
+  list_same =
+      let g = v.method in
+      one_list m (omega (arith, g.in_cap)) (omega (arith, g.out_cap)) given caller input (whole_outcome kept given b.outcome) (outcome_of_answer listed.outcome) b.steps listed.outcome.steps b.list l.list list_framed.lists l.lists
 
-  answers_low : AnswersMethod m low caller input lowered
-  answers_low = record {
-    bounded = a.bounded;
-    runs = subst (λ (k : ℕ). RunsTo m low caller input (outcome_of_answer lowered) k) below_same.1
-        (subst (λ (x : machine.Outcome). RunsTo m low caller input x below.steps) lowered_is below.runs);
-    before = refl;
-    within = subst IsObject (sym below_is) (reduced_within kept o.change.after a.within);
-    failed = λ negative. below_is ∙ ap (reduced kept) (a.failed negative);
-  }
+  written : listed.edits.items ≡ spelled b.list
+  written = l.written ∙ ap spelled (sym list_same)
 
-  low_edits : (answer : Answer) → Says o answer → answer.edits.items ≡ spelled (edits low below.outcome.object)
-  low_edits answer s =
-      s.edits
-      ∙ ap (λ (b : PlainObject). spelled (edits b o.change.after)) a.before
-      ∙ ap (λ (p : PlainObject). spelled (edits given p)) (sym after_is)
-      ∙ ap spelled (edits_same kept.bytes kept.xattrs kept.keys given below.outcome.object below_framed.empty)
+  code_is : b.outcome.code ≡ cast_unsigned w64 listed.outcome.code
+  code_is = ap (λ (x : machine.Outcome). x.code) same.0
 
-  says_low : (answer : Answer) → Says o answer → Says lowered answer
-  says_low answer s = record {
-    code = s.code;
-    steps = s.steps;
-    output = s.output;
-    lead = leads low below.outcome.object answer.edits.items (reduced_within kept given within) answers_low.within (low_edits answer s);
-    edits = low_edits answer s;
-  }
+  output_is : b.outcome.output ≡ listed.outcome.output.items
+  output_is = ap (λ (x : machine.Outcome). x.output) same.0
 
--- ---- the outcome on the whole object
-abbrev lifted : Parts → PlainObject → Outcome → Outcome
-lifted kept whole o =
-    record { code = o.code; output = o.output; change = record { before = whole; after = restored kept whole o.change.after }; steps = o.steps }
+  -- a negative code leaves the parts
+  failed : listed.outcome.code <ℤ pos 0 → b.outcome.object ≡ reduced kept given
+  failed negative =
+      sym framed.empty
+      ∙ sym (reduced_restored kept given b.outcome.object)
+      ∙ ap (reduced kept) (ap (λ (x : machine.Outcome). x.object) same.0 ∙ a.failed negative)
 
-module _ (frame : FrameLaw) (m : ClassMethod) (is_method : IsMethod m) (kept : Parts) (covers : Covers kept (needed m.instructions)) (whole : PlainObject) (within : IsObject (reduced kept whole)) (caller : ℕ) (input : List ℕ) (o : Outcome) (a : AnswersMethod m (reduced kept whole) caller input o) where
-  abbrev after : PlainObject
-  after = restored kept whole o.change.after
-
-  framed : Frames m kept whole caller input (outcome_of_answer o) o.steps
-  framed = frame m is_method kept covers whole caller input (outcome_of_answer o) o.steps a.runs
-
-  whole_edits : (answer : Answer) → Says o answer → answer.edits.items ≡ spelled (edits whole after)
-  whole_edits answer s =
-      s.edits
-      ∙ ap (λ (b : PlainObject). spelled (edits b o.change.after)) a.before
-      ∙ sym (ap spelled (edits_same kept.bytes kept.xattrs kept.keys whole o.change.after framed.empty))
-
-  whole_lead : (answer : Answer) → Says o answer → Leads whole after answer.edits.items
-  whole_lead answer s = leads_whole kept.bytes kept.xattrs kept.keys whole o.change.after answer.edits.items within a.within framed.empty (whole_edits answer s)
-
-  -- as the answer has it
-  whole_runs : (answer : Answer) → Says o answer → RunsTo m whole caller input (record { code = cast_unsigned w64 answer.code; output = answer.output.items; object = after }) answer.steps
-  whole_runs answer s =
-      let P : ℤ → List ℕ → ℕ → Type 0 = λ code output steps. RunsTo m whole caller input (record { code = cast_unsigned w64 code; output = output; object = after }) steps in
-      subst (λ (k : ℕ). P answer.code answer.output.items k) (sym s.steps)
-      (subst (λ (bytes : List ℕ). P answer.code bytes o.steps) (sym s.output)
-      (subst (λ (code : ℤ). P code o.output.items o.steps) (sym s.code) framed.runs))
-
-  answers_whole : IsObject whole → AnswersMethod m whole caller input (lifted kept whole o)
-  answers_whole within = record {
-    bounded = a.bounded;
-    runs = framed.runs;
-    before = refl;
-    within = restored_within kept whole o.change.after within a.within;
-    failed = λ negative. ap (restored kept whole) (a.failed negative) ∙ restored_reduced kept whole;
-  }
-
-  says_whole : (answer : Answer) → Says o answer → Says (lifted kept whole o) answer
-  says_whole answer s =
-      record { code = s.code; steps = s.steps; output = s.output; lead = whole_lead answer s; edits = whole_edits answer s }
+  within_limits : IsObject b.outcome.object
+  within_limits =
+      subst IsObject
+      (sym (ap (reduced kept) (ap (λ (x : machine.Outcome). x.object) same.0)) ∙ reduced_restored kept given b.outcome.object ∙ framed.empty)
+      (reduced_within kept listed.outcome.change.after a.within)
 
 -- ---- the answer
-module _ (one : (bytes : List ℕ) (c d : Class) → IsImage bytes c → IsImage bytes d → c ≡ d) (one_object : (o p : PlainObject) → IsObject o → IsObject p → flat o ≡ flat p → o ≡ p) (chains : RunsAreChains) (layouts : HasLayout) (frame : FrameLaw) where
-  module _ (image name : List ℕ) (written : Class) (method : ClassMethod) (spells : IsImage image written) (named : method_named written.methods name ≡ Some method) where
-    -- the method of the loaded class is this one
-    method_is : (class : List ClassMethod) (m : ClassMethod) → IsLoaded image class → method_named class name ≡ Some m → method ≡ m
-    method_is class m l e =
-        let same : class ≡ written.methods = l.methods ∙ ap (λ (c : Class). c.methods) (one image l.written written l.spelled spells) in
-        same_Some method m (sym named ∙ ap (λ (c : List ClassMethod). method_named c name) (sym same) ∙ e)
+module _ (one_object : OneObject) (chains : RunsAreChains) (layouts : HasLayout) (simulates : Simulates) (have_lists : EndsHaveLists) (one_list : ListsAreOne) (frame : FrameLaw) (list_frame : ListFrameLaw) where
+  module _ (class : List ClassMethod) (name : List ℕ) (given whole : PlainObject) (form : List ℕ) (is_given : Spells form given) (caller : ℕ) (input : List ℕ) (asked : IsAsked caller input) (answer : Answer) (a : IsAnsweredBy class name form caller input answer) where
+    abbrev m : ClassMethod
+    m = a.answers.method
 
-    module _ (given whole : PlainObject) (alike : AreAlike (needed method.instructions) given whole) (form : List ℕ) (is_given : Spells form given) (caller : ℕ) (input : List ℕ) (asked : IsAsked caller input) (answer : Answer) (a : IsAnswered image name form caller input answer) where
-      abbrev m : ClassMethod
-      m = a.by.answers.method
+    abbrev parts : Parts
+    parts = needed m.instructions
 
-      abbrev kept : Parts
-      kept = needed m.instructions
+    module _ (alike : reduced parts given ≡ reduced parts whole) where
+      plain_is : a.plain ≡ given
+      plain_is = one_object a.plain given a.spelled.within is_given.within (a.spelled.flat ∙ sym is_given.flat)
 
-      covers : Covers kept kept
-      covers = record { bytes = λ e. e; xattrs = λ e. e; keys = λ e. e }
+      run : AnswersMethod m given caller input a.listed.outcome
+      run = subst (λ (o : PlainObject). AnswersMethod m o caller input a.listed.outcome) plain_is a.answers.answers
 
-      same : method ≡ m
-      same = method_is a.class m a.loaded a.by.answers.named
+      list_is : ListsMethod m given caller input a.listed
+      list_is = subst (λ (o : PlainObject). ListsMethod m o caller input a.listed) plain_is a.answers.lists
 
-      is_method : IsMethod m
-      is_method = subst IsMethod same (named_has IsMethod written.methods name method spells.class.methods named)
+      low : Below m (reduced parts given) caller input
+      low = below simulates have_lists m a.verified (reduced parts given) (reduced_within parts given is_given.within) caller input asked a.answers.short
 
-      is_safe : IsSafe m
-      is_safe = named_has IsSafe a.class name m a.loaded.safe a.by.answers.named
+      covered : Covers parts parts
+      covered = record { bytes = λ e. e; xattrs = λ e. e; keys = λ e. e }
 
-      are_alike : reduced kept given ≡ reduced kept whole
-      are_alike = subst (λ (n : ClassMethod). AreAlike (needed n.instructions) given whole) same alike
+      -- the run below, as one on the whole object's parts
+      low_runs : RunsTo m (reduced parts whole) caller input low.outcome low.steps
+      low_runs = subst (λ (o : PlainObject). RunsTo m o caller input low.outcome low.steps) alike low.runs
 
-      run : AnswersMethod m given caller input a.by.outcome
-      run =
-          let plain = one_object a.by.plain given a.by.spelled.within is_given.within (a.by.spelled.flat ∙ sym is_given.flat) in
-          subst (λ (o : PlainObject). AnswersMethod m o caller input a.by.outcome) plain a.by.answers.answers
+      low_lists : Lists m (reduced parts whole) caller input low.outcome low.steps low.list
+      low_lists = subst (λ (o : PlainObject). Lists m o caller input low.outcome low.steps low.list) alike low.lists
 
-      -- on the needed parts alone
-      abbrev low_outcome : Outcome
-      low_outcome = lowered chains layouts frame m is_method is_safe kept covers given is_given.within caller input asked a.by.answers.short a.by.outcome run
+      low_leads : all_edited low.list (reduced parts whole) ≡ Ok low.outcome.object
+      low_leads = subst (λ (o : PlainObject). all_edited low.list o ≡ Ok low.outcome.object) alike low.leads
 
-      low_run : AnswersMethod m (reduced kept whole) caller input low_outcome
-      low_run = subst (λ (o : PlainObject). AnswersMethod m o caller input low_outcome) are_alike (answers_low chains layouts frame m is_method is_safe kept covers given is_given.within caller input asked a.by.answers.short a.by.outcome run)
+      on_whole : Frames m parts whole caller input low.outcome low.steps
+      on_whole = frame m a.verified.method parts covered whole caller input low.outcome low.steps low_runs
 
-      low_says : Says low_outcome answer
-      low_says = says_low chains layouts frame m is_method is_safe kept covers given is_given.within caller input asked a.by.answers.short a.by.outcome run answer a.by.says
+      list_on_whole : ListFrames m parts whole caller input low.outcome low.steps low.list
+      list_on_whole = list_frame m a.verified.method parts covered whole caller input low.outcome low.steps low.list low_lists low_leads
 
-      low_within : IsObject (reduced kept whole)
-      low_within = subst IsObject are_alike (reduced_within kept given is_given.within)
+      abbrev after : PlainObject
+      after = restored parts whole low.outcome.object
 
-      any : AnswersOn image name whole caller input answer
+      given_same : (whole_outcome parts given low.outcome ≡ outcome_of_answer a.listed.outcome) × (low.steps ≡ a.listed.outcome.steps)
+      given_same = same chains layouts one_list frame list_frame m a.verified given caller input low a.listed run list_is
+
+      -- the outcome that the listed answer has on the whole object
+      outcome_is : whole_outcome parts whole low.outcome ≡ record { code = cast_unsigned w64 a.listed.outcome.code; output = a.listed.outcome.output.items; object = after }
+      outcome_is =
+          let code = code_is chains layouts one_list frame list_frame m a.verified given caller input low a.listed run list_is in
+          let output = output_is chains layouts one_list frame list_frame m a.verified given caller input low a.listed run list_is in
+          λ i. record { code = code i; output = output i; object = after }
+
+      edits_are : a.listed.edits.items ≡ spelled low.list
+      edits_are = written chains layouts one_list frame list_frame m a.verified given caller input low a.listed run list_is
+
+      told_is : whole_outcome parts whole low.outcome ≡ told_outcome answer after
+      told_is = outcome_is ∙ (λ i. record { code = cast_unsigned w64 (sym a.says.code i); output = sym a.says.output i; object = after })
+
+      steps_are : low.steps ≡ answer.steps
+      steps_are = given_same.1 ∙ sym a.says.steps
+
+      any : AnswersOn class name whole caller input answer
       any = record {
-        class = a.class;
-        loaded = a.loaded;
         method = m;
-        named = a.by.answers.named;
-        short = a.by.answers.short;
-        bounded = subst (λ (k : ℕ). k ≤ length m.instructions) (sym a.by.says.steps) run.bounded;
-        after = restored kept whole low_outcome.change.after;
-        runs = whole_runs frame m is_method kept covers whole low_within caller input low_outcome low_run answer low_says;
-        lead = whole_lead frame m is_method kept covers whole low_within caller input low_outcome low_run answer low_says;
+        named = a.answers.named;
+        short = a.answers.short;
+        bounded = subst (λ (k : ℕ). k ≤ length m.instructions) steps_are low.bounded;
+        after = after;
+        runs = subst (λ (o : machine.Outcome). RunsTo m whole caller input o answer.steps) told_is
+            (subst (λ (k : ℕ). RunsTo m whole caller input (whole_outcome parts whole low.outcome) k) steps_are on_whole.runs);
+        list = low.list;
+        lists = subst (λ (o : machine.Outcome). Lists m whole caller input o answer.steps low.list) told_is
+            (subst (λ (k : ℕ). Lists m whole caller input (whole_outcome parts whole low.outcome) k low.list) steps_are list_on_whole.lists);
+        written = a.says.edits ∙ edits_are;
+        leads = list_on_whole.leads;
       }
 
-      answered : (whole_form : List ℕ) → Spells whole_form whole → IsAnswered image name whole_form caller input answer
+      -- the same as an answer on the whole object, if that is within the limits
+      abbrev lifted : Listed
+      lifted = record {
+        outcome = record { code = a.listed.outcome.code; output = a.listed.outcome.output; change = record { before = whole; after = after }; steps = a.listed.outcome.steps };
+        edits = a.listed.edits;
+      }
+
+      answered : (whole_form : List ℕ) → Spells whole_form whole → IsAnsweredBy class name whole_form caller input answer
       answered whole_form is_whole = record {
-        class = a.class;
-        loaded = a.loaded;
-        by = record {
-          plain = whole;
-          spelled = is_whole;
-          outcome = lifted kept whole low_outcome;
+        plain = whole;
+        spelled = is_whole;
+        listed = lifted;
+        answers = record {
+          method = m;
+          named = a.answers.named;
+          short = a.answers.short;
           answers = record {
-            method = m;
-            named = a.by.answers.named;
-            short = a.by.answers.short;
-            answers = answers_whole frame m is_method kept covers whole low_within caller input low_outcome low_run is_whole.within;
+            bounded = run.bounded;
+            runs = subst (λ (o : machine.Outcome). RunsTo m whole caller input o a.listed.outcome.steps) outcome_is
+                (subst (λ (k : ℕ). RunsTo m whole caller input (whole_outcome parts whole low.outcome) k) given_same.1 on_whole.runs);
+            before = refl;
+            within = restored_within parts whole low.outcome.object is_whole.within (within_limits chains layouts one_list frame list_frame m a.verified given caller input low a.listed run list_is);
+            failed = λ negative.
+                ap (restored parts whole) (failed chains layouts one_list frame list_frame m a.verified given caller input low a.listed run list_is negative ∙ alike)
+                ∙ restored_reduced parts whole;
           };
-          says = says_whole frame m is_method kept covers whole low_within caller input low_outcome low_run answer low_says;
+          lists = record {
+            list = low.list;
+            lists = subst (λ (o : machine.Outcome). Lists m whole caller input o a.listed.outcome.steps low.list) outcome_is
+                (subst (λ (k : ℕ). Lists m whole caller input (whole_outcome parts whole low.outcome) k low.list) given_same.1 list_on_whole.lists);
+            written = edits_are;
+            leads = list_on_whole.leads;
+          };
         };
+        verified = a.verified;
+        client = a.client;
+        says = record { code = a.says.code; steps = a.says.steps; output = a.says.output; edits = a.says.edits };
       }
 
-    refused : (given whole : PlainObject) (form whole_form : List ℕ) → Spells form given → Spells whole_form whole → (input : List ℕ) (error : AnswerError) → RefusesCall image name form input error → RefusesCall image name whole_form input error
-    refused given whole form whole_form g w input (ask.Class e) r = r
-    refused given whole form whole_form g w input ask.NoMethod r = r
-    refused given whole form whole_form g w input ask.InputTooLong r = r
-    refused given whole form whole_form g w input ask.Malformed r = absurd (r.gets.none given g)
-    refused given whole form whole_form g w input ask.NoMemory r = r
+  -- the parts that the method needs
+  alike_by : (class : List ClassMethod) (name : List ℕ) (n : ClassMethod) → method_named class name ≡ Some n → (given whole : PlainObject) → AreAlike (needed n.instructions) given whole → (form : List ℕ) (caller : ℕ) (input : List ℕ) (answer : Answer) (a : IsAnsweredBy class name form caller input answer) → reduced (needed a.answers.method.instructions) given ≡ reduced (needed a.answers.method.instructions) whole
+  alike_by class name n named given whole alike form caller input answer a =
+      subst (λ (k : ClassMethod). AreAlike (needed k.instructions) given whole) (same_Some n a.answers.method (sym named ∙ a.answers.named)) alike
+
+  refused : (class : List ClassMethod) (name : List ℕ) (given whole : PlainObject) (form whole_form : List ℕ) → Spells form given → Spells whole_form whole → (caller : ℕ) (input : List ℕ) (error : MethodError) → RefusesMethod class name form caller input error → RefusesMethod class name whole_form caller input error
+  refused class name given whole form whole_form g w caller input method.NoMethod r = r
+  refused class name given whole form whole_form g w caller input method.InputTooLong r = r
+  refused class name given whole form whole_form g w caller input method.Malformed r = record { method = r.method; named = r.named; short = r.short; none = by r.none }
+    where
+      by : ((plain : PlainObject) → Spells form plain → ⊥) ⊎ (2 ^ 32 ≤ caller) → ((plain : PlainObject) → Spells whole_form plain → ⊥) ⊎ (2 ^ 32 ≤ caller)
+      by (inl none) = absurd (none given g)
+      by (inr long) = inr long
+  refused class name given whole form whole_form g w caller input method.NoMemory r = r
 
   pub enough : NeededAreEnough
-  enough image name written method spells named = record {
-    any = any image name written method spells named;
-    answered = λ given whole alike form whole_form is_given is_whole caller input asked answer a. answered image name written method spells named given whole alike form is_given caller input asked answer a whole_form is_whole;
-    refused = refused image name written method spells named;
+  enough class name n named = record {
+    any = λ given whole alike form is_given caller input asked answer a.
+        any class name given whole form is_given caller input asked answer a (alike_by class name n named given whole alike form caller input answer a);
+    answered = λ given whole alike form whole_form is_given is_whole caller input asked answer a.
+        answered class name given whole form is_given caller input asked answer a (alike_by class name n named given whole alike form caller input answer a) whole_form is_whole;
+    refused = refused class name;
   }

@@ -1,2 +1,4 @@
 pub mod One
 pub mod LeftOut
+pub mod Place
+pub mod Over

@@ -1,13 +1,26 @@
 //! A call on bytes.
 
 ghost use Rattle.std.specs.Prelude.{◌≡◌, IfOk, IfErr};
-ghost use Rattle.class_calls.specs.Answers.{IsAnswered, IsAnsweredBy, IsOfFlat, RefusesCall, RefusesMethod, Says, answer_error};
+ghost use Rattle.class_calls.specs.Answers.{IsAnsweredBy, IsOfFlat, RefusesMethod, Says};
 
-use crate::class::{ClassError, load, method_of};
-use interp::{Outcome, call_method};
-use object_bytes::{FlatError, edits_of, read_object};
-use std::alloc::{AllocError, Global};
+use crate::class::place_of;
+use interp::{Listed, Outcome, Room};
+use object_bytes::{FlatError, read_object};
+use std::alloc::Global;
 use verifier::VerifiedClass;
+
+/// What is asked of a class: a method on an object, for a client.
+#[derive(Clone, Copy)]
+pub struct Request<'a> {
+    /// The method's name; any bytes.
+    pub method: &'a [u8],
+    /// The object's flat form.
+    pub object: &'a [u8],
+    /// The client's number, below 2^32.
+    pub caller: u64,
+    /// The input, at most the method's in_cap of bytes.
+    pub input: &'a [u8],
+}
 
 /// Why a verified class gives no answer: the first that applies.
 #[derive(Clone, Copy, Debug)]
@@ -16,22 +29,7 @@ pub enum MethodError {
     NoMethod,
     /// The input is longer than the method's in_cap.
     InputTooLong,
-    /// The bytes are no object's flat form.
-    Malformed,
-    /// Memory was refused.
-    NoMemory,
-}
-
-/// Why an image gives no answer: the first that applies.
-#[derive(Clone, Copy, Debug)]
-pub enum AnswerError {
-    /// The image gives no verified class.
-    Class(ClassError),
-    /// The class has no method of that name.
-    NoMethod,
-    /// The input is longer than the method's in_cap.
-    InputTooLong,
-    /// The bytes are no object's flat form.
+    /// The bytes are no object's flat form, or the client's number is 2^32 or more.
     Malformed,
     /// Memory was refused.
     NoMemory,
@@ -46,27 +44,28 @@ pub struct Answer {
     pub steps: usize,
     /// The output.
     pub output: Vec<u8>,
-    /// The edits that make of the object before the one after, as they are written.
+    /// The list of the edits that the method's helpers made, as it is written. They make of the
+    /// object before the one after.
     pub edits: Vec<u8>,
 }
 
-/// The answer of an outcome, its change as edits.
-fn said(alloc: Global, outcome: Outcome) -> Result<Answer, AllocError>
-    ensures { IfOk result (Says outcome) }
+/// The answer of a run with its list.
+fn said(listed: Listed) -> Answer
+    ensures { Says listed result }
 {
+    let Listed { outcome, edits } = listed;
     let Outcome {
         code,
         output,
-        change,
+        change: _,
         steps,
     } = outcome;
-    let edits = edits_of(alloc, change.before(), change.after())?;
-    Ok(Answer {
+    Answer {
         code,
         steps,
         output,
         edits,
-    })
+    }
 }
 
 /// The refusal of a call for a refusal of the object's flat form.
@@ -79,67 +78,45 @@ fn of_flat(error: FlatError) -> MethodError
     }
 }
 
-/// Calls a method of a verified class on an object in its flat form.
+/// Calls a method of a verified class on an object in its flat form, in a room that calls share one
+/// after the other.
 pub fn call_on(
     alloc: Global,
+    room: &mut Room,
     class: &VerifiedClass,
-    name: &[u8],
-    object: &[u8],
-    caller: u32,
-    input: &[u8],
+    request: Request,
 ) -> Result<Answer, MethodError>
-    ensures ok { IfOk result (IsAnsweredBy class.now name.now object.now caller input.now) }
-    ensures refused { IfErr result (RefusesMethod class.now name.now object.now input.now) }
+    ensures ok { IfOk result
+        (IsAnsweredBy class.now request.entry.method.now request.entry.object.now request.entry.caller
+        request.entry.input.now) }
+    ensures refused { IfErr result
+        (RefusesMethod class.now request.entry.method.now request.entry.object.now request.entry.caller
+        request.entry.input.now) }
 {
-    let Some(method) = method_of(class, name) else {
+    let Request {
+        method,
+        object,
+        caller,
+        input,
+    } = request;
+    let Some(place) = place_of(class, method) else {
         return Err(MethodError::NoMethod);
     };
-    if input.len() > usize::from(method.caps().in_cap) {
+    let found = &class.methods()[place];
+    if input.len() > usize::from(found.caps().in_cap) {
         return Err(MethodError::InputTooLong);
+    }
+    if caller >= 0x1_0000_0000 {
+        return Err(MethodError::Malformed);
     }
     let object = match read_object(alloc, object) {
         Ok(object) => object,
         Err(error) => return Err(of_flat(error)),
     };
-    let Ok(outcome) = call_method(alloc, method, object.as_ref(), caller, input) else {
-        return Err(MethodError::NoMemory);
-    };
-    match said(alloc, outcome) {
-        Ok(answer) => Ok(answer),
+    // For the proof: the method is verified.
+    found.ops();
+    match room.call_method_listed(found, object.as_ref(), caller as u32, input) {
+        Ok(listed) => Ok(said(listed)),
         Err(_) => Err(MethodError::NoMemory),
-    }
-}
-
-/// The refusal of a call on an image for that of a call on its class.
-fn of_method(error: MethodError) -> AnswerError
-    ensures { result ≡ answer_error error }
-{
-    match error {
-        MethodError::NoMethod => AnswerError::NoMethod,
-        MethodError::InputTooLong => AnswerError::InputTooLong,
-        MethodError::Malformed => AnswerError::Malformed,
-        MethodError::NoMemory => AnswerError::NoMemory,
-    }
-}
-
-/// Calls a method of an image's class on an object in its flat form: verifies the class, and calls.
-pub fn answer_on(
-    alloc: Global,
-    image: &[u8],
-    name: &[u8],
-    object: &[u8],
-    caller: u32,
-    input: &[u8],
-) -> Result<Answer, AnswerError>
-    ensures ok { IfOk result (IsAnswered image.now name.now object.now caller input.now) }
-    ensures refused { IfErr result (RefusesCall image.now name.now object.now input.now) }
-{
-    let class = match load(alloc, image) {
-        Ok(class) => class,
-        Err(error) => return Err(AnswerError::Class(error)),
-    };
-    match call_on(alloc, &class, name, object, caller, input) {
-        Ok(answer) => Ok(answer),
-        Err(error) => Err(of_method(error)),
     }
 }

@@ -1,12 +1,14 @@
 //! A verified class from an image, and its methods by name.
 
-ghost use Rattle.std.specs.Prelude.{◌≡◌, IfOk, IfErr};
-ghost use Rattle.verifier.specs.Verified.{method_named, given_method};
+ghost use Rattle.std.specs.Prelude.{◌≡◌, IfOk, IfErr, IfSome, None};
+ghost use Rattle.bpf_decode.specs.Class.{IsImage};
+ghost use Rattle.verifier.specs.Verified.{method_named};
 ghost use Rattle.class_calls.specs.Answers.{IsLoaded, RefusesImage, IsOfImage, IsOfVerdict};
+ghost use Rattle.class_calls.specs.Handle.{IsPlace};
 
-use bpf_decode::{DecodeError, ImageError, read_image};
+use bpf_decode::{ClassImage, DecodeError, ImageError, read_image};
 use std::alloc::Global;
-use verifier::{Refusal, Rule, VerifiedClass, VerifiedMethod, verify};
+use verifier::{Refusal, Rule, VerifiedClass, verify};
 
 /// Why an image gives no verified class.
 #[derive(Clone, Copy, Debug)]
@@ -39,28 +41,51 @@ fn of_verdict(refusal: Refusal) -> ClassError
     }
 }
 
-/// The class of an image, if no rule refuses it.
-pub fn load(alloc: Global, image: &[u8]) -> Result<VerifiedClass, ClassError>
-    ensures found { IfOk result (IsLoaded image.now) }
+/// The class that an image spells.
+pub(crate) fn read(alloc: Global, image: &[u8]) -> Result<ClassImage, ClassError>
+    ensures found { IfOk result (λ class. IsImage image.now class) }
     ensures refused { IfErr result (RefusesImage image.now) }
 {
-    let class = match read_image(alloc, image) {
-        Ok(class) => class,
-        Err(error) => return Err(of_image(error)),
-    };
-    match verify(alloc, &class) {
+    match read_image(alloc, image) {
+        Ok(class) => Ok(class),
+        Err(error) => Err(of_image(error)),
+    }
+}
+
+/// The verified class of an image that spells this one.
+pub(crate) fn judged(
+    alloc: Global,
+    image: &[u8],
+    class: &ClassImage,
+) -> Result<VerifiedClass, ClassError>
+    requires { IsImage image.now class.now }
+    ensures found { IfOk result (IsLoaded image.now) }
+    ensures same { IfOk result (λ v. v ≡ class.now.methods) }
+    ensures refused { IfErr result (RefusesImage image.now) }
+{
+    match verify(alloc, class) {
         Ok(verified) => Ok(verified),
         Err(refusal) => Err(of_verdict(refusal)),
     }
 }
 
-/// The method of a name, if the class has one. The name may be any bytes.
-pub fn method_of<'a>(class: &'a VerifiedClass, name: &[u8]) -> Option<&'a VerifiedMethod>
-    ensures { given_method result ≡ method_named class.now name.now }
+/// The class of an image, if no rule refuses it.
+pub fn load(alloc: Global, image: &[u8]) -> Result<VerifiedClass, ClassError>
+    ensures found { IfOk result (IsLoaded image.now) }
+    ensures refused { IfErr result (RefusesImage image.now) }
 {
-    for method in class.methods() {
+    let class = read(alloc, image)?;
+    judged(alloc, image, &class)
+}
+
+/// The number of the method of a name, from 0 on, if the class has one. The name may be any bytes.
+pub fn place_of(class: &VerifiedClass, name: &[u8]) -> Option<usize>
+    ensures found { IfSome result (IsPlace class.now name.now) }
+    ensures none { result ≡ None → method_named class.now name.now ≡ None }
+{
+    for (n, method) in class.methods().iter().enumerate() {
         if method.name().as_bytes() == name {
-            return Some(method);
+            return Some(n);
         }
     }
     None

@@ -1,13 +1,15 @@
 //! Calls of verified classes on bytes, for a host that keeps the objects itself: an object comes in
-//! as its flat form, and its change goes out as edits. `load` gives an image's class if no rule
-//! refuses it, `call_on` makes a call of it, and `answer_on` does both. Each is a function of its
-//! arguments alone, and keeps nothing.
+//! as its flat form, and what the method did to it goes out as the list of its edits. `load` gives
+//! an image's class if no rule refuses it, and `call_on` makes a call of it; a `ClassHandle` holds
+//! one for many calls. What is answered is a function of class, object, client and input alone.
 #![tactic(auto)]
 
 mod answer;
 mod class;
+mod handle;
 mod laws;
 
-pub use answer::{Answer, AnswerError, MethodError, answer_on, call_on};
-pub use class::{ClassError, load, method_of};
-pub use laws::{one_answer, parts_may_be_left_out};
+pub use answer::{Answer, MethodError, Request, call_on};
+pub use class::{ClassError, load, place_of};
+pub use handle::{ClassHandle, Declared};
+pub use laws::{lists_stand_over_others, one_answer, one_class, parts_may_be_left_out};

@@ -17,7 +17,7 @@ use Rattle.footprint.proofs.Helpers.{MayCall}
 use Rattle.footprint.proofs.Steps.{MayDo}
 
 -- an instruction that begins after empty slots begins in what follows them
-later : (m k : ℕ) (xs : List (Option Insn)) (i : Insn) → fetch (replicate m None ++ xs) k ≡ Some i → (j : ℕ) × (fetch xs j ≡ Some i)
+pub later : (m k : ℕ) (xs : List (Option Insn)) (i : Insn) → fetch (replicate m None ++ xs) k ≡ Some i → (j : ℕ) × (fetch xs j ≡ Some i)
 later zero k xs i e = (k, e)
 later (suc m) zero xs i e = absurd (none-some i e)
 later (suc m) (suc k) xs i e = later m k xs i e

@@ -2,3 +2,8 @@ pub mod Helpers
 pub mod Steps
 pub mod Calls
 pub mod Runs
+pub mod Moves
+pub mod EditBytes
+pub mod Quiet
+pub mod Alike
+pub mod Bounded

@@ -1,6 +1,7 @@
 -- A run on the reduced object is one on the whole object.
-use Rattle.std.proofs.Common.{◌≡◌, ◌∙◌, ℕ, zero, suc, ◌^◌, ◌≤◌, Bool, true, false, List, [], Option, Some, None, refl, ap, sym, subst, arith}
-use Rattle.std.specs.Prelude.{if◌then◌else◌, nat_lt, take}
+use Rattle.std.proofs.Common.{◌≡◌, ◌∙◌, ℕ, zero, suc, ◌^◌, ◌≤◌, Bool, true, false, List, [], Option, Some, None, Ok, refl, ap, sym, subst, arith}
+use Rattle.std.specs.Prelude.{if◌then◌else◌, nat_lt, take, unwrap_or}
+use Rattle.std.proofs.lemmas.Option.{none-some}
 use Rattle.std.specs.FinMap as fin
 use Rattle.bpf_decode.specs.declared.insn.Insn.{Insn}
 use Rattle.bpf_decode.specs.Class.{ClassMethod, IsMethod}
@@ -8,7 +9,10 @@ use Rattle.bpf_decode.specs.Instruction.{AllFit, spelling, slots}
 use Rattle.object_store.specs.Object.{PlainObject}
 use Rattle.bpf_machine.specs.declared.caps.Caps.{Caps}
 use Rattle.bpf_machine.specs.State.{State, Outcome, outcome_of, Ending, Ended, Stuck, Unfinished, one_more, goes_on, ends}
-use Rattle.bpf_machine.specs.Flat.{Layout, IsLayout, EndsAtExit, step, exit_code, run, entry}
+use Rattle.txn.specs.Edits.{Edit, all_edited}
+use Rattle.helpers.specs.Edits.{EditsLead}
+use Rattle.bpf_machine.specs.Flat.{Layout, IsLayout, Chain, EndsAtExit, step, exit_code, run, entry}
+use Rattle.bpf_machine.specs.Lists.{list_of, Lists, ListsAtExit, listed_entry}
 use Rattle.bpf_machine.specs.Typed.{fetch}
 use Rattle.bpf_machine.specs.Decoded.{insn_act, insn_exit_of}
 use Rattle.bpf_machine.specs.Safe.{caps_of, RunsTo, RunsAreChains, BytesAreInstructions, ElsewhereIsStuck, HasLayout, first_layout}
@@ -16,9 +20,9 @@ use Rattle.footprint.specs.declared.parts.Parts.{Parts}
 use Rattle.footprint.specs.declared.scan.Deed.TheVariants.{Creation}
 use Rattle.footprint.specs.Parts.{reduced, restored, Covers}
 use Rattle.footprint.specs.Needed.{calls, renews, needed}
-use Rattle.footprint.specs.Frame.{whole_outcome, Frames}
+use Rattle.footprint.specs.Frame.{whole_outcome, Frames, ListFrames}
 use Rattle.footprint.proofs.Helpers.{IsReduced}
-use Rattle.footprint.proofs.Steps.{MayDo, Lifts, lift, acts, exits}
+use Rattle.footprint.proofs.Steps.{MayDo, LeadsSoFar, IsGood, Lifts, lift, acts, exits}
 use Rattle.footprint.proofs.Calls.{false_true, may_do}
 
 -- ---- a reduced object, and what is restored of it
@@ -65,12 +69,12 @@ one_less (Ended p j) o k e =
 one_less Stuck o k e = stuck_not o k e
 one_less Unfinished o k e = unfinished_not o k e
 
-module _ (caps : Caps) (lay : Layout) (is : List Insn) (fit : AllFit is) (begins : BytesAreInstructions) (elsewhere : ElsewhereIsStuck) (kept : Parts) (whole : PlainObject) (creates : Bool) (may : (k : ℕ) (i : Insn) → fetch (slots is) k ≡ Some i → MayDo kept creates i) where
+module _ (law : EditsLead) (caps : Caps) (lay : Layout) (is : List Insn) (fit : AllFit is) (begins : BytesAreInstructions) (elsewhere : ElsewhereIsStuck) (kept : Parts) (whole : PlainObject) (creates listing : Bool) (may : (k : ℕ) (i : Insn) → fetch (slots is) k ≡ Some i → MayDo kept creates i) where
   abbrev Good : State ℕ → Type 0
-  Good s = IsReduced kept whole creates s.object
+  Good s = IsGood kept whole creates listing s
 
   abbrev up : State ℕ → State ℕ
-  up s = lift kept whole creates s
+  up s = lift kept whole creates listing s
 
   -- how both runs end
   pub record BothEnd (e : Ending) (o : Outcome) (k : ℕ) : Type 0 where
@@ -89,13 +93,13 @@ module _ (caps : Caps) (lay : Layout) (is : List Insn) (fit : AllFit is) (begins
   both_outcomes s code g = by (nat_lt code (2 ^ 63))
     where
       by : (b : Bool) → BothEnd (Ended (ending b code (up s) whole) 1) (ending b code s (reduced kept whole)) 1
-      by true = record { ended = refl; empty = reduced_is kept whole creates s.object g }
+      by true = record { ended = refl; empty = reduced_is kept whole creates s.object g.0 }
       by false = record {
         ended = ap (λ (w : PlainObject). Ended (record { code = code; output = []; object = w }) 1) (sym (restored_reduced kept whole));
         empty = reduced_is kept whole creates (reduced kept whole) (is_reduced kept creates whole);
       }
 
-  goes : (a b : Option (State ℕ)) (more more' : State ℕ → Ending) → Lifts kept whole creates a b → Rest more more' → (o : Outcome) (k : ℕ) → goes_on a more ≡ Ended o k → BothEnd (goes_on b more') o k
+  goes : (a b : Option (State ℕ)) (more more' : State ℕ → Ending) → Lifts kept whole creates listing a b → Rest more more' → (o : Outcome) (k : ℕ) → goes_on a more ≡ Ended o k → BothEnd (goes_on b more') o k
   goes None b more more' l r o k e = stuck_not o k e
   goes (Some t) b more more' l r o k e =
       let m = l.by t refl in
@@ -107,7 +111,7 @@ module _ (caps : Caps) (lay : Layout) (is : List Insn) (fit : AllFit is) (begins
       }
 
   -- at an exit, or elsewhere
-  here : (s : State ℕ) (x : Option ℕ) (a b : Option (State ℕ)) (more more' : State ℕ → Ending) → Good s → Lifts kept whole creates a b → Rest more more' → (o : Outcome) (k : ℕ) → ends (reduced kept whole) s x (goes_on a more) ≡ Ended o k → BothEnd (ends whole (up s) x (goes_on b more')) o k
+  here : (s : State ℕ) (x : Option ℕ) (a b : Option (State ℕ)) (more more' : State ℕ → Ending) → Good s → Lifts kept whole creates listing a b → Rest more more' → (o : Outcome) (k : ℕ) → ends (reduced kept whole) s x (goes_on a more) ≡ Ended o k → BothEnd (ends whole (up s) x (goes_on b more')) o k
   here s None a b more more' g l r o k e = goes a b more more' l r o k e
   here s (Some code) a b more more' g l r o k e =
       let same = ended_same (outcome_of (reduced kept whole) code s) o 1 k e in
@@ -131,9 +135,9 @@ module _ (caps : Caps) (lay : Layout) (is : List Insn) (fit : AllFit is) (begins
       sym (ap (λ (x : Option ℕ). ends (reduced kept whole) s x (goes_on (step caps lay (spelling is) s) more)) a.exits
       ∙ ap (λ (y : Option (State ℕ)). ends (reduced kept whole) s (insn_exit_of caps lay i s) (goes_on y more)) a.acts)
       ∙ e in
-      let both = here s (insn_exit_of caps lay i s) (insn_act caps lay i s) (insn_act caps lay i (up s)) more more' g (acts caps lay kept whole creates i s (may s.slot i f) g) r o k from in
+      let both = here s (insn_exit_of caps lay i s) (insn_act caps lay i s) (insn_act caps lay i (up s)) more more' g (acts law caps lay kept whole creates listing i s (may s.slot i f) g) r o k from in
       record {
-        ended = ap (λ (x : Option ℕ). ends whole (up s) x (goes_on (step caps lay (spelling is) (up s)) more')) (b.exits ∙ exits caps lay kept whole creates i s)
+        ended = ap (λ (x : Option ℕ). ends whole (up s) x (goes_on (step caps lay (spelling is) (up s)) more')) (b.exits ∙ exits law caps lay kept whole creates listing i s)
             ∙ ap (λ (y : Option (State ℕ)). ends whole (up s) (insn_exit_of caps lay i s) (goes_on y more')) b.acts
             ∙ both.ended;
         empty = both.empty;
@@ -142,6 +146,73 @@ module _ (caps : Caps) (lay : Layout) (is : List Insn) (fit : AllFit is) (begins
   pub runs : (n : ℕ) → Rest (run caps lay (spelling is) (reduced kept whole) n) (run caps lay (spelling is) whole n)
   runs zero t g o k e = unfinished_not o k e
   runs (suc n) t g o k e = at t (fetch (slots is) t.slot) refl _ _ g (runs n) o k e
+
+  -- ---- a chain of steps, and its list
+  step_lifts : (s t : State ℕ) → Good s → step caps lay (spelling is) s ≡ Some t → Good t × (step caps lay (spelling is) (up s) ≡ Some (up t))
+  step_lifts s t g e = by (fetch (slots is) s.slot) refl
+    where
+      by : (f : Option Insn) → fetch (slots is) s.slot ≡ f → Good t × (step caps lay (spelling is) (up s) ≡ Some (up t))
+      by None f = absurd (none-some t (sym (elsewhere caps lay is s f).no_step ∙ e))
+      by (Some i) f =
+          let a = begins caps lay is fit s i f in
+          let b = begins caps lay is fit (up s) i f in
+          let l = (acts law caps lay kept whole creates listing i s (may s.slot i f) g).by t (sym a.acts ∙ e) in
+          (l.0, b.acts ∙ l.1)
+
+  chain_lifts : (n : ℕ) (s l : State ℕ) → Good s → Chain caps lay (spelling is) n s l → Good l × Chain caps lay (spelling is) n (up s) (up l)
+  chain_lifts zero s l g e = (subst Good e g, ap up e)
+  chain_lifts (suc n) s l g c =
+      let first = step_lifts s c.0 g c.1 in
+      let rest = chain_lifts n c.0 l first.0 c.2 in
+      (rest.0, (up c.0, first.1, rest.1))
+
+  exit_lifts : (s : State ℕ) (v : ℕ) → exit_code (spelling is) s ≡ Some v → exit_code (spelling is) (up s) ≡ Some v
+  exit_lifts s v e = by (fetch (slots is) s.slot) refl
+    where
+      by : (f : Option Insn) → fetch (slots is) s.slot ≡ f → exit_code (spelling is) (up s) ≡ Some v
+      by None f = absurd (none-some v (sym (elsewhere caps lay is s f).no_exit ∙ e))
+      by (Some i) f =
+          (begins caps lay is fit (up s) i f).exits
+          ∙ exits law caps lay kept whole creates listing i s
+          ∙ sym (begins caps lay is fit s i f).exits
+          ∙ e
+
+  outcome_same : (o p : Outcome) → Ended o 1 ≡ Ended p 1 → o ≡ p
+  outcome_same o p e = (ended_same o p 1 1 e).0
+
+  -- the list on the whole object is that on the reduced one, and leads from the whole one
+  pub record BothList (s : State ℕ) (o : Outcome) (k : ℕ) (list : List Edit) : Type 0 where
+    pub lists : ListsAtExit caps lay (spelling is) whole (up s) (whole_outcome kept whole o) k list
+    pub leads : all_edited list whole ≡ Ok (restored kept whole o.object)
+
+  pub both_list : (s : State ℕ) (o : Outcome) (k : ℕ) (list : List Edit) → listing ≡ true → Good s → ListsAtExit caps lay (spelling is) (reduced kept whole) s o k list → EndsAtExit caps lay (spelling is) whole (up s) (whole_outcome kept whole o) k → BothList s o k list
+  both_list s o k list listed g l ends =
+      let e = l.ends in
+      let c = chain_lifts e.before_exit s e.last g e.chain in
+      let same = both_outcomes e.last e.value c.0 in
+      record {
+        lists = record {
+          ends = record {
+            before_exit = e.before_exit;
+            counted = e.counted;
+            last = up e.last;
+            chain = c.1;
+            value = e.value;
+            exit = exit_lifts e.last e.value e.exit;
+            outcome_is = ap (whole_outcome kept whole) e.outcome_is ∙ sym (outcome_same _ _ same.ended);
+            never_stuck = ends.never_stuck;
+          };
+          list_is = l.list_is;
+        };
+        leads = ap (λ (es : List Edit). all_edited es whole) l.list_is
+            ∙ by (nat_lt e.value (2 ^ 63)) e.last.edits c.0.1
+            ∙ ap (λ (p : Outcome). Ok (restored kept whole p.object)) (sym e.outcome_is);
+      }
+    where
+      by : (b : Bool) (es : Option (List Edit)) → LeadsSoFar kept whole creates listing es l.ends.last.object → all_edited (if b then unwrap_or es [] else []) whole ≡ Ok (restored kept whole (ending b l.ends.value l.ends.last (reduced kept whole)).object)
+      by true None leads = absurd (false_true (sym leads ∙ listed))
+      by true (Some es) leads = leads
+      by false es leads = ap Ok (sym (restored_reduced kept whole))
 
 -- ---- the law
 -- code that needs all parts leaves out none
@@ -170,7 +241,7 @@ frames_all m whole caller input outcome steps runs = record {
   empty = reduced_all outcome.object;
 }
 
-module _ (chains : RunsAreChains) (begins : BytesAreInstructions) (elsewhere : ElsewhereIsStuck) (layouts : HasLayout) (m : ClassMethod) (is_method : IsMethod m) (kept : Parts) (covers : Covers kept (needed m.instructions)) (whole : PlainObject) (caller : ℕ) (input : List ℕ) (outcome : Outcome) (steps : ℕ) (reduced_runs : RunsTo m (reduced kept whole) caller input outcome steps) where
+module _ (law : EditsLead) (chains : RunsAreChains) (begins : BytesAreInstructions) (elsewhere : ElsewhereIsStuck) (layouts : HasLayout) (m : ClassMethod) (is_method : IsMethod m) (kept : Parts) (covers : Covers kept (needed m.instructions)) (whole : PlainObject) (caller : ℕ) (input : List ℕ) (outcome : Outcome) (steps : ℕ) (reduced_runs : RunsTo m (reduced kept whole) caller input outcome steps) where
   abbrev caps : Caps
   caps = caps_of m
 
@@ -183,7 +254,7 @@ module _ (chains : RunsAreChains) (begins : BytesAreInstructions) (elsewhere : E
         let creates = calls Creation m.instructions in
         let first = entry caps lay (reduced kept whole) caller input in
         let ends = (chains caps lay code (reduced kept whole) steps first outcome steps).1 (omega arith, reduced_runs lay ok) in
-        let both = runs caps lay m.instructions is_method.fit begins elsewhere kept whole creates (may_do m.instructions kept covers once) steps first (is_reduced kept creates whole) outcome steps ends in
+        let both = runs law caps lay m.instructions is_method.fit begins elsewhere kept whole creates false (may_do m.instructions kept covers once) steps first (is_reduced kept creates whole, refl) outcome steps ends in
         let same : run caps lay code whole steps (entry caps lay whole caller input) ≡ Ended (whole_outcome kept whole outcome) steps =
         ap (λ (w : PlainObject). run caps lay code whole steps (entry caps lay w caller input)) (sym (restored_reduced kept whole)) ∙ both.ended in
         let back = (chains caps lay code whole steps (entry caps lay whole caller input) (whole_outcome kept whole outcome) steps).0 same in
@@ -207,3 +278,56 @@ module _ (chains : RunsAreChains) (begins : BytesAreInstructions) (elsewhere : E
 
   pub frames : Frames m kept whole caller input outcome steps
   frames = frames_by (renews m.instructions) refl
+
+-- ---- the law of lists
+list_frames_all : (m : ClassMethod) (whole : PlainObject) (caller : ℕ) (input : List ℕ) (outcome : Outcome) (steps : ℕ) (list : List Edit) → Lists m (reduced All whole) caller input outcome steps list → all_edited list (reduced All whole) ≡ Ok outcome.object → ListFrames m All whole caller input outcome steps list
+list_frames_all m whole caller input outcome steps list lists leads = record {
+  lists = subst (λ (x : PlainObject). Lists m whole caller input (record { code = outcome.code; output = outcome.output; object = x }) steps list) (sym (restored_all whole outcome.object))
+      (subst (λ (x : PlainObject). Lists m x caller input outcome steps list) (reduced_all whole) lists);
+  leads = subst (λ (x : PlainObject). all_edited list whole ≡ Ok x) (sym (restored_all whole outcome.object))
+      (subst (λ (x : PlainObject). all_edited list x ≡ Ok outcome.object) (reduced_all whole) leads);
+}
+
+module _ (law : EditsLead) (chains : RunsAreChains) (begins : BytesAreInstructions) (elsewhere : ElsewhereIsStuck) (layouts : HasLayout) (m : ClassMethod) (is_method : IsMethod m) (kept : Parts) (covers : Covers kept (needed m.instructions)) (whole : PlainObject) (caller : ℕ) (input : List ℕ) (outcome : Outcome) (steps : ℕ) (list : List Edit) (reduced_lists : Lists m (reduced kept whole) caller input outcome steps list) (reduced_leads : all_edited list (reduced kept whole) ≡ Ok outcome.object) where
+  abbrev listed_caps : Caps
+  listed_caps = caps_of m
+
+  abbrev listed_code : List ℕ
+  listed_code = spelling m.instructions
+
+  module _ (once : renews m.instructions ≡ false) where
+    list_at : (lay : Layout) → IsLayout listed_caps lay → ListsAtExit listed_caps lay listed_code whole (listed_entry listed_caps lay whole caller input) (whole_outcome kept whole outcome) steps list × (all_edited list whole ≡ Ok (restored kept whole outcome.object))
+    list_at lay ok =
+        let creates = calls Creation m.instructions in
+        let may = may_do m.instructions kept covers once in
+        let first = listed_entry listed_caps lay (reduced kept whole) caller input in
+        let good : IsGood kept whole creates true first = (is_reduced kept creates whole, ap Ok (sym (restored_reduced kept whole))) in
+        let l = reduced_lists lay ok in
+        let ends = (chains listed_caps lay listed_code (reduced kept whole) steps first outcome steps).1 (omega arith, l.ends) in
+        let both = runs law listed_caps lay m.instructions is_method.fit begins elsewhere kept whole creates true may steps first good outcome steps ends in
+        let back = (chains listed_caps lay listed_code whole steps (lift kept whole creates true first) (whole_outcome kept whole outcome) steps).0 both.ended in
+        let b = both_list law listed_caps lay m.instructions is_method.fit begins elsewhere kept whole creates true may first outcome steps list refl good l back.1 in (
+          subst (λ (w : PlainObject). ListsAtExit listed_caps lay listed_code whole (listed_entry listed_caps lay w caller input) (whole_outcome kept whole outcome) steps list) (restored_reduced kept whole) b.lists,
+          b.leads,
+        )
+
+    list_frames_once : ListFrames m kept whole caller input outcome steps list
+    list_frames_once = record {
+      lists = λ lay ok. (list_at lay ok).0;
+      leads = (list_at (first_layout listed_caps) (layouts listed_caps (omega (arith, is_method.in_cap)) (omega (arith, is_method.out_cap)))).1;
+    }
+
+  list_frames_by : (b : Bool) → renews m.instructions ≡ b → ListFrames m kept whole caller input outcome steps list
+  list_frames_by false e = list_frames_once e
+  list_frames_by true e =
+      let all = all_kept kept
+      (covers.bytes (if_true (renews m.instructions) _ e))
+      (covers.xattrs (if_true (renews m.instructions) _ e))
+      (covers.keys (if_true (renews m.instructions) _ e)) in
+      subst (λ (k : Parts). ListFrames m k whole caller input outcome steps list) (sym all)
+      (list_frames_all m whole caller input outcome steps list
+      (subst (λ (k : Parts). Lists m (reduced k whole) caller input outcome steps list) all reduced_lists)
+      (subst (λ (k : Parts). all_edited list (reduced k whole) ≡ Ok outcome.object) all reduced_leads))
+
+  pub list_frames : ListFrames m kept whole caller input outcome steps list
+  list_frames = list_frames_by (renews m.instructions) refl

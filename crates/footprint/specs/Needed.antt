@@ -15,7 +15,8 @@ use Rattle.std.specs.Prelude.{Bool, true, false, if◌then◌else◌, List, [], 
 use Rattle.bpf_decode.specs.declared.insn.Insn.{Insn}
 use Rattle.bpf_decode.specs.declared.insn.Insn.TheVariants.{Call}
 use Rattle.helpers.specs.declared.helper.Helper.{Helper}
-use Rattle.helpers.specs.declared.helper.Helper.TheVariants.{Stat, Read, Write, Truncate, Remove, GetXattr, SetXattr, RmXattr, MapGet, MapSet, MapRm, MapNext, Create, XattrNext}
+use Rattle.helpers.specs.declared.helper.Helper.TheVariants.{Stat, Read, Write, Truncate, Remove, GetXattr, SetXattr}
+use Rattle.helpers.specs.declared.helper.Helper.TheVariants.{RmXattr, MapGet, MapSet, MapRm, MapNext, Create, XattrNext}
 use Rattle.helpers.specs.Table.{helper_of}
 use Rattle.footprint.specs.declared.parts.Parts.{Parts}
 use Rattle.footprint.specs.declared.scan.Deed.{Deed}
@@ -68,4 +69,8 @@ renews is = if calls Removal is then calls Creation is else false
 -- the parts that code needs
 abbrev pub needed : List Insn → Parts
 needed is =
-    record { bytes = if renews is then true else calls Bytes is; xattrs = if renews is then true else calls Xattrs is; keys = if renews is then true else calls Keys is }
+    record {
+      bytes = if renews is then true else calls Bytes is;
+      xattrs = if renews is then true else calls Xattrs is;
+      keys = if renews is then true else calls Keys is;
+    }

@@ -7,7 +7,11 @@ use Rattle.footprint.specs.declared.parts.Parts.{Parts}
 -- the kept parts of what an object holds; the others are empty
 abbrev pub reduced_content : Parts → Content → Content
 reduced_content kept c =
-    record { bytes = if kept.bytes then c.bytes else []; xattrs = if kept.xattrs then c.xattrs else fin.empty; omap = if kept.keys then c.omap else fin.empty }
+    record {
+      bytes = if kept.bytes then c.bytes else [];
+      xattrs = if kept.xattrs then c.xattrs else fin.empty;
+      omap = if kept.keys then c.omap else fin.empty;
+    }
 
 -- the same of an object, absent or there
 abbrev pub reduced : Parts → PlainObject → PlainObject
@@ -17,7 +21,11 @@ reduced kept (Some c) = Some (reduced_content kept c)
 -- the kept parts of one, the others of another
 abbrev pub joined : Parts → Content → Content → Content
 joined kept c rest =
-    record { bytes = if kept.bytes then c.bytes else rest.bytes; xattrs = if kept.xattrs then c.xattrs else rest.xattrs; omap = if kept.keys then c.omap else rest.omap }
+    record {
+      bytes = if kept.bytes then c.bytes else rest.bytes;
+      xattrs = if kept.xattrs then c.xattrs else rest.xattrs;
+      omap = if kept.keys then c.omap else rest.omap;
+    }
 
 -- an object with the parts that aren't kept from the whole one
 abbrev pub restored : Parts → PlainObject → PlainObject → PlainObject

@@ -1,8 +1,10 @@
 -- A flat form is read as its object, so equal flat forms are of equal objects.
 use Rattle.std.proofs.Common.{◌≡◌, ◌∙◌, ℕ, suc, ◌+◌, ◌<◌, ◌≤◌, Bool, true, false, List, [], ◌∷◌, ◌++◌, Some, None, Result, Ok, Err, is_some, refl, ap, sym, subst, arith, length, append_assoc, drop}
-use Rattle.std.specs.Prelude.{slice_get, if◌then◌else◌, nat_lt, ◌==◌, not, ◌&&◌}
+use Rattle.std.specs.Prelude.{T, slice_get, if◌then◌else◌, nat_lt, ◌==◌, not, ◌&&◌}
 use Rattle.std.specs.List.{flat_map}
 use Rattle.std.specs.FinMap as fin
+use Rattle.std.specs.FinMap.{is_sorted}
+use Rattle.std.specs.FinMap.Entries.{below_all}
 use Rattle.std.proofs.lemmas.Bool.{le-ltb, ne_eqb}
 use Rattle.std.proofs.lemmas.List.{append-nil, drop_all}
 use Rattle.byteorder.specs.Endian.{little_bytes}
@@ -18,9 +20,9 @@ use Rattle.object_bytes.specs.declared.part.Part.{Part}
 use Rattle.object_bytes.specs.declared.part.Part.TheVariants.{Xattrs, Keys}
 use Rattle.object_bytes.specs.Part.{names, IsShort}
 use Rattle.object_bytes.specs.Flat.{entry_bytes, entries_bytes, content_bytes, flat}
-use Rattle.object_bytes.specs.Reading.{stored, set_in, entries_at, part_at, data_at, content_at, object_at, bytes_at, there}
+use Rattle.object_bytes.specs.Reading.{stored, set_in, rises, entries_at, part_at, data_at, content_at, object_at, bytes_at, there}
 use Rattle.std.proofs.lemmas.Option.{none-some}
-use Rattle.object_bytes.proofs.Entries.{R, Rows, got_at}
+use Rattle.object_bytes.proofs.Entries.{R, Rows, first as before, second as after, got_at}
 use Rattle.object_bytes.proofs.Maps.{AreAmong, fewer_among, among_set, among_empty, set_fits, inserted, inserted_all}
 use Rattle.object_bytes.proofs.Fields.{entry_again, number_again_2, number_again_4, bytes_again}
 
@@ -90,7 +92,7 @@ pub with_same : (part : Part) (c : Content) → with_names part c (names part c)
 with_same Xattrs c = refl
 with_same Keys c = refl
 
-with_twice : (part : Part) (c : Content) (m n : Attributes) → with_names part (with_names part c m) n ≡ with_names part c n
+pub with_twice : (part : Part) (c : Content) (m n : Attributes) → with_names part (with_names part c m) n ≡ with_names part c n
 with_twice Xattrs c m n = refl
 with_twice Keys c m n = refl
 
@@ -101,11 +103,15 @@ names_with Keys c m = refl
 abbrev Read : Type 0
 Read = Result (Content × List ℕ) FlatError
 
-entries_again : (part : Part) (n : Attributes) (es : Rows) (m : Attributes) (c : Content) (rest : List ℕ) → fin.len n ≤ most_of part → AreOf n es → AreAmong m n
-    → entries_at part (length es) (with_names part c m) (flat_map entry_bytes es ++ rest) ≡ Ok (with_names part c (inserted m es), rest)
+true_is : (b : Bool) → T b → b ≡ true
+true_is true p = refl
+true_is false p = absurd p
+
+entries_again : (part : Part) (n : Attributes) (last : List ℕ) (es : Rows) (m : Attributes) (c : Content) (rest : List ℕ) → fin.len n ≤ most_of part → AreOf n es → AreAmong m n → T (below_all R last es) → T (is_sorted R es)
+    → entries_at part (length es) last (with_names part c m) (flat_map entry_bytes es ++ rest) ≡ Ok (with_names part c (inserted m es), rest)
 unfolding entries_at
-entries_again part n [] m c rest most h among = refl
-entries_again part n (e ∷ es) m c rest most h among =
+entries_again part n last [] m c rest most h among above sorted = refl
+entries_again part n last (e ∷ es) m c rest most h among above sorted =
     let first = h.got 0 e refl in
     let grown : AreAmong (fin.insert m e.0 e.1) n = among_set m n e.0 e.1 among (ap is_some first.0) in
     let fits : fin.len (fin.insert m e.0 e.1) ≤ most_of part = omega (arith, fewer_among (fin.insert m e.0 e.1) n grown, most) in
@@ -113,10 +119,25 @@ entries_again part n (e ∷ es) m c rest most h among =
     let fits_here : fin.len (fin.insert (names part here) e.0 e.1) ≤ most_of part = subst (λ (x : Attributes). fin.len (fin.insert x e.0 e.1) ≤ most_of part) (sym (names_with part c m)) fits in
     let set : set_in part here e ≡ Ok (with_names part c (fin.insert m e.0 e.1)) = set_again part here e first.1 fits_here ∙ ap (λ (x : Attributes). Ok (with_names part here (fin.insert x e.0 e.1))) (names_with part c m) ∙ ap (λ (x : Content). Ok x) (with_twice part c m (fin.insert m e.0 e.1)) in
     let behind = flat_map entry_bytes es ++ rest in
-    ap (λ (bytes : List ℕ). entries_at part (suc (length es)) here bytes) (append_assoc (entry_bytes e) (flat_map entry_bytes es) rest)
-    ∙ ap (λ (r : Result ((List ℕ × List ℕ) × List ℕ) FlatError). r >>= λ x. set_in part here x.0 >>= λ more. entries_at part (length es) more x.1) (entry_again e behind (entry_short e first.1))
-    ∙ ap (λ (r : Result Content FlatError). r >>= λ more. entries_at part (length es) more behind) set
-    ∙ entries_again part n es (fin.insert m e.0 e.1) c rest most (rest_of n e es h) grown
+    let behind_last : rises last e.0 ≡ true = true_is (rises last e.0) (before _ _ above) in
+    ap (λ (bytes : List ℕ). entries_at part (suc (length es)) last here bytes) (append_assoc (entry_bytes e) (flat_map entry_bytes es) rest)
+    ∙ ap (λ (r : Result ((List ℕ × List ℕ) × List ℕ) FlatError). r >>= λ x. checked (rises last x.0.0) Malformed x.0 >>= λ f. set_in part here f >>= λ more. entries_at part (length es) f.0 more x.1) (entry_again e behind (entry_short e first.1))
+    ∙ ap (λ (b : Bool). checked b Malformed e >>= λ f. set_in part here f >>= λ more. entries_at part (length es) f.0 more behind) behind_last
+    ∙ ap (λ (r : Result Content FlatError). r >>= λ more. entries_at part (length es) e.0 more behind) set
+    ∙ entries_again part n e.0 es (fin.insert m e.0 e.1) c rest most (rest_of n e es h) grown (before _ _ sorted) (after _ _ sorted)
+
+-- names of one byte or more are behind the empty one
+above_empty : (n : Attributes) (es : Rows) → AreOf n es → T (below_all R [] es)
+above_empty n [] h = tt
+above_empty n (e ∷ es) h = both_true _ _ (is_behind e.0 (h.got 0 e refl).1.name) (above_empty n es (rest_of n e es h))
+  where
+    is_behind : (name : List ℕ) → IsName name → T (rises [] name)
+    is_behind [] g = absurd (omega (arith, g.0))
+    is_behind (b ∷ bs) g = tt
+
+    both_true : (a b : Bool) → T a → T b → T (a && b)
+    both_true true b p q = q
+    both_true false b p q = absurd p
 
 most_fits : (part : Part) → most_of part < 65536
 most_fits Xattrs = omega arith
@@ -131,15 +152,15 @@ part_again part n c rest h none =
     let few : fin.len n < 65536 = omega (arith, h.number, most_fits part) in
     let start : with_names part c fin.empty ≡ c = ap (with_names part c) (sym none) ∙ with_same part c in
     ap (part_at part c) (append_assoc (little_bytes 2 (fin.len n)) lines rest)
-    ∙ ap (λ (r : Result (ℕ × List ℕ) FlatError). r >>= λ x. entries_at part x.0 c x.1) (number_again_2 (fin.len n) (lines ++ rest) few)
-    ∙ ap (λ (k : ℕ). entries_at part k c (lines ++ rest)) (fin.len-entries n)
-    ∙ ap (λ (x : Content). entries_at part (length (fin.entries n)) x (lines ++ rest)) (sym start)
-    ∙ entries_again part n (fin.entries n) fin.empty c rest h.number (all_of (most_of part) n h) (among_empty n)
+    ∙ ap (λ (r : Result (ℕ × List ℕ) FlatError). r >>= λ x. entries_at part x.0 [] c x.1) (number_again_2 (fin.len n) (lines ++ rest) few)
+    ∙ ap (λ (k : ℕ). entries_at part k [] c (lines ++ rest)) (fin.len-entries n)
+    ∙ ap (λ (x : Content). entries_at part (length (fin.entries n)) [] x (lines ++ rest)) (sym start)
+    ∙ entries_again part n [] (fin.entries n) fin.empty c rest h.number (all_of (most_of part) n h) (among_empty n) (above_empty n (fin.entries n) (all_of (most_of part) n h)) (fin.entries_sorted n)
     ∙ ap (λ (m : Attributes). Ok (with_names part c m, rest)) (inserted_all n)
 
 -- ---- data
 
-spliced_whole : (text : List ℕ) → spliced [] 0 text ≡ text
+pub spliced_whole : (text : List ℕ) → spliced [] 0 text ≡ text
 spliced_whole [] = refl
 spliced_whole (b ∷ text) =
     let whole = b ∷ text in

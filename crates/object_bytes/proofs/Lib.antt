@@ -3,9 +3,5 @@ pub mod Entries
 pub mod Maps
 pub mod Fields
 pub mod Turns
-pub mod Bytes
 pub mod Again
-pub mod DataMade
-pub mod NamesMade
-pub mod Made
-pub mod LeftOut
+pub mod Exact

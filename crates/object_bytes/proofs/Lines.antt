@@ -4,7 +4,6 @@ use Rattle.std.specs.Prelude.{slice_get}
 use Rattle.std.specs.List.{flat_map}
 use Rattle.std.proofs.lemmas.List.{append-nil, append_assoc}
 use Rattle.std.proofs.lemmas.Option.{none-some, same_Some}
-use Rattle.object_bytes.specs.Edits.{Edit, edit_bytes, spelled}
 
 module _ {A : Type 0} (f : A → List ℕ) where
   one_more : (es : List A) (n : ℕ) (e : A) → slice_get es n ≡ Some e → flat_map f (take (suc n) es) ≡ flat_map f (take n es) ++ f e
@@ -25,12 +24,3 @@ module _ {A : Type 0} (f : A → List ℕ) where
   -- past the last
   pub lines_over : (es : List A) (n : ℕ) → slice_get es n ≡ None → flat_map f (take (n + 1) es) ≡ flat_map f (take n es)
   lines_over es n at = let one : n + 1 ≡ suc n = omega arith in ap (λ k. flat_map f (take k es)) one ∙ none_more es n at
-
-append_flat : {B : Type 0} (g : B → List ℕ) (xs ys : List B) → flat_map g (xs ++ ys) ≡ flat_map g xs ++ flat_map g ys
-append_flat g [] ys = refl
-append_flat g (x ∷ xs) ys = ap (λ more. g x ++ more) (append_flat g xs ys) ∙ sym (append_assoc (g x) (flat_map g xs) (flat_map g ys))
-
--- the edits of all entries, written
-pub spelled_all : {A : Type 0} (g : A → List Edit) (es : List A) → spelled (flat_map g es) ≡ flat_map (λ e. spelled (g e)) es
-spelled_all g [] = refl
-spelled_all g (e ∷ es) = append_flat edit_bytes (g e) (flat_map g es) ∙ ap (λ more. spelled (g e) ++ more) (spelled_all g es)

@@ -14,9 +14,9 @@ use Rattle.std.specs.FinMap as fin
 use Rattle.std.specs.FinMap.{find, is_sorted, nat_cmp-IsAntisymmetric, slice_cmp-IsAntisymmetric}
 use Rattle.std.specs.FinMap.Entries.{below_all}
 use Rattle.object_store.specs.declared.store_error.StoreError.{StoreError}
-use Rattle.object_store.specs.declared.store_error.StoreError.TheVariants.{TooMany, NoAttr}
+use Rattle.object_store.specs.declared.store_error.StoreError.TheVariants.{TooMany}
 use Rattle.object_store.specs.Object.{Attributes}
-use Rattle.object_store.specs.Calls.{set_in, removed_in}
+use Rattle.object_store.specs.Calls.{set_in}
 use Rattle.object_bytes.proofs.Entries.{R, Rows, first, second, less}
 
 abbrev pub ties : List ℕ → List ℕ → Bool
@@ -80,9 +80,6 @@ set_fits most m k v h =
     let count : cond (is_some (fin.get m k)) (fin.len m) (fin.len m + 1) ≤ most = subst (λ (n : ℕ). n ≤ most) (fin.len-insert nat_list_cmp_total m k v) h in
     room (is_some (fin.get m k)) (fin.len m) most count (Ok (fin.insert m k v)) (Err TooMany)
 
-pub removal_is : (m : Attributes) (k : List ℕ) → is_some (fin.get m k) ≡ true → removed_in m k ≡ Ok (fin.remove m k)
-removal_is m k h = ap (λ (b : Bool). if b then Ok (fin.remove m k) else Err NoAttr) h
-
 -- ---- entries set one after the other
 
 abbrev pub inserted : Attributes → Rows → Attributes
@@ -97,14 +94,14 @@ or_cond : (b : Bool) (v : List ℕ) (o p : Option (List ℕ)) → (b ≡ true �
 or_cond true v o p h = ap (λ (x : Option (List ℕ)). option_or x (Some v)) (h refl)
 or_cond false v o p h = refl
 
-get_inserted : (es : Rows) (m : Attributes) (q : List ℕ) → T (is_sorted R es) → fin.get (inserted m es) q ≡ option_or (find R q es) (fin.get m q)
+pub get_inserted : (es : Rows) (m : Attributes) (q : List ℕ) → T (is_sorted R es) → fin.get (inserted m es) q ≡ option_or (find R q es) (fin.get m q)
 get_inserted [] m q h = refl
 get_inserted (e ∷ es) m q h =
     get_inserted es (fin.insert m e.0 e.1) q (second _ _ h)
     ∙ ap (option_or (find R q es)) (fin.get-insert nat_list_cmp_total m e.0 e.1 q)
     ∙ or_cond (ties q e.0) e.1 (find R q es) (fin.get m q) (λ t. ap (λ (x : List ℕ). find R x es) (tied_key q e.0 t) ∙ find_below e.0 es (first _ _ h))
 
-or_none : (o : Option (List ℕ)) → option_or o None ≡ o
+pub or_none : (o : Option (List ℕ)) → option_or o None ≡ o
 or_none None = refl
 or_none (Some x) = refl
 

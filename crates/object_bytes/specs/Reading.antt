@@ -1,6 +1,8 @@
--- Reading a flat form from left to right. What is read may have another spelling than the bytes:
--- they are compared afterwards.
-use Rattle.std.specs.Prelude.{◌≡◌, ◌⊎◌, ℕ, zero, suc, ◌==◌, nat_le, List, [], ◌∷◌, length, take, drop, Some, None, Result, Ok, Err, if◌then◌else◌}
+-- Reading a flat form from left to right. An object has one: its names rise.
+use Rattle.std.specs.Prelude.{◌≡◌, ◌⊎◌, ℕ, zero, suc, ◌==◌, nat_le, Bool, List, [], ◌∷◌, length, take, drop, Some, None}
+use Rattle.std.specs.Prelude.{Result, Ok, Err, if◌then◌else◌}
+use Rattle.std.specs.Ordering.{nat_cmp, is_lt}
+use Rattle.std.specs.Cmp.Lexicographic.{slice_cmp}
 use Rattle.byteorder.specs.Endian.{little_number}
 use Rattle.bpf_decode.specs.Reading.{◌>>=◌, checked}
 use Rattle.object_store.specs.Object.{Content, PlainObject}
@@ -47,14 +49,20 @@ abbrev pub set_in : Part → Content → List ℕ × List ℕ → Result Content
 set_in Xattrs c e = stored (set_xattr (Some c) e.0 e.1)
 set_in Keys c e = stored (set_key (Some c) e.0 e.1)
 
--- n entries more
-unfoldable pub entries_at : Part → ℕ → Content → List ℕ → Result (Content × List ℕ) FlatError
-entries_at part zero c bytes = Ok (c, bytes)
-entries_at part (suc n) c bytes = entry_at bytes >>= λ e. set_in part c e.0 >>= λ more. entries_at part n more e.1
+-- a name stands behind another, by their bytes
+abbrev pub rises : List ℕ → List ℕ → Bool
+rises last name = is_lt (slice_cmp nat_cmp last name)
 
--- entries after their count
+-- n entries more, each behind the last name
+unfoldable pub entries_at : Part → ℕ → List ℕ → Content → List ℕ → Result (Content × List ℕ) FlatError
+entries_at part zero last c bytes = Ok (c, bytes)
+entries_at part (suc n) last c bytes =
+    entry_at bytes >>= λ e. checked (rises last e.0.0) Malformed e.0 >>= λ f. set_in part c f >>=
+    λ more. entries_at part n f.0 more e.1
+
+-- entries after their count; the names are behind the empty one
 unfoldable pub part_at : Part → Content → List ℕ → Result (Content × List ℕ) FlatError
-part_at part c bytes = number_at 2 bytes >>= λ n. entries_at part n.0 c n.1
+part_at part c bytes = number_at 2 bytes >>= λ n. entries_at part n.0 [] c n.1
 
 -- data after its length
 unfoldable pub data_at : List ℕ → Result (Content × List ℕ) FlatError
@@ -81,7 +89,8 @@ there (Err e) = Err e
 unfoldable pub object_at : List ℕ → Result PlainObject FlatError
 object_at bytes = do
   b ← byte_at bytes
-  if b.0 == 0 then checked (length b.1 == 0) Malformed None else (if b.0 == 1 then there (content_at b.1) else Err Malformed)
+  if b.0 == 0 then checked (length b.1 == 0) Malformed None
+      else (if b.0 == 1 then there (content_at b.1) else Err Malformed)
 
 -- What a function returned, seen by view, is what reading gives, unless memory ran out.
 abbrev pub Gives : {X Y : Type 0} → (X → Y) → Result X FlatError → Result Y FlatError → Type 0

@@ -1,9 +1,7 @@
 //! Objects as bytes, for a host that keeps them itself: an object as its flat form, which is its
-//! one spelling, and the edits that make one object into another. `read_object` and `flat_form`
-//! read and write the one, `edits_of` writes the other.
+//! one spelling. `read_object` reads it, and `flat_form` writes it.
 #![tactic(auto)]
 
-mod edits;
 mod flat;
 mod laws;
 mod object;
@@ -11,7 +9,6 @@ mod part;
 mod reading;
 mod spelling;
 
-pub use edits::edits_of;
 pub use flat::FlatError;
 pub use laws::one_object;
 pub use object::read_object;

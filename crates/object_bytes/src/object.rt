@@ -1,15 +1,22 @@
 //! An object from its flat form.
 
 ghost use Rattle.std.specs.Prelude.{◌≡◌, Err, IfOk, IsTrue};
-ghost use Rattle.object_store.specs.Object.{PlainObject, IsObject};
+ghost use Rattle.object_store.specs.Object.{PlainObject, AreBytes, IsObject};
 ghost use Rattle.std.specs.Option.{option_copied};
 ghost use Rattle.object_bytes.specs.Flat.{Spells};
 
 use crate::flat::FlatError;
 use crate::reading::object_at;
-use crate::spelling::flat_form;
 use object_store::Object;
 use std::alloc::Global;
+
+/// Bytes are below 256. It does nothing.
+fn are_bytes(bytes: &[u8])
+    ensures { AreBytes bytes.now }
+{
+    // For the proof: each item of a slice of `u8` is below 256.
+    let _len = bytes.len();
+}
 
 /// An object is within its limits. It does nothing.
 pub(crate) fn is_object(object: Option<&Object>)
@@ -27,13 +34,9 @@ pub fn read_object(alloc: Global, bytes: &[u8]) -> Result<Option<Object>, FlatEr
     ensures found { IfOk result (Spells bytes.now) }
     ensures malformed { result ≡ Err FlatError.Malformed → (object : PlainObject) → Spells bytes.now object → ⊥ }
 {
+    // For the proof: bytes are bytes, and the object read is within its limits.
+    are_bytes(bytes);
     let object = object_at(alloc, bytes)?;
-    // For the proof: the object read is within its limits.
     is_object(object.as_ref());
-    // The object read is spelled again: an object has one flat form, and no other is taken.
-    let spelled = flat_form(alloc, object.as_ref())?;
-    if spelled.as_slice() != bytes {
-        return Err(FlatError::Malformed);
-    }
     Ok(object)
 }

@@ -1,7 +1,6 @@
 //! The two parts of an object that have names: its xattrs, and its keys.
 
 ghost use Rattle.std.specs.Prelude.{◌≡◌, ◌<◌, IfSome, length};
-ghost use Rattle.std.specs.Option.{option_copied};
 ghost use Rattle.std.specs.FinMap as fin;
 ghost use Rattle.shared_map.specs.Entries.{nth, entry_behind};
 ghost use Rattle.object_bytes.specs.Part.{names, IsShort};
@@ -36,15 +35,5 @@ pub(crate) fn entry_of<'a>(part: Part, object: &'a Object, n: usize) -> Option<(
     match part {
         Part::Xattrs => object.xattr_at(n),
         Part::Keys => object.key_at(n),
-    }
-}
-
-/// The value of a name.
-pub(crate) fn value_of<'a>(part: Part, object: &'a Object, name: &[u8]) -> Option<&'a [u8]>
-    ensures { option_copied result ≡ fin.get (names part object.now) name.now }
-{
-    match part {
-        Part::Xattrs => object.xattr(name),
-        Part::Keys => object.key(name),
     }
 }

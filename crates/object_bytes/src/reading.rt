@@ -1,10 +1,12 @@
-//! Reading a flat form: each field is cut from the front, and set in the object by its own calls.
+//! Reading a flat form: each field is cut from the front, and set in the object by its own calls. So
+//! the bytes are read once, and copied once.
 
-ghost use Rattle.std.specs.Prelude.{◌≡◌, Result};
+ghost use Rattle.std.specs.Prelude.{◌≡◌, [], Result};
 ghost use Rattle.bpf_decode.specs.Reading.{Reads};
 ghost use Rattle.object_store.specs.Object.{Content};
 ghost use Rattle.object_store.specs.Returned as store;
-ghost use Rattle.object_bytes.specs.Reading.{byte_at, number_at, bytes_at, entry_at, stored, set_in, entries_at, part_at, data_at, content_at, object_at, Gives};
+ghost use Rattle.object_bytes.specs.Reading.{byte_at, number_at, bytes_at, entry_at, stored, set_in, rises, entries_at};
+ghost use Rattle.object_bytes.specs.Reading.{part_at, data_at, content_at, object_at, Gives};
 
 use crate::flat::FlatError;
 use crate::part::Part;
@@ -68,7 +70,8 @@ fn entry_at(bytes: &[u8]) -> Result<(Entry, &[u8]), FlatError>
 
 /// The result of a call on an object, as it is answered here.
 fn stored(made: Result<Object, StoreError>) -> Result<Object, FlatError>
-    ensures { (answer : Result Content StoreError) → store.Gives (λ o. o) made answer → Gives (λ o. o) result (stored answer) }
+    ensures { (answer : Result Content StoreError) → store.Gives (λ o. o) made answer →
+        Gives (λ o. o) result (stored answer) }
 {
     match made {
         Ok(object) => Ok(object),
@@ -88,7 +91,14 @@ fn set_in(alloc: Global, part: Part, object: &Object, entry: Entry) -> Result<Ob
     }
 }
 
-/// An object with that many entries more, and the bytes after them.
+/// True if a name stands behind another, by their bytes.
+fn rises(last: &[u8], name: &[u8]) -> bool
+    ensures { result ≡ rises last.now name.now }
+{
+    last.cmp(name).is_lt()
+}
+
+/// An object with that many entries more, whose names rise, and the bytes after them.
 fn entries_at<'a>(
     alloc: Global,
     part: Part,
@@ -96,14 +106,20 @@ fn entries_at<'a>(
     object: Object,
     bytes: &'a [u8],
 ) -> Result<(Object, &'a [u8]), FlatError>
-    ensures { Gives (λ x. (x.0, x.1.now)) result (entries_at part count object bytes.now) }
+    ensures { Gives (λ x. (x.0, x.1.now)) result (entries_at part count [] object bytes.now) }
 {
     let mut object = object;
     let mut rest = bytes;
+    let mut last: &[u8] = &[];
     let mut left = count;
     while left > 0 {
         let (entry, behind) = entry_at(rest)?;
+        // In another order, or twice, the names would give an object a second flat form.
+        if !rises(last, entry.name) {
+            return Err(FlatError::Malformed);
+        }
         object = set_in(alloc, part, &object, entry)?;
+        last = entry.name;
         rest = behind;
         left -= 1;
     }
@@ -146,7 +162,7 @@ fn content_at(alloc: Global, bytes: &[u8]) -> Result<Object, FlatError>
     Ok(object)
 }
 
-/// The object that bytes are read as; they may be another's spelling, or none.
+/// The object of bytes that are its flat form.
 #[tactic(auto, unfolding(crate::specs::Reading::object_at))]
 pub(crate) fn object_at(alloc: Global, bytes: &[u8]) -> Result<Option<Object>, FlatError>
     ensures { Gives (λ o. o) result (object_at bytes.now) }

@@ -22,10 +22,10 @@ use denote.Triple.Carry.{grown, spared}
 use denote.Triple.Clauses.{Ended, lasts}
 use denote.Triple.Spec.{Back, triple_of}
 use denote.Triple.Table.{run_framed, widened}
-use Rattle.verifier.specs.contracts.verified.VerifiedClass as Class
-use Rattle.verifier.specs.contracts.verified.VerifiedClass.drop as its_drop
-use Rattle.verifier.proofs.verified.VerifiedClass.drop.Met.{met}
-use Rattle.verifier.proofs.verified.VerifiedClass.drop.Symbol.{code, as_method, symbol, name}
+use Rattle.class_calls.specs.contracts.handle.ClassHandle as Class
+use Rattle.class_calls.specs.contracts.handle.ClassHandle.drop as its_drop
+use Rattle.class_calls.proofs.handle.ClassHandle.drop.Met.{met}
+use Rattle.class_calls.proofs.handle.ClassHandle.drop.Symbol.{code, as_method, symbol, name}
 
 abbrev pub drops : Dict
 drops = impl (symbol ∷ []) tnil dnil

@@ -1,22 +1,25 @@
 -- What C is told: each answer with its condition, what is written then, and what stays as it was.
-use Rattle.std.specs.Prelude.{◌≡◌, ◌⊎◌, Bool, true, false, ℕ, ℤ, pos, negsuc, ◌≤◌, ◌<◌, ◌++◌, List, Option, Some, None, Err, if◌then◌else◌, nat_lt, length, take}
+use Rattle.std.specs.Prelude.{◌≡◌, ◌⊎◌, Bool, true, false, ℕ, ℤ, pos, negsuc, ◌≤◌, ◌<◌, ◌++◌, List, Option, Some, None}
+use Rattle.std.specs.Prelude.{Result, Ok, Err, if◌then◌else◌, nat_lt, length, take, slice_get}
 use Rattle.std.specs.Borrow.{Bor}
 use Rattle.bpf_decode.specs.Class.{ClassMethod, Class, IsImage}
 use Rattle.bpf_decode.specs.ImageReading.{image_of}
 use Rattle.bpf_decode.specs.Refusal.{number_of, slot_of, image_text_of}
 use Rattle.bpf_decode.specs.declared.image_error.ImageError.{ImageError}
 use Rattle.verifier.specs.Verified.{method_named}
-use Rattle.interp.specs.Plain.{InputPasses}
 use Rattle.verifier.specs.RuleNumber.{rule_number, refusal_text}
 use Rattle.verifier.specs.declared.refusal.Refusal.{Refusal}
 use Rattle.object_store.specs.Edits.{overlaid}
-use Rattle.class_calls.specs.Answers.{IsLoaded, RefusesClass, IsAnsweredBy, GetsNoObject}
+use Rattle.class_calls.specs.Answers.{IsLoaded, RefusesClass, IsAnsweredBy, RefusesMethod}
 use Rattle.class_calls.specs.Needs.{AreEnough}
 use Rattle.class_calls.specs.declared.answer.Answer.{Answer}
+use Rattle.class_calls.specs.declared.answer.MethodError.{MethodError}
+use Rattle.class_calls.specs.declared.answer.MethodError.TheVariants as method
 use Rattle.footprint.specs.Parts as footprint
 use Rattle.footprint.specs.Needed.{needed}
 use Rattle.sillarnica.specs.declared.told.ToldRefusal.{ToldRefusal}
 use Rattle.sillarnica.specs.declared.told.ToldAnswer.{ToldAnswer}
+use Rattle.sillarnica.specs.declared.told.ToldMethod.{ToldMethod}
 
 -- a slot as C sees it, -1 if there is none (or one that no method has room for)
 abbrev pub slot_number : Option ℕ → ℤ
@@ -85,7 +88,8 @@ ExplainsClass image old new result =
 
 -- 0 and nothing for an accepted class, else its line
 abbrev pub TellsExplain : List ℕ → List ℕ → List ℕ → ℤ → Type 0
-TellsExplain image old new result = ((result ≡ pos 0) × IsAccepted image × (new ≡ old)) ⊎ ExplainsClass image old new result
+TellsExplain image old new result =
+    ((result ≡ pos 0) × IsAccepted image × (new ≡ old)) ⊎ ExplainsClass image old new result
 
 -- ---- what a method declares
 pub record Declared : Type 0 where
@@ -123,6 +127,41 @@ TellsMethod image name old new result =
     ⊎ (((result ≡ negsuc 94) × SpellsNoMethod image name × (new ≡ old))
     ⊎ ((result ≡ negsuc 11) × (new ≡ old))))
 
+-- ---- a method by its number, from 0 on: what it declares, its name, and the parts that it needs
+
+-- what is behind the two pointers
+pub record NamedMethod : Type 0 where
+  pub method : ToldMethod
+  pub name : List ℕ
+
+-- the numbers are the method's, and of its name as many bytes are written as fit
+pub record TellsOf (m : ClassMethod) (old new : NamedMethod) : Type 0 where
+  pub flags : new.method.flags ≡ m.flags
+  pub in_cap : new.method.in_cap ≡ m.in_cap
+  pub out_cap : new.method.out_cap ≡ m.out_cap
+  pub needs : new.method.needs ≡ footprint.number_of (needed m.instructions)
+  pub name_len : new.method.name_len ≡ length m.name
+  pub name : new.name ≡ overlaid (take (length old.name) m.name) old.name
+
+-- 0 and the method; -95 past the last, and nothing is written
+abbrev pub TellsMethodOf : List ClassMethod → ℕ → NamedMethod → NamedMethod → ℤ → Type 0
+TellsMethodOf class n old new result =
+    ((result ≡ pos 0) × (m : ClassMethod) × (slice_get class n ≡ Some m) × TellsOf m old new)
+    ⊎ ((result ≡ negsuc 94) × (slice_get class n ≡ None) × (new ≡ old))
+
+-- of an image's class
+pub record TellsMethodOfImage (image : List ℕ) (n : ℕ) (old new : NamedMethod) (result : ℤ) : Type 0 where
+  pub written : Class
+  pub spelled : IsImage image written
+  pub told : TellsMethodOf written.methods n old new result
+
+-- the same, or 1 for such an image, -12 for want of memory, and nothing is written
+abbrev pub TellsMethodAt : List ℕ → ℕ → NamedMethod → NamedMethod → ℤ → Type 0
+TellsMethodAt image n old new result =
+    TellsMethodOfImage image n old new result
+    ⊎ (((result ≡ pos 1) × SpellsNoClass image × (new ≡ old))
+    ⊎ ((result ≡ negsuc 11) × (new ≡ old)))
+
 -- what the code finds
 abbrev pub given : Option (Bor ClassMethod) → Option ClassMethod
 given None = None
@@ -135,7 +174,7 @@ pub record Needs (image name : List ℕ) (result : ℤ) : Type 0 where
   pub method : ClassMethod
   pub named : method_named written.methods name ≡ Some method
   pub number : result ≡ pos (footprint.number_of (needed method.instructions))
-  pub enough : AreEnough image name (needed method.instructions)
+  pub enough : AreEnough written.methods name (needed method.instructions)
 
 -- or -95 without such a method or class, -12 for want of memory
 abbrev pub TellsNeeds : List ℕ → List ℕ → ℤ → Type 0
@@ -167,39 +206,49 @@ abbrev pub HasRoom : Answer → List ℕ → List ℕ → Bool → Type 0
 HasRoom answer old new true = (length (written answer) ≤ length old) × (new ≡ overlaid (written answer) old)
 HasRoom answer old new false = (length old < length (written answer)) × (new ≡ old)
 
--- 0: the answer, and the buffer begins with what it has to say
-pub record IsCalled (class : List ClassMethod) (name object : List ℕ) (caller : ℕ) (input : List ℕ) (old new : Memory) : Type 0 where
+-- 0 if the buffer has room, else -34
+abbrev pub Tells : Answer → List ℕ → List ℕ → ℤ → Type 0
+Tells answer old new result =
+    ((result ≡ pos 0) × HasRoom answer old new true) ⊎ ((result ≡ negsuc 33) × HasRoom answer old new false)
+
+-- the class answers, and the buffer begins with what it has to say if it has room
+pub record IsCalled (class : List ClassMethod) (name object : List ℕ) (caller : ℕ) (input : List ℕ) (old new : Memory)
+    (result : ℤ) : Type 0 where
   pub answer : Answer
   pub answered : IsAnsweredBy class name object caller input answer
   pub told : TellsAnswer answer new.answer
-  pub room : length (written answer) ≤ length old.out
-  pub out : new.out ≡ overlaid (written answer) old.out
+  pub out : Tells answer old.out new.out result
 
--- -34: the answer, which the buffer has no room for
-pub record HasNoRoom (class : List ClassMethod) (name object : List ℕ) (caller : ℕ) (input : List ℕ) (old new : Memory) : Type 0 where
-  pub answer : Answer
-  pub answered : IsAnsweredBy class name object caller input answer
-  pub told : TellsAnswer answer new.answer
-  pub small : length old.out < length (written answer)
-  pub out : new.out ≡ old.out
+-- the number of a refusal: -95, -7, -22 or -12
+abbrev pub refusal_number : MethodError → ℤ
+refusal_number method.NoMethod = negsuc 94
+refusal_number method.InputTooLong = negsuc 6
+refusal_number method.Malformed = negsuc 21
+refusal_number method.NoMemory = negsuc 11
 
--- why the class gives no answer: -95, -7, -22 or -12
-abbrev pub TellsNoAnswer : List ClassMethod → List ℕ → List ℕ → List ℕ → ℤ → Type 0
-TellsNoAnswer class name object input result =
-    ((result ≡ negsuc 94) × (method_named class name ≡ None))
-    ⊎ (((result ≡ negsuc 6) × InputPasses class name input)
-    ⊎ (((result ≡ negsuc 21) × GetsNoObject class name object input)
-    ⊎ (result ≡ negsuc 11)))
+-- what a call answered is told: 0 and the answer, and the buffer begins with what it has to say;
+-- -34 and the answer, which the buffer has no room for; or the number of the refusal, and nothing
+-- is written
+abbrev pub TellsFound : Result Answer MethodError → Memory → Memory → ℤ → Type 0
+TellsFound (Ok answer) old new result = TellsAnswer answer new.answer × Tells answer old.out new.out result
+TellsFound (Err e) old new result = (result ≡ refusal_number e) × (new ≡ old)
+
+-- why the class gives no answer
+pub record TellsNoAnswer (class : List ClassMethod) (name object : List ℕ) (caller : ℕ) (input : List ℕ)
+    (result : ℤ) : Type 0 where
+  pub error : MethodError
+  pub number : result ≡ refusal_number error
+  pub refused : RefusesMethod class name object caller input error
 
 -- 0, -34, or such an answer, and then nothing is written
 abbrev pub TellsClassCall : List ClassMethod → List ℕ → List ℕ → ℕ → List ℕ → Memory → Memory → ℤ → Type 0
 TellsClassCall class name object caller input old new result =
-    ((result ≡ pos 0) × IsCalled class name object caller input old new)
-    ⊎ (((result ≡ negsuc 33) × HasNoRoom class name object caller input old new)
-    ⊎ (TellsNoAnswer class name object input result × (new ≡ old)))
+    IsCalled class name object caller input old new result
+    ⊎ (TellsNoAnswer class name object caller input result × (new ≡ old))
 
 -- ---- a call of an image's class, which is safe
-pub record CallsClass (image name object : List ℕ) (caller : ℕ) (input : List ℕ) (old new : Memory) (result : ℤ) : Type 0 where
+pub record CallsClass (image name object : List ℕ) (caller : ℕ) (input : List ℕ) (old new : Memory)
+    (result : ℤ) : Type 0 where
   pub class : List ClassMethod
   pub loaded : IsLoaded image class
   pub told : TellsClassCall class name object caller input old new result
@@ -220,4 +269,30 @@ TellsOpen image old new (Some class) result = (result ≡ pos 0) × IsLoaded ima
 -- as the class answers; -9 if the handle is closed, and nothing is written
 abbrev pub TellsHeldCall : Option (List ClassMethod) → List ℕ → List ℕ → ℕ → List ℕ → Memory → Memory → ℤ → Type 0
 TellsHeldCall None name object caller input old new result = (result ≡ negsuc 8) × (new ≡ old)
-TellsHeldCall (Some class) name object caller input old new result = TellsClassCall class name object caller input old new result
+TellsHeldCall (Some class) name object caller input old new result =
+    TellsClassCall class name object caller input old new result
+
+-- another handle of the class: 0 and it holds the same; -9 if the handle is closed, or -12, and the
+-- other is closed
+abbrev pub TellsCopy : Option (List ClassMethod) → Option (List ClassMethod) → ℤ → Type 0
+TellsCopy None other result = (result ≡ negsuc 8) × (other ≡ None)
+TellsCopy (Some class) other result =
+    ((result ≡ pos 0) × (other ≡ Some class)) ⊎ ((result ≡ negsuc 11) × (other ≡ None))
+
+-- a method by its number, as of its class; -9 if the handle is closed, and nothing is written
+abbrev pub TellsHeldMethod : Option (List ClassMethod) → ℕ → NamedMethod → NamedMethod → ℤ → Type 0
+TellsHeldMethod None n old new result = (result ≡ negsuc 8) × (new ≡ old)
+TellsHeldMethod (Some class) n old new result = TellsMethodOf class n old new result
+
+-- the parts that a method of the class needs are enough
+pub record HeldNeeds (class : List ClassMethod) (name : List ℕ) (result : ℤ) : Type 0 where
+  pub method : ClassMethod
+  pub named : method_named class name ≡ Some method
+  pub number : result ≡ pos (footprint.number_of (needed method.instructions))
+  pub enough : AreEnough class name (needed method.instructions)
+
+-- or -95 without such a method; -9 if the handle is closed
+abbrev pub TellsHeldNeeds : Option (List ClassMethod) → List ℕ → ℤ → Type 0
+TellsHeldNeeds None name result = result ≡ negsuc 8
+TellsHeldNeeds (Some class) name result =
+    HeldNeeds class name result ⊎ ((result ≡ negsuc 94) × (method_named class name ≡ None))

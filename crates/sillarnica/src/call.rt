@@ -1,15 +1,15 @@
 //! A call.
 
-ghost use Rattle.class_calls.specs.Answers.{RefusesMethod};
-ghost use Rattle.sillarnica.specs.Told.{HasRoom, TellsNoAnswer, TellsClassCall, TellsCall};
+ghost use Rattle.std.specs.Prelude.{◌≡◌};
+ghost use Rattle.sillarnica.specs.Told.{HasRoom, refusal_number, TellsFound, TellsCall};
 
 use crate::told::{
     INPUT_TOO_LONG, MALFORMED, NO_MEMORY, NO_METHOD, NO_ROOM, ToldAnswer, ToldRefusal, tell_answer,
     tell_class,
 };
-use class_calls::{Answer, MethodError, call_on, load};
+use class_calls::{Answer, MethodError, Request, call_on, load};
+use interp::Room;
 use std::alloc::Global;
-use verifier::VerifiedClass;
 
 /// Writes the output and then the edits, if there is room for both. If there isn't, nothing is
 /// written.
@@ -33,15 +33,8 @@ fn write_out(answer: &Answer, out: &mut [u8]) -> bool
 }
 
 /// The number of a refusal.
-fn number(
-    class: &VerifiedClass,
-    name: &[u8],
-    object: &[u8],
-    input: &[u8],
-    error: MethodError,
-) -> i32
-    requires { RefusesMethod class.now name.now object.now input.now error }
-    ensures { TellsNoAnswer class.now name.now object.now input.now result }
+fn number(error: MethodError) -> i32
+    ensures { result ≡ refusal_number error }
 {
     match error {
         MethodError::NoMethod => NO_METHOD,
@@ -51,25 +44,21 @@ fn number(
     }
 }
 
-/// Calls a method of a verified class on an object in its flat form.
-pub(crate) fn call_class(
-    alloc: Global,
-    class: &VerifiedClass,
-    name: &[u8],
-    object: &[u8],
-    caller: u32,
-    input: &[u8],
+/// Says what a call answered.
+pub(crate) fn tell(
+    found: Result<Answer, MethodError>,
     answer: &mut ToldAnswer,
     out: &mut [u8],
 ) -> i32
-    ensures { TellsClassCall class.now name.now object.now caller input.now (record { answer = answer.old; out = out.old }) (record { answer = answer.new; out = out.new }) result }
+    ensures { TellsFound found (record { answer = answer.old; out = out.old })
+        (record { answer = answer.new; out = out.new }) result }
 {
-    match call_on(alloc, class, name, object, caller, input) {
+    match found {
         Ok(found) => {
             tell_answer(answer, &found);
             if write_out(&found, out) { 0 } else { NO_ROOM }
         }
-        Err(error) => number(class, name, object, input, error),
+        Err(error) => number(error),
     }
 }
 
@@ -77,18 +66,21 @@ pub(crate) fn call_class(
 pub(crate) fn call(
     alloc: Global,
     image: &[u8],
-    name: &[u8],
-    object: &[u8],
-    caller: u32,
-    input: &[u8],
+    request: Request,
     refusal: &mut ToldRefusal,
     answer: &mut ToldAnswer,
     out: &mut [u8],
 ) -> i32
-    ensures { TellsCall image.now name.now object.now caller input.now refusal.old refusal.new (record { answer = answer.old; out = out.old }) (record { answer = answer.new; out = out.new }) result }
+    ensures { TellsCall image.now request.entry.method.now request.entry.object.now request.entry.caller
+        request.entry.input.now refusal.old refusal.new (record { answer = answer.old; out = out.old })
+        (record { answer = answer.new; out = out.new }) result }
 {
     match load(alloc, image) {
-        Ok(class) => call_class(alloc, &class, name, object, caller, input, answer, out),
+        Ok(class) => tell(
+            call_on(alloc, &mut Room::new(alloc), &class, request),
+            answer,
+            out,
+        ),
         Err(error) => tell_class(image, refusal, error),
     }
 }

@@ -1,12 +1,15 @@
 //! The declaration of a method, and the parts of an object that it needs.
 
-ghost use Rattle.std.specs.Prelude.{◌≡◌};
+ghost use Rattle.std.specs.Prelude.{◌≡◌, ◌⊎◌, negsuc, None};
+ghost use Rattle.bpf_decode.specs.Class.{ClassMethod};
 ghost use Rattle.verifier.specs.Verified.{method_named};
-ghost use Rattle.sillarnica.specs.Told.{TellsMethod, TellsNeeds, given};
+ghost use Rattle.class_calls.specs.Handle.{declared_of};
+ghost use Rattle.sillarnica.specs.Told.{TellsMethod, TellsMethodAt, TellsNeeds, TellsOf, given, HeldNeeds};
 
-use crate::told::{IMAGE, NO_MEMORY, NO_METHOD};
+use crate::told::{IMAGE, NO_MEMORY, NO_METHOD, ToldMethod};
+use crate::verify::write_front;
 use bpf_decode::{ClassImage, DecodeError, Method, read_image};
-use class_calls::parts_may_be_left_out;
+use class_calls::{ClassHandle, Declared, parts_may_be_left_out};
 use footprint::needed;
 use std::alloc::Global;
 
@@ -31,7 +34,8 @@ pub(crate) fn declared(
     in_cap: &mut u32,
     out_cap: &mut u32,
 ) -> i32
-    ensures { TellsMethod image.now name.now (record { flags = flags.old; in_cap = in_cap.old; out_cap = out_cap.old }) (record { flags = flags.new; in_cap = in_cap.new; out_cap = out_cap.new }) result }
+    ensures { TellsMethod image.now name.now (record { flags = flags.old; in_cap = in_cap.old; out_cap = out_cap.old })
+        (record { flags = flags.new; in_cap = in_cap.new; out_cap = out_cap.new }) result }
 {
     let class = match read_image(alloc, image) {
         Ok(class) => class,
@@ -69,6 +73,68 @@ pub(crate) fn needs(alloc: Global, image: &[u8], name: &[u8]) -> i32
     };
     match find(&class, name) {
         Some(method) => i32::from(needed(method.instructions()).number()),
+        None => NO_METHOD,
+    }
+}
+
+/// Says what a method declares and needs, and as many bytes of its name as fit.
+pub(crate) fn tell_method(found: &[u8], declared: Declared, told: &mut ToldMethod, name: &mut [u8])
+    ensures { (m : ClassMethod) → found.now ≡ m.name → declared ≡ declared_of m →
+        TellsOf m (record { method = told.old; name = name.old }) (record { method = told.new; name = name.new }) }
+{
+    told.flags = u32::from(declared.flags);
+    told.in_cap = u32::from(declared.in_cap);
+    told.out_cap = u32::from(declared.out_cap);
+    told.needs = u32::from(declared.parts.number());
+    told.name_len = found.len() as u64;
+    write_front(found, name);
+}
+
+/// Says what the method of a number declares and needs, and its name. No verdict is asked for.
+pub(crate) fn method_at(
+    alloc: Global,
+    image: &[u8],
+    n: usize,
+    told: &mut ToldMethod,
+    name: &mut [u8],
+) -> i32
+    ensures { TellsMethodAt image.now n (record { method = told.old; name = name.old })
+        (record { method = told.new; name = name.new }) result }
+{
+    let class = match read_image(alloc, image) {
+        Ok(class) => class,
+        Err(error) => {
+            return match error.error {
+                DecodeError::NoMemory => NO_MEMORY,
+                _ => IMAGE,
+            };
+        }
+    };
+    let Some(method) = class.methods().get(n) else {
+        return NO_METHOD;
+    };
+    let declared = Declared {
+        flags: method.flags(),
+        in_cap: method.in_cap(),
+        out_cap: method.out_cap(),
+        parts: needed(method.instructions()),
+    };
+    tell_method(method.name().as_bytes(), declared, told, name);
+    0
+}
+
+/// The parts of an object that a method of a class needs: 1 data, 2 xattrs, 4 keys, added. Refused:
+/// no such method, -95.
+pub(crate) fn needs_of(class: &ClassHandle, name: &[u8]) -> i32
+    ensures { HeldNeeds class.now name.now result ⊎ ((result ≡ negsuc 94) × (method_named class.now name.now ≡ None)) }
+{
+    // For the proof: without the other parts a call answers the same.
+    parts_may_be_left_out();
+    let Some(n) = class.place_of(name) else {
+        return NO_METHOD;
+    };
+    match class.method_at(n) {
+        Some((_, declared)) => i32::from(declared.parts.number()),
         None => NO_METHOD,
     }
 }

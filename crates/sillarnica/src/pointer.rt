@@ -5,13 +5,13 @@ ghost use Rattle.bpf_decode.specs.Class.{ClassMethod};
 ghost use Rattle.sillarnica.specs.Held.{IsHeld};
 ghost use Rattle.sillarnica.specs.inner.Owned.{pointer_owns, coded_class};
 
+use class_calls::ClassHandle;
 use std::alloc::Global;
 use std::marker::Model;
-use verifier::VerifiedClass;
 
 /// The pointer to a class on the heap, which it owns; or null.
 ///
-/// C sees a `void *`: a `VerifiedClass` is no type of C's. A `Global` takes no bytes.
+/// C sees a `void *`: a `ClassHandle` is no type of C's. A `Global` takes no bytes.
 #[repr(C)]
 #[derive(Drop)]
 pub struct ClassPointer {
@@ -39,7 +39,7 @@ impl ClassPointer {
     }
 
     /// The pointer of a box, which is taken apart.
-    pub(crate) fn of(whole: Box<VerifiedClass, Global>) -> ClassPointer
+    pub(crate) fn of(whole: Box<ClassHandle, Global>) -> ClassPointer
         ensures { result.class ≡ Some whole.value }
     {
         let (ptr, alloc) = Box::into_raw_with_allocator(whole);
@@ -50,11 +50,11 @@ impl ClassPointer {
     }
 
     /// The box again, of the class that is held.
-    pub(crate) fn into_box(self) -> Box<VerifiedClass, Global>
+    pub(crate) fn into_box(self) -> Box<ClassHandle, Global>
         requires { IsHeld self.class }
         ensures { self.class ≡ Some result.value }
     {
         let ClassPointer { at, alloc } = self;
-        unsafe { Box::from_raw(alloc, at.cast::<VerifiedClass>()) }
+        unsafe { Box::from_raw(alloc, at.cast::<ClassHandle>()) }
     }
 }

@@ -32,6 +32,18 @@ pub struct ToldAnswer {
     pub edits_len: u64,
 }
 
+/// A method: what it declares, the parts of an object that it needs (1 data, 2 xattrs, 4 keys,
+/// added), and how many bytes its name has.
+#[repr(C)]
+#[derive(Drop)]
+pub struct ToldMethod {
+    pub flags: u32,
+    pub in_cap: u32,
+    pub out_cap: u32,
+    pub needs: u32,
+    pub name_len: u64,
+}
+
 /// The image is refused.
 pub(crate) const IMAGE: i32 = 1;
 
@@ -47,7 +59,7 @@ pub(crate) const NO_METHOD: i32 = -95;
 /// The input is longer than the method takes.
 pub(crate) const INPUT_TOO_LONG: i32 = -7;
 
-/// The bytes spell no object.
+/// The bytes spell no object, or the client has no number of 32 bits.
 pub(crate) const MALFORMED: i32 = -22;
 
 /// The buffer is too small.

@@ -1,6 +1,7 @@
 //! The verdict, and its line.
 
-ghost use Rattle.std.specs.Prelude.{◌<◌, ◌^◌, length};
+ghost use Rattle.std.specs.Prelude.{◌≡◌, ◌<◌, ◌^◌, length, take};
+ghost use Rattle.object_store.specs.Edits.{overlaid};
 ghost use Rattle.bpf_decode.specs.Refusal.{image_text_of};
 ghost use Rattle.verifier.specs.RuleNumber.{refusal_text};
 ghost use Rattle.class_calls.specs.Answers.{RefusesImage};
@@ -21,10 +22,9 @@ pub(crate) fn verify(alloc: Global, image: &[u8], why: &mut ToldRefusal) -> i32
     }
 }
 
-/// Copies the bytes of the line that fit, and returns its whole length.
-fn write_line(line: &[u8], text: &mut [u8]) -> i64
-    requires { length line.now < 2 ^ 63 }
-    ensures { Writes line.now text.old text.new result }
+/// Copies as many bytes of the line as fit.
+pub(crate) fn write_front(line: &[u8], text: &mut [u8])
+    ensures { text.new ≡ overlaid (take (length text.old) line.now) text.old }
 {
     let fits = if line.len() < text.len() {
         line.len()
@@ -34,6 +34,14 @@ fn write_line(line: &[u8], text: &mut [u8]) -> i64
     let (front, _) = line.split_at(fits);
     let (begin, _) = text.split_at_mut(fits);
     begin.copy_from_slice(front);
+}
+
+/// Copies the bytes of the line that fit, and returns its whole length.
+fn write_line(line: &[u8], text: &mut [u8]) -> i64
+    requires { length line.now < 2 ^ 63 }
+    ensures { Writes line.now text.old text.new result }
+{
+    write_front(line, text);
     line.len() as i64
 }
 

@@ -9,7 +9,7 @@ use Rattle.std.specs.Global.{Global}
 use Rattle.std.specs.Box.Ownership.{box_owns}
 use Rattle.std.specs.contracts.impls.GlobalAllocator.TheImpl.{ghosts}
 use Rattle.bpf_decode.specs.Class.{ClassMethod}
-use Rattle.verifier.specs.contracts.verified.VerifiedClass.{the_row}
+use Rattle.class_calls.specs.contracts.handle.ClassHandle.{the_row}
 
 abbrev pub pointer_owns : Global → Ptr → Option (List ClassMethod) → Fml
 pointer_owns alloc p None = ftrue
