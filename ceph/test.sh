@@ -33,7 +33,7 @@ natives=(helpers count lock.2 third) odd=(cut none bpf.old link)
 export CEPH_CONF=$cluster/ceph.conf RADOSBPF=/usr/bin/radosbpf PYTHONDONTWRITEBYTECODE=1
 unset CLASSES LISTED STORE EXTRA
 bad=0
-packages=(g++ binutils python3 python3-rados man-db bash-completion ceph-base ceph-common ceph-mgr ceph-mon ceph-osd
+packages=(g++ gcc binutils python3 python3-rados man-db bash-completion ceph-base ceph-common ceph-mgr ceph-mon ceph-osd
     librados2 librados-dev libradospp-dev rados-objclass-dev)
 
 # Runs all of it in a folder with another release of Ceph.
@@ -214,6 +214,7 @@ try_stand_in() {
         "$here/tests/stand_in.sh" "$here/plugin" "$to" "$work/images" $sanitizers > "$work/log" 2>&1 ||
             stop_at "the stand-in can't be built"
     done
+    "$work/address/lists" || bad=1
     test_of threads "$work/images" "$work/thread/stand_in" "$work/thread/classes"
     words=(stand-in "$work/address/stand_in" "$work/address/classes")
     for each in native refusals lock limits; do test_of $each "$work/images" "${words[@]}"; done
@@ -296,6 +297,19 @@ try_demo() {
     want "the demo ends" $? 0
     want "its answers" "$(grep -E '^(installed|added|refused|the sum)' <<< "$shown" | sed 's/ in .*//' | tr '\n' ' ')" \
         "installed counter added 40 added 2 refused -1 refused -1 added 58 the sum is 100 "
+}
+
+# A class in an operation of other steps, and without waiting for it, as the pages of librados have it.
+try_examples() {
+    local embed=$top/examples/embed
+    gcc -O2 -Wall -Wextra -Werror -o "$work/operation" "$embed/operation.c" -lrados ||
+        stop_at "operation.c can't be compiled"
+    want "operation.c" "$(said "$work/operation" bpf made.c)" \
+        "0 the operation: 0, its call: 0, the last call: 8 bytes, the sum is 42"
+    want "operation.c again" "$(said "$work/operation" bpf made.c | cut -d , -f 1)" "1 the operation: -17"
+    want "operation.py" "$(said /usr/bin/python3 "$embed/operation.py" bpf made.py)" "0 the sum is 42"
+    want "the data of both" "$(rados -p bpf get made.c - && rados -p bpf get made.py -)" "headerheader"
+    want "their keys" "$(rados -p bpf listomapkeys made.c && rados -p bpf listomapkeys made.py)" $'n\nn'
 }
 
 # osd.2 may not open the plug-in at first: an OSD reads that list when it starts.
@@ -497,6 +511,8 @@ done
 test_of native "$work/images" cluster "$CEPH_CONF" client.adder "$work/adder.keyring"
 try_opened
 for each in refusals lock limits; do test_of $each "$work/images" cluster "$CEPH_CONF"; done
+test_of operations "$CEPH_CONF"
+try_examples
 test_of commits "$here/classes" "$CEPH_CONF"
 timeout 120 ceph osd pool rm coded coded --yes-i-really-really-mean-it > "$work/log" 2>&1
 test_of bad_requests "$work/images" - 2 cluster "$CEPH_CONF"

@@ -44,6 +44,7 @@ passes() {
 # The first test that fails, or nothing.
 failing() {
     local to=$work/$1/address said=$work/$1/said test words
+    "$to/lists" > "$said" 2>&1 || { echo lists; return; }
     words=(stand-in "$to/stand_in" "$to/classes")
     for test in native refusals limits; do passes $test "${words[@]}" || { echo $test; return; }; done
     passes random_calls - 1000 0 5 "${words[@]}" || { echo random_calls; return; }

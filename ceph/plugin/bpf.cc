@@ -52,7 +52,7 @@ int find_image(cls_method_context_t context, const request &asked, ceph::bufferl
     return image.length > IMAGE_LIMIT ? CLASS_REFUSED : 0;
 }
 
-int ask(slice image, const request &asked, const bytes &object, uint32_t caller, answer &found) {
+int ask(slice image, const request &asked, const bytes &object, uint64_t caller, answer &found) {
     sillarnica_refusal why{};
     return refusal_of(ask_library(
         [&](uint8_t *out, size_t room) {
@@ -63,10 +63,10 @@ int ask(slice image, const request &asked, const bytes &object, uint32_t caller,
 }
 
 // The object, as far as the method needs it. If there is no such class or method, nothing is read.
-int read_object(cls_method_context_t context, slice image, const request &asked, bytes &flat) {
+int read_object(cls_method_context_t context, slice image, const request &asked, object_view &object) {
     int32_t needs = sillarnica_needs(image.at, image.length, asked.method.at, asked.method.length);
     if (needs >= 0)
-        return read_flat(context, unsigned(needs), flat);
+        return object.read(context, unsigned(needs));
     sillarnica_refusal why{};
     int32_t verdict = sillarnica_verify(image.at, image.length, &why);
     return refusal_of(verdict == SILLARNICA_OK ? needs : verdict);
@@ -85,20 +85,23 @@ int make_call(cls_method_context_t context, ceph::bufferlist &in, ceph::bufferli
     request asked;
     ceph::bufferlist held;
     slice image;
-    uint32_t caller = 0;
-    bytes object;
+    uint64_t caller = 0;
+    object_view object(is_behind(context));
+    bytes flat;
     answer found{};
     asked.from = from;
-    int result = test_step(context);
-    if (result < 0 || (result = read_request(slice_of(in), asked)) < 0)
+    int result = read_request(slice_of(in), asked);
+    if (result < 0)
         return result;
     made.called = called_by(asked);
     if ((result = find_image(context, asked, held, image)) < 0 || (result = find_caller(context, caller)) < 0)
         return result;
-    if ((result = read_object(context, image, asked, object)) < 0 ||
-        (result = ask(image, asked, object, caller, found)) < 0)
+    if ((result = read_object(context, image, asked, object)) < 0)
         return result;
-    return give_answer(context, found, as, out, made);
+    object.put_flat(flat);
+    if ((result = ask(image, asked, flat, caller, found)) < 0)
+        return result;
+    return give_answer(context, found, object, as, out, made);
 }
 
 int verify(slice image, ceph::bufferlist &out) {
@@ -129,15 +132,15 @@ int own_xattrs(cls_method_context_t context, values &own) {
 
 int load(cls_method_context_t context, slice from) {
     // What an earlier step loaded isn't read, and would not be counted.
-    int result = test_step(context);
-    if (result < 0)
-        return result;
+    if (is_behind(context))
+        return NOT_FIRST;
     reader in{from};
     slice name = in.take(in.number(1)), image = in.rest;
     if (in.short_of || !is_class_name(name))
         return BAD_REQUEST;
     sillarnica_refusal why{};
-    result = image.length > IMAGE_LIMIT ? CLASS_REFUSED : refusal_of(sillarnica_verify(image.at, image.length, &why));
+    int result =
+        image.length > IMAGE_LIMIT ? CLASS_REFUSED : refusal_of(sillarnica_verify(image.at, image.length, &why));
     values own;
     if (result < 0 || (result = own_xattrs(context, own)) < 0)
         return result;
@@ -155,16 +158,16 @@ int load(cls_method_context_t context, slice from) {
 }
 
 int unload(cls_method_context_t context, slice from) {
-    int result = test_step(context);
-    if (result < 0)
-        return result;
+    // An earlier step's writes would be lost where the object is made again.
+    if (is_behind(context))
+        return NOT_FIRST;
     reader in{from};
     slice name = in.take(in.number(1));
     if (in.short_of || in.rest.length || !is_class_name(name))
         return BAD_REQUEST;
     std::string key = OWN_PREFIX + name.text();
     ceph::bufferlist held;
-    result = cls_cxx_getxattr(context, key.c_str(), &held);
+    int result = cls_cxx_getxattr(context, key.c_str(), &held);
     if (result < 0)
         return result == -ENOENT ? NO_CLASS : result;
     return held.length() ? remove_own_xattr(context, key) : NO_CLASS;

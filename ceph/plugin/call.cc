@@ -1,6 +1,6 @@
 #include "call.h"
 
-#include "object.h"
+#include "edits.h"
 
 namespace {
 
@@ -54,31 +54,28 @@ int refusal_of(int32_t said) {
     }
 }
 
-int test_step(cls_method_context_t context) {
-    return cls_current_subop_num(context) != 0 ? NOT_FIRST : 0;
-}
-
 // The OSD writes an `entity_inst_t`: a type in one byte, the number in 8 bytes from the 8th on, and
 // an address, for which there is more than enough room.
-int find_caller(cls_method_context_t context, uint32_t &caller) {
+int find_caller(cls_method_context_t context, uint64_t &caller) {
     alignas(16) unsigned char entity[512] = {};
     if (cls_get_request_origin(context, entity) < 0)
         return NO_CLIENT;
     uint64_t number = reader{{entity + 8, 8}}.number(8);
     if (entity[0] != CLIENT_TYPE || number < 1 || number > UINT32_MAX)
         return NO_CLIENT;
-    caller = uint32_t(number);
+    caller = number;
     return 0;
 }
 
-int give_answer(cls_method_context_t context, const answer &found, kind as, ceph::bufferlist &out, account &made) {
+int give_answer(cls_method_context_t context, const answer &found, object_view &object, kind as, ceph::bufferlist &out,
+                account &made) {
     made.code = found.code;
     made.steps = found.steps;
     made.output = size_t(found.output_len);
     int result = test_answer(found, as);
     if (result < 0)
         return result;
-    if (found.edits_len && (result = make_edits(context, found.edits())) < 0)
+    if (found.edits_len && (result = make_edits(context, object, found.edits())) < 0)
         return result;
     put_answer(found, as, out);
     made.edits = size_t(found.edits_len);

@@ -3,6 +3,7 @@
 #pragma once
 
 #include "bytes.h"
+#include "object.h"
 #include "osd.h"
 #include "refusals.h"
 
@@ -52,15 +53,11 @@ template <class Call> int32_t ask_library(Call call, answer &found) {
 // The refusal of an answer of the library; 0 of a good one.
 int refusal_of(int32_t said);
 
-// Refuses a call behind another step of its operation: an OSD's calls read the object as it was
-// before the operation, so what the earlier steps changed would be lost, and reading data that an
-// earlier step wrote can damage the object.
-int test_step(cls_method_context_t context);
-
 // The caller's number, as the client says it of itself: the OSD doesn't compare it with the number
 // of the session that it authenticated. So it is a help against mistakes, not against attackers.
-int find_caller(cls_method_context_t context, uint32_t &caller);
+int find_caller(cls_method_context_t context, uint64_t &caller);
 
-// Gives an answer back: tests that it can be given, makes its edits, and puts its output. The
-// operation's result.
-int give_answer(cls_method_context_t context, const answer &found, kind as, ceph::bufferlist &out, account &made);
+// Gives an answer back: tests that it can be given, makes its edits of the object that was handed to the
+// library, and puts its output. The operation's result.
+int give_answer(cls_method_context_t context, const answer &found, object_view &object, kind as, ceph::bufferlist &out,
+                account &made);

@@ -10,7 +10,7 @@
 
 namespace {
 
-constexpr uint32_t LIBRARY_VERSION = 1;
+constexpr uint32_t LIBRARY_VERSION = 2;
 constexpr char PREFIX[] = "libcls_", SUFFIX[] = ".so", OWN_NAME[] = "bpf";
 
 bool is_release_known() {

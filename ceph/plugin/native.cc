@@ -111,7 +111,7 @@ void native_class::find_methods() {
     }
 }
 
-int native_class::run(unsigned method, const bytes &object, uint32_t caller, slice input, answer &found) {
+int native_class::run(unsigned method, const bytes &object, uint64_t caller, slice input, answer &found) {
     lease handle{pool};
     int32_t said = pool.take({image.data(), image.size()}, handle.one);
     if (said != SILLARNICA_OK)
@@ -129,15 +129,15 @@ int native_class::run(unsigned method, const bytes &object, uint32_t caller, sli
 
 int native_class::call(unsigned method, cls_method_context_t context, ceph::bufferlist &in, ceph::bufferlist &out,
                        account &made) {
-    uint32_t caller = 0;
-    bytes object;
+    uint64_t caller = 0;
+    object_view object(is_behind(context));
+    bytes flat;
     answer found{};
-    int result = test_step(context);
-    if (result < 0 || (result = find_caller(context, caller)) < 0)
+    int result = find_caller(context, caller);
+    if (result < 0 || (result = object.read(context, needs[method])) < 0)
         return result;
-    if ((result = read_flat(context, needs[method], object)) < 0)
+    object.put_flat(flat);
+    if ((result = run(method, flat, caller, slice_of(in), found)) < 0)
         return result;
-    if ((result = run(method, object, caller, slice_of(in), found)) < 0)
-        return result;
-    return give_answer(context, found, {methods[method].may_change, false}, out, made);
+    return give_answer(context, found, object, {methods[method].may_change, false}, out, made);
 }

@@ -32,7 +32,7 @@ public:
 private:
     int call(unsigned method, cls_method_context_t context, ceph::bufferlist &in, ceph::bufferlist &out,
              account &made) override;
-    int run(unsigned method, const bytes &object, uint32_t caller, slice input, answer &found);
+    int run(unsigned method, const bytes &object, uint64_t caller, slice input, answer &found);
     void find_methods();
 
     bytes image;

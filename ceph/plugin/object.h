@@ -1,5 +1,4 @@
-// The object that a call is made on: as the library reads it, and the edits that the library
-// answers.
+// The object that a call is made on: as the OSD shows it, and as the library reads it.
 #pragma once
 
 #include "bytes.h"
@@ -11,7 +10,7 @@
 constexpr size_t DATA_LIMIT = 65536, XATTR_LIMIT = 32, KEY_LIMIT = 1024, NAME_LIMIT = 64, VALUE_LIMIT = 4096;
 
 // The parts of an object that a method's code can reach, as `sillarnica_needs` adds them.
-constexpr unsigned NEEDS_DATA = 1, NEEDS_XATTRS = 2, NEEDS_KEYS = 4;
+constexpr unsigned NEEDS_DATA = 1, NEEDS_XATTRS = 2, NEEDS_KEYS = 4, NEEDS_ALL = 7;
 
 // Xattrs whose names begin so hold the loaded classes. No method sees, sets or removes one.
 constexpr char OWN_PREFIX[] = "bpf.";
@@ -21,19 +20,48 @@ using values = std::map<std::string, ceph::bufferlist>;
 // Whether a name is the plug-in's own.
 bool is_own(const std::string &name);
 
-// Puts the object in the flat form of `sillarnica.h`. Parts that aren't needed are empty, and
-// nothing of them is read. Refused, of parts that are needed alone: DATA_TOO_LONG; TOO_MUCH.
-int read_flat(cls_method_context_t context, unsigned needs, bytes &flat);
+// Whether another step of the call's operation stands before it. To be asked before all other calls of the
+// OSD's: each of those that reads or changes the object counts as a step.
+bool is_behind(cls_method_context_t context);
 
-// Makes the library's edits, in their order. All are read and tested before the first is made.
-// Refused: NAME_IS_OURS, NAME_WITH_NUL; and with a removed xattr what `remove_xattrs` refuses.
-int make_edits(cls_method_context_t context, slice edits);
+// An object as the OSD shows it to a class. Behind other steps of an operation presence and size are as
+// those left them, and all else is as it was before the operation.
+class object_view {
+public:
+    explicit object_view(bool behind) : behind(behind) {}
 
-// Removes xattrs, in the one way that the OSD's calls have, which Ceph's class `rgw` uses too: the
-// object is removed and made again, all in the operation's one transaction, with its data, its omap
-// and its other xattrs. Who watches the object is cut off. Refused as `read_flat` of all parts.
-int remove_xattrs(cls_method_context_t context, const std::vector<std::string> &names);
+    // Reads whether there is an object, and of these parts what wasn't read yet. Refused, of parts that
+    // are asked for alone: DATA_TOO_LONG; TOO_MUCH; and data behind another step, NOT_FIRST.
+    int read(cls_method_context_t context, unsigned parts);
 
-// Removes an xattr of the plug-in's. Of an object that can't be made again, since it is past the
-// limits or its pool is erasure-coded, the xattr is left without bytes.
+    // The flat form of `sillarnica.h`; what wasn't read is empty.
+    void put_flat(bytes &flat);
+
+    // Of xattrs that were read.
+    bool has_xattr(const std::string &name) const { return xattrs.count(name) || own.count(name); }
+
+    // Removes xattrs that it has, in the one way that the OSD's calls have, which Ceph's class `rgw` uses
+    // too: the object is removed and made again, all in the operation's one transaction, with its data, its
+    // omap and its other xattrs. Who watches the object is cut off. Only for an operation's first step: what
+    // earlier steps wrote isn't shown, and would be lost. Refused as `read` of all parts.
+    int make_without(cls_method_context_t context, const std::vector<std::string> &names);
+
+    const bool behind; // other steps
+
+private:
+    int read_size(cls_method_context_t context);
+    int read_data(cls_method_context_t context);
+    int read_xattrs(cls_method_context_t context);
+    int read_keys(cls_method_context_t context);
+    int write(cls_method_context_t context);
+
+    bool is_found = false, is_there = false;
+    uint64_t size = 0;
+    unsigned have = 0; // the parts that were read
+    ceph::bufferlist data, header;
+    values xattrs, own, keys;
+};
+
+// Removes an xattr of the plug-in's, as an operation's first step. Of an object that can't be made again,
+// since it is past the limits or its pool is erasure-coded, the xattr is left without bytes.
 int remove_own_xattr(cls_method_context_t context, const std::string &name);

@@ -30,6 +30,7 @@ enum refusal : int {
     NO_CLIENT = -EUSERS,         // -87: the caller is no client, or its number doesn't fit 32 bits
     INPUT_TOO_LONG = -EMSGSIZE,  // -90: the input is longer than the method takes
     REPLY_TOO_LONG = -ENOBUFS,   // -105: a change, and its reply is over the OSD's osd_max_write_op_reply_len
-    NOT_FIRST = -EALREADY,       // -114: another step of the same operation stands before the call or the load
+    NOT_FIRST = -EALREADY,       // -114: another step of the operation stands before a load or an unload; or before a
+                                 // call that needs data, or removes an xattr of before it
 };
 // clang-format on

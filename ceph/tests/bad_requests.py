@@ -82,7 +82,7 @@ class Trial:
             image = data[1 + data[0] :] if data else b""
             output = b""
         else:
-            result, output, after = expected.call(way, data, held, self.backend.number(), self.accepted)
+            result, output, after, _ = expected.call(way, data, held, self.backend.number(), self.accepted)
             image = expected.parse(data)[1] if result is expected.UNKNOWN else b""
         if result is expected.UNKNOWN and (self.is_accepted(image) if self.radoscls != "-" else found[0] != -8):
             # Another class that is safe: beside the model, too.
@@ -90,7 +90,7 @@ class Trial:
             if way == "load":
                 result, after = loaded(data, held, self.accepted)
             else:
-                result, output, after = expected.call(way, data, held, self.backend.number(), self.accepted)
+                result, output, after, _ = expected.call(way, data, held, self.backend.number(), self.accepted)
         elif result is expected.UNKNOWN:
             result, output = -8, b""
         left = self.backend.get("bad")

@@ -1,7 +1,7 @@
 """What the class `bpf` answers to a request, and what the object holds afterwards: written after docs/CEPH.md,
 over the interpreter of model.py.
 
-An image counts as accepted if it is one of those that are named so; of another one nothing is said but that a
+A list of edits is as model.py has it. An image counts as accepted if it is one of those that are named so; of another one nothing is said but that a
 name or a length was wrong.
 """
 
@@ -28,41 +28,80 @@ def limits(whole, parts):
     return None
 
 
-def changed_names(before, after):
-    """The xattrs that a change sets or removes."""
-    old, new = (each.xattrs if each else {} for each in (before, after))
-    return [name for name in {*old, *new} if old.get(name) != new.get(name)] if after else []
+def is_of_xattr(one):
+    return one[0] in ("set", "unset") and one[1] == "xattrs"
 
 
-def answer(way, method, data, whole, caller, limit):
-    """Result, output and object of a call of a method of an accepted class."""
-    refused = limits(whole, model.parts_of(method))
+def lasting(edits):
+    """The edits behind the last one that removes or creates the object."""
+    start = max((at + 1 for at, one in enumerate(edits) if one[0] in ("create", "remove")), default=0)
+    return edits[start:]
+
+
+def removed(edits):
+    """The xattrs whose last lasting edit is a removal."""
+    last = {one[2]: one[0] for one in lasting(edits) if is_of_xattr(one)}
+    return sorted(name for name, kind in last.items() if kind == "unset")
+
+
+def refusal_of_edits(edits, seen, behind):
+    """Why a list isn't made, or None."""
+    for one in filter(is_of_xattr, edits):
+        if one[2].startswith(b"bpf."):
+            return -13
+        if b"\0" in one[2]:
+            return -84
+    if lasting(edits) != edits or not removed(edits):
+        return None
+    if behind:
+        return -114
+    # An object that had one of them is made again, with all its parts.
+    return limits(seen, model.PARTS) if gone(edits, seen) else None
+
+
+def gone(edits, seen):
+    """The xattrs of before the call that it removes."""
+    return [name for name in removed(edits) if lasting(edits) == edits and name in seen.xattrs]
+
+
+def answer(way, method, data, seen, caller, limit, behind=False):
+    """Result, output and edits of a call of a method of an accepted class, on what the OSD shows of the object."""
+    parts = model.parts_of(method)
+    if behind and "data" in parts and seen and seen.data:
+        return -114, b"", []
+    refused = limits(seen, parts)
     if refused:
-        return refused, b"", whole
+        return refused, b"", []
     if len(data) > method.in_cap:
-        return -90, b"", whole
-    found = model.call(method, whole, caller, data)
-    framed, changes = way in FRAMED, found.after != whole
-    if changes and way in READS:
-        return -30, b"", whole
-    if changes and len(found.output) + (16 if framed else 0) > limit:
-        return -105, b"", whole
+        return -90, b"", []
+    found = model.call(method, seen, caller, data)
+    framed, wrote = way in FRAMED, bool(found.edits)
+    if wrote and way in READS:
+        return -30, b"", []
+    if wrote and len(found.output) + (16 if framed else 0) > limit:
+        return -105, b"", []
     if not framed and (not -4095 <= found.code < 1 << 31 or found.code in (-11, -115)):
-        return -75, b"", whole
-    for name in changed_names(whole, found.after):
-        if name.startswith(b"bpf."):
-            return -13, b"", whole
-        if b"\0" in name:
-            return -84, b"", whole
-    if any(name not in found.after.xattrs for name in changed_names(whole, found.after)):
-        # The object is made again, with all its parts.
-        refused = limits(whole, model.PARTS)
-        if refused:
-            return refused, b"", whole
+        return -75, b"", []
+    refused = refusal_of_edits(found.edits, seen, behind)
+    if refused:
+        return refused, b"", []
     if framed:
-        return 0, struct.pack("<qQ", found.code, found.steps) + found.output, found.after
+        return 0, struct.pack("<qQ", found.code, found.steps) + found.output, found.edits
     # Of an error no output comes back.
-    return found.code, found.output, found.after
+    return found.code, found.output, found.edits
+
+
+def shown(before, left):
+    """What an OSD shows behind steps that left an object so; of the data the size alone is looked at."""
+    before = before or model.Object()
+    return left and model.Object(left.data, before.xattrs, before.keys)
+
+
+def kept(edits, held):
+    """What is held where a list is made over it: an object that is removed takes its classes along."""
+    whole, classes = held or (None, {})
+    after = model.fold(edits, whole)
+    return after and (after, {} if ("remove",) in edits else classes)
 
 
 def parse(data):
@@ -80,29 +119,36 @@ def is_class_name(name):
     return 1 <= len(name) <= 64 and all(0x20 < byte < 0x7F for byte in name)
 
 
-def call(way, data, held, caller, accepted, limit=64):
-    """Result, output and what is held afterwards (an Object, its loaded classes, or None if it is absent)."""
-    if way in READS and held is None:
-        return -2, b"", held
+def call(way, data, held, caller, accepted, limit=64, behind=False, left=None):
+    """Result, output and what is held afterwards (an Object, its loaded classes, or None if it is absent). Behind
+    other steps, `left` is what they left of what was held.
+    """
+    found = called(way, data, held, caller, accepted, limit, behind, left)
+    if found[0] is UNKNOWN or found[0] < 0:
+        return *found[:2], held, []
+    return *found[:2], kept(found[2], left if behind else held), found[2]
+
+
+def called(way, data, held, caller, accepted, limit, behind, left):
+    if way in READS and held is None and not behind:
+        return -2, b"", []
     asked = parse(data)
     if asked is None or asked[0] != way.endswith("_sent"):
-        return -22, b"", held
+        return -22, b"", []
     sent, name, method, data = asked
     whole, classes = held or (None, {})
     if not sent and not is_class_name(name):
-        return -22, b"", held
+        return -22, b"", []
     image = name if sent else classes.get(name)
     if image is None:
-        return -61, b"", held
+        return -61, b"", []
     if image not in accepted:
-        return UNKNOWN, b"", held
+        return UNKNOWN, b"", []
     found = model.methods_of(image).get(method)
     if found is None:
-        return -38, b"", held
-    result, output, after = answer(way, found, data, whole, caller, limit)
-    if after is None:
-        return result, output, None
-    return result, output, (after, classes)
+        return -38, b"", []
+    seen = shown(whole, left[0] if left else None) if behind else whole
+    return answer(way, found, data, seen, caller, limit, behind)
 
 
 def native_name(cls):
@@ -110,16 +156,18 @@ def native_name(cls):
     return "lock.2" if cls == b"lock" else cls.decode()
 
 
-def native(method, data, held, caller, limit=64):
+def native(method, data, held, caller, limit=64, behind=False, left=None):
     """The same of a method of an installed class: it is called by its own name, with its input alone."""
-    whole, classes = held or (None, {})
-    reads = method.flags == 1
-    if reads and whole is None:
-        return -2, b"", held
-    result, output, after = answer("see" if reads else "run", method, data, whole, caller, limit)
+    whole, reads = held[0] if held else None, method.flags == 1
+    if reads and whole is None and not behind:
+        return -2, b"", held, []
+    seen = shown(whole, left[0] if left else None) if behind else whole
+    result, output, edits = answer("see" if reads else "run", method, data, seen, caller, limit, behind)
     # a class of Ceph's answers so to what it can't decode
     result = -22 if result == -90 else result
-    return result, output, None if after is None else (after, classes)
+    if result < 0:
+        return result, output, held, []
+    return result, output, kept(edits, left if behind else held), edits
 
 
 # What a call asks of the OSD, as the stand-in writes it down: a line each.
@@ -129,44 +177,40 @@ def hex_of(name):
     return name.hex() or "-"
 
 
-def lost(old, new):
-    return [name for name in sorted(old) if name not in new]
+def line_of(one):
+    kind, *rest = one
+    if kind in ("create", "remove"):
+        return kind
+    if kind == "length":
+        return f"truncate {rest[0]}"
+    if kind == "write":
+        return f"write {rest[0]} {len(rest[1])}"
+    return f"{'remove key' if kind == 'unset' else 'set xattr'} {hex_of(rest[1])}"
 
 
-def gained(old, new):
-    return [name for name in sorted(new) if old.get(name) != new[name]]
-
-
-def data_changes(old, new):
-    """The length, and then one write from the first to the last byte that differs."""
-    lines = [f"truncate {len(new)}"] if len(old) != len(new) else []
-    resized = old[: len(new)].ljust(len(new), b"\0")
-    differ = [at for at in range(len(new)) if resized[at] != new[at]]
-    return lines + ([f"write {differ[0]} {differ[-1] + 1 - differ[0]}"] if differ else [])
-
-
-def changes(before, after):
-    """The changes that make an object into another, where no xattr is removed."""
-    if before == after:
-        return []
-    if after is None:
-        return ["remove"]
-    old = before or model.Object()
-    lines = [] if before else ["create"]
-    lines += data_changes(old.data, after.data)
-    lines += [f"set xattr {hex_of(name)}" for name in gained(old.xattrs, after.xattrs)]
-    lines += [f"remove key {hex_of(name)}" for name in lost(old.keys, after.keys)]
-    keys = gained(old.keys, after.keys)
-    return lines + ([" ".join(["set keys", *map(hex_of, keys)])] if keys else [])
-
-
-def removes_xattr(before, after):
-    return bool(before and after and lost(before.xattrs, after.xattrs))
+def changes(edits):
+    """The changes that a list is made by: neighbouring sets of keys are one."""
+    names, start = removed(edits), len(edits) - len(lasting(edits))
+    made = [
+        one
+        for at, one in enumerate(edits)
+        if not is_of_xattr(one) or (one[0] == "set" and (at < start or one[2] not in names))
+    ]
+    lines, keys = [], set()
+    for one, following in zip(made, [*made[1:], ("end",)]):
+        if one[:2] != ("set", "keys"):
+            lines.append(line_of(one))
+            continue
+        keys.add(one[2])
+        if following[:2] != ("set", "keys"):
+            lines.append(" ".join(["set keys", *map(hex_of, sorted(keys))]))
+            keys = set()
+    return lines
 
 
 def reads_of(parts, whole):
-    """The reads of the parts that a method needs, and of no other."""
-    lines = ["stat"]
+    """The reads of parts of an object."""
+    lines = []
     if whole and "data" in parts and whole.data:
         lines.append(f"read 0 {len(whole.data)}")
     if whole and "xattrs" in parts:
@@ -184,12 +228,14 @@ def remade(after, classes, header=b""):
     return lines + ([" ".join(["set keys", *map(hex_of, sorted(after.keys))])] if after.keys else [])
 
 
-def trace(parts, before, after, classes):
-    """All that a call that is answered asks of the OSD, but for the class and the caller."""
-    lines = reads_of(parts, before)
-    if not removes_xattr(before, after):
-        return lines + changes(before, after)
-    kept = before.copy()
-    for name in lost(before.xattrs, after.xattrs):
-        del kept.xattrs[name]
-    return lines + reads_of(model.PARTS, before) + ["header"] + remade(kept, classes) + changes(kept, after)
+def trace(parts, seen, edits, classes):
+    """All that a call that is answered asks of the OSD, but for the class and the caller: it reads the parts that the
+    method needs, and no other.
+    """
+    lines, names = ["stat"] + reads_of(parts, seen), gone(edits, seen) if seen else []
+    if names:
+        without = seen.copy()
+        for name in names:
+            del without.xattrs[name]
+        lines += reads_of(model.PARTS.keys() - set(parts), seen) + ["header"] + remade(without, classes)
+    return lines + changes(edits)

@@ -96,9 +96,9 @@ def try_classes(backend, tally, images, wanted):
     def taken(method):
         return [after["helpers", method][at] - before["helpers", method][at] for at in (0, 1, 2, 4)]
 
-    # calls, refusals, steps, bytes of edits: an edit that sets the length has 5, one that writes 9 and its bytes
+    # calls, refusals, steps, bytes of edits: one that writes has 13 and its bytes
     tally.want("stats of a read", taken("stat"), [2, 1, 2, 0])
-    tally.want("stats of a change", taken("write"), [1, 0, 8, 5 + 9 + 5])
+    tally.want("stats of a change", taken("write"), [1, 0, 8, 13 + 5])
     tally.want("stats of a method's error", taken("create"), [1, 0, 3, 0])
     tally.want("nanoseconds", after["helpers", "stat"][3] > before["helpers", "stat"][3], True)
     tally.want("stats of the class bpf", after["bpf", "stats"][0] > before["bpf", "stats"][0], True)
@@ -125,7 +125,7 @@ def try_stand_in(backend, tally, images, folder):
     for name in ("cut", "none", "a_link"):
         tally.want(f"a call of {name}", backend.call("o", "stat", cls=name), (-95, b""))
     for what, words, result in (
-        ("behind another step", {"step": 1}, -114),
+        ("that needs data, behind another step", {"step": 1}, -114),
         ("of no client", {"kind": 4}, -87),
         ("by a number that is too large", {"number": 1 << 32}, -87),
     ):
@@ -184,8 +184,10 @@ def try_operation(backend, tally):
         # (Ceph answers an operation whose last step is a comparison that holds with 1)
         ("a guard that holds, behind a call", [add, guard(b"1")], 1, added),
         ("a guard that fails, behind a call", [add, guard(b"2")], -125, kept),
-        ("a guard before a call", [guard(b"1"), add], -114, kept),
-        ("two calls", [add, add], -114, kept),
+        ("a guard that holds, before a call", [guard(b"1"), add], 0, added),
+        ("a guard that fails, before a call", [guard(b"2"), add], -125, kept),
+        # both read the object as it was before the operation
+        ("two calls", [add, add], 0, added),
         ("a call that may fail, behind another", [add, add, failok], 0, added),
         ("a call that fails and may", [bad, failok], 0, kept),
     ):

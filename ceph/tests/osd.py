@@ -21,6 +21,7 @@ import model  # noqa: E402
 
 STALLED = 300  # seconds, in which a test's next call is answered, also on a machine that others use
 REPLY_LIMIT = 64  # osd_max_write_op_reply_len, as it is shipped
+SAME = object()  # what earlier steps left is what was before
 
 
 def load_command():
@@ -80,10 +81,17 @@ class StandIn:
         failing=0,
         growth=0,
         new=0,
+        left=SAME,
     ):
+        """One call. Where it isn't the first step of its operation, `left` is what the earlier steps left: the object
+        with its classes and header.
+        """
         caller = self.client if number is None else number
         fields = struct.pack("<BQIIIII", kind, caller, step, limit, failing, growth, new)
-        self._write(b"\0" + self._call(cls, method, data, fields, self.whole(oid)))
+        asked = self._call(cls, method, data, fields, self.whole(oid))
+        if step:
+            asked += self._object(self.whole(oid) if left is SAME else left)
+        self._write(b"\0" + asked)
         result = struct.unpack("<i", self._read(4))[0]
         output, after = self._read_bytes(), self._read_object()
         self.osd_calls, self.growths, self.news = struct.unpack("<III", self._read(12))

@@ -49,7 +49,9 @@ class Native(check.Play):
                 after, code, output = model(before.copy() if before else None, client, method, given)
             except check.Fail as fail:
                 after, code = before, fail.args[0]
-        if held(after) != held(before) and len(output) > osd.REPLY_LIMIT:
+        # (that one sets an xattr also to what it is)
+        writes = method == "write_too_much_return_data" or held(after) != held(before)
+        if writes and len(output) > osd.REPLY_LIMIT:
             code, output, after = -105, b"", before
         self.objects[name] = after
         found = self.sessions[client].call(self.oid(name), method, given, cls=self.which)

@@ -1,6 +1,7 @@
 #!/usr/bin/env python3
 """Random calls, each beside the expected answer, by an interpreter of its own and by `radoscls run`: code,
-steps, output, the whole object; over the stand-in also what is read and changed for it, and the line in the log.
+steps, output, the whole object; over the stand-in also behind other steps of an operation, and what is read and
+changed for it, and the line in the log.
 
     random_calls.py IMAGES RADOSCLS CALLS SECONDS SEED cluster CONF | stand-in PROGRAM FOLDER
 
@@ -79,21 +80,26 @@ class Caller:
         sent = chance.random() < 0.4 or (held is None and chance.random() < 0.9)
         data = random_input(chance, method, held[0] if held else None)
         before = held[0].copy() if held else None
+        steps = self.steps(held)
         if way == "native":
-            found, wanted = self.native(oid, cls, method, data, held)
+            found, wanted = self.native(oid, cls, method, data, held, steps)
         else:
             way += "_sent" * sent
             asked = osd.request(image if sent else cls, method, data, sent)
-            found = self.timed(oid, way, asked)
-            wanted = expected.call(way, asked, held, self.backend.number(), self.images.values())
-        result, output, after = wanted
+            found = self.timed(oid, way, asked, **self.words(steps))
+            wanted = expected.call(way, asked, held, self.backend.number(), self.images.values(), **steps)
+        result, output, after, edits = wanted
         what = f"{way} {cls.decode()} {method.decode()} {data[:40].hex()} on {before}"
+        if steps:
+            what += f" that earlier steps made {steps['left'] and steps['left'][0]}"
         self.tally.want(what, found, (result, b"" if result < 0 else output))
         self.tally.want(f"the object after {what}", self.backend.get(oid), after[0] if after else None)
         if isinstance(self.backend, osd.StandIn):
-            self.look(what, found, expected.model.methods_of(image).get(method), before, after, held)
+            self.look(what, found, expected.model.methods_of(image).get(method), held, edits, steps)
         self.held[oid] = after
         self.made += 1
+        if steps:
+            return
         is_within = not expected.limits(before, expected.model.PARTS)
         if self.radoscls and is_within and not (way in expected.READS and held is None) and way != "native":
             self.beside(what, image, method, data, before, found, result, after)
@@ -104,25 +110,45 @@ class Caller:
         self.slowest = max(self.slowest, time.monotonic() - start)
         return found
 
-    def native(self, oid, cls, method, data, held):
+    def steps(self, held):
+        """Now and then earlier steps of the operation, by what they left of what was held; none in a cluster."""
+        if not isinstance(self.backend, osd.StandIn) or self.chance.random() < 0.7:
+            return {}
+        others = [osd.some_object(self.chance) for _ in range(2)]
+        left = self.chance.choice([held[0] if held else None, *others])
+        classes = held[1] if held and self.chance.random() < 0.9 else {}
+        if left and self.chance.random() < 0.5:
+            left = expected.model.Object(b"", left.xattrs, left.keys)
+        return {"behind": True, "left": left and (left.copy(), classes)}
+
+    @staticmethod
+    def words(steps):
+        """The same for the stand-in."""
+        return {"step": 1, "left": steps["left"] and (*steps["left"], b"")} if steps else {}
+
+    def native(self, oid, cls, method, data, held, steps):
         """A call of the class by its own name."""
         name = expected.native_name(cls)
-        found = self.timed(oid, method.decode() or "none", data, cls=name)
+        found = self.timed(oid, method.decode() or "none", data, cls=name, **self.words(steps))
         declared = expected.model.methods_of(self.images[cls]).get(method)
         if declared is None:
-            return found, (-95, b"", held)
-        return found, expected.native(declared, data, held, self.backend.number())
+            return found, (-95, b"", held, [])
+        return found, expected.native(declared, data, held, self.backend.number(), **steps)
 
-    def look(self, what, found, method, before, after, held):
+    def look(self, what, found, method, held, edits, steps):
         """What the call asked of the OSD, and what it wrote into the log."""
         trace = [line for line in self.backend.trace if line != "origin" and not line.startswith("xattr ")]
         levels = [line.split()[0] for line in self.backend.log]
         is_asked = self.backend.osd_calls > 0 or self.backend.log
         self.tally.want(f"the log of {what}", levels in (["10"], ["5"]), bool(is_asked))
-        if found[0] >= 0 and method:
-            parts, classes = expected.model.parts_of(method), held[1] if held else {}
-            wanted = expected.trace(parts, before, after[0] if after else None, classes)
-            self.tally.want(f"reads and changes of {what}", trace, wanted)
+        if found[0] < 0 or not method:
+            return
+        parts, (whole, classes) = expected.model.parts_of(method), held or (None, {})
+        left = steps.get("left")
+        seen = expected.shown(whole, left and left[0]) if steps else whole
+        self.tally.want(f"reads and changes of {what}", trace, expected.trace(parts, seen, edits, classes))
+        length = len(expected.model.spelled(edits))
+        self.tally.want(f"edits of {what}", self.backend.log[0].rsplit(" ", 1)[1], str(length))
 
     def beside(self, what, image, method, data, before, found, result, after):
         """The same call by `radoscls run`."""

@@ -129,7 +129,10 @@ def rows(images):
         # changes in reads; codes of 64 bits in results of 32
         ("a change in query", text, "query", h(b"write", number(0) + b"other"), -30, b""),
         ("a change in see", text, "see", h(b"map_set", setter(b"new")), -30, b""),
-        ("a write of what is there is no change", text, "see", h(b"write", number(0) + b"text"), 4, b""),
+        ("a write of what is there is a change too", text, "see", h(b"write", number(0) + b"text"), -30, b""),
+        ("an xattr to what it is, in query", text, "query", h(b"setxattr", setter(b"x", b"1")), -30, b""),
+        ("an xattr that comes and goes, in query", text, "query", h(b"scratch", b"new"), -30, b""),
+        ("an xattr that comes and goes", text, "exec", h(b"scratch", b"new"), 0, frame(0, 9)),
         ("a refused change is none", text, "query", h(b"create", number(1)), 0, frame(-17, 3)),
         ("run: a code of 31 bits", text, "run", h(b"code", number(2**31 - 1)), 2**31 - 1, b""),
         ("run: a code of 32 bits", text, "run", h(b"code", number(2**31)), -75, b""),
@@ -290,7 +293,12 @@ def try_stand_in(backend, tally, images):
         output = b"" if result < 0 else frame(0, 7, struct.pack("<Q", caller))
         tally.want(f"caller {kind} {caller}", found, (result, output))
     for way in ("exec", "query", "run", "see"):
-        tally.want(f"{way} as the 2nd step", backend.call("o", way, h(b"stat"), step=1), (-114, b""))
+        tally.want(f"{way} of data as the 2nd step", backend.call("o", way, h(b"stat"), step=1), (-114, b""))
+    tally.want("an xattr is read as the 2nd step", backend.call("o", "see", h(b"getxattr", b"x"), step=1), (1, b"1"))
+    tally.want("one goes as the 2nd step", backend.call("o", "exec", h(b"rmxattr", b"x"), step=1), (-114, b""))
+    tally.want("one comes and goes as the 2nd", backend.call("o", "exec", h(b"scratch", b"n"), step=1), (-114, b""))
+    tally.want("a key goes as the 2nd step", backend.call("o", "exec", h(b"map_rm", b"k"), step=1), (0, frame(0, 2)))
+    backend.put("o", whole, images)
     for way, data in (("unload", load_request(b"lock")), ("load", load_request(b"new", images[b"lock"]))):
         tally.want(f"{way} as the 2nd step", backend.call("o", way, data, step=1), (-114, b""))
     found = backend.call("o", "exec", h(b"reply", number(49)), limit=65)
@@ -366,8 +374,9 @@ def try_cluster(backend, tally, images):
     line = b"image refused after 0 methods: 1 Truncated"
     tally.want("verify's line comes", backend.plain("o", "verify", b""), (len(line), line))
     done, results = backend.steps("o", [("exec", h(b"map_set", setter(b"n"))), ("exec", h(b"map_set", setter(b"m")))])
-    tally.want("a second call in an operation", (done, backend.get("o")), (-114, whole))
-    tally.want("its results", [result for result, _ in results][1], -114)
+    whole.keys.update({b"n": b"", b"m": b""})
+    tally.want("a second call in an operation", (done, backend.get("o")), (0, whole))
+    tally.want("its results", [result for result, _ in results], [0, 0])
     done, results = backend.steps("o", [("exec", h(b"map_set", setter(b"n"))), ("list", b"")])
     whole.keys[b"n"] = b""
     tally.want("a call and a list", (done, backend.get("o")), (0, whole))

@@ -13,7 +13,8 @@
 //     call:    bytes class, bytes method, bytes request, u8 the caller's type, u64 its number, u32
 //              step of the operation, u32 osd_max_write_op_reply_len, and, of which 0 is none: u32
 //              which call of the OSD's fails, u32 which growth of the library's memory, u32 which
-//              `operator new` of the plug-in; object
+//              `operator new` of the plug-in; the object as it was before the operation; and, if it isn't the
+//              first step, the object as the earlier steps left it
 //     object:  u8 0, or u8 1, bytes data, bytes omap header, and the xattrs and the omap: u32 count,
 //              and of each bytes name, bytes value
 //     answer:  i32 result, bytes output, object, u32 how many calls of the OSD's were made, u32 how
@@ -64,9 +65,10 @@ struct known_class {
 };
 std::map<std::string, known_class> classes;
 
-// Of the call that a thread makes: the object as it was, which reads read, and as it will be.
+// Of the call that a thread makes: the object as it was before the operation, as earlier steps left it, and as it
+// will be.
 struct state {
-    object before, after;
+    object before, left, after;
     bool may_read_alone = false, has_changed = false, is_in_plugin = false;
     uint8_t caller_type = 0;
     uint64_t caller_number = 0;
@@ -125,6 +127,7 @@ void give(ceph::bufferlist *to, const std::string &from) {
         to->append(from);
 }
 
+// Xattrs, keys and header are read as they were before the operation.
 int get(const entries &all, const std::string &name, ceph::bufferlist *to) {
     auto found = all.find(name);
     if (!now.before.present || found == all.end())
@@ -216,17 +219,18 @@ int cls_register_cxx_method(cls_handle_t handle, const char *method, int flags, 
     return 0;
 }
 
+// As of an OSD, it is the call's place only before the first call that reads or changes the object.
 int cls_current_subop_num(cls_method_context_t) {
-    return int(now.step);
+    return now.trace.empty() ? int(now.step) : 1;
 }
 
 int cls_cxx_stat(cls_method_context_t, uint64_t *size, time_t *) {
     outside here;
     if (reads("stat"))
         return -EIO;
-    if (!now.before.present)
+    if (!now.left.present)
         return -ENOENT;
-    *size = now.before.data.size();
+    *size = now.left.data.size();
     return 0;
 }
 
@@ -234,6 +238,8 @@ int cls_cxx_read(cls_method_context_t, int at, int length, ceph::bufferlist *to)
     outside here;
     if (length <= 0)
         blame("a read of no bytes, which an OSD takes for all");
+    if (now.step)
+        blame("data is read behind another step, which can lose the object");
     if (reads("read " + std::to_string(at) + " " + std::to_string(length)))
         return -EIO;
     if (!now.before.present)
@@ -263,7 +269,8 @@ int cls_cxx_map_get_vals(cls_method_context_t, const std::string &from, const st
     outside here;
     if (reads("keys " + hex(from) + " " + std::to_string(most)))
         return -EIO;
-    if (!now.before.present)
+    // Of an object that an earlier step made: after a step that set a key another answer than after others.
+    if (!now.before.present && (!now.left.present || !now.left.omap.empty()))
         return -ENOENT;
     auto at = from.empty() ? now.before.omap.begin() : now.before.omap.upper_bound(from);
     for (; at != now.before.omap.end() && all->size() < most; ++at)
@@ -351,9 +358,9 @@ int cls_cxx_map_remove_key(cls_method_context_t, const std::string &key) {
     outside here;
     if (changes("remove key " + hex(key)))
         return -EIO;
-    if (!now.after.omap.erase(key))
+    if (!now.after.omap.erase(key) && !now.step)
         blame("a key is removed that isn't there");
-    return 0;
+    return now.after.present ? 0 : -ENOENT;
 }
 
 int cls_cxx_map_write_header(cls_method_context_t, ceph::bufferlist *header) {
@@ -461,23 +468,31 @@ one_call get_call() {
     made.with.failing = unsigned(get_number(4));
     made.with.refused_growth = unsigned(get_number(4));
     made.with.refused_new = unsigned(get_number(4));
-    made.with.before = made.with.after = get_object();
+    made.with.before = get_object();
+    made.with.left = made.with.step ? get_object() : made.with.before;
+    made.with.after = made.with.left;
     return made;
 }
 
-// What the OSD does with a method's call: a read of an absent object isn't asked, and a change is
-// kept if the result is no error.
+// Of the operation nothing is done.
+int refused(int result) {
+    now.after = now.before;
+    return result;
+}
+
+// What the OSD does with a method's call: an operation that only reads isn't done on an absent object, and all
+// is as before the operation if the result is an error.
 int operate(const one_call &asked, std::string &output) {
     now = asked.with;
     auto found = classes.find(asked.class_name);
     if (found == classes.end())
-        return -EOPNOTSUPP;
+        return refused(-EOPNOTSUPP);
     auto method = found->second.methods.find(asked.method);
     if (method == found->second.methods.end())
-        return -EOPNOTSUPP;
+        return refused(-EOPNOTSUPP);
     now.may_read_alone = !(method->second.flags & CLS_METHOD_WR);
-    if (now.may_read_alone && !now.before.present)
-        return -ENOENT;
+    if (now.may_read_alone && !now.before.present && !now.step)
+        return refused(-ENOENT);
     // The request lies at the end of a block of its own length, so that a read past it is seen.
     ceph::bufferlist in, out;
     in.push_back(ceph::buffer::copy(asked.request.data(), unsigned(asked.request.size())));
@@ -488,8 +503,8 @@ int operate(const one_call &asked, std::string &output) {
     if (result < 0 && !output.empty())
         blame("output of a refused call");
     if (result < 0)
-        now.after = now.before;
-    else if (!(now.after == now.before) && output.size() > now.reply_limit)
+        return refused(result);
+    if (now.has_changed && output.size() > now.reply_limit)
         blame("a reply of a change that the OSD answers -75, with the change standing");
     return result;
 }

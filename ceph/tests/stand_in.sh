@@ -5,8 +5,8 @@
 #     ceph/tests/stand_in.sh PLUGIN OUT IMAGES address,undefined|thread|fuzzer
 #
 # PLUGIN is the folder of the plug-in's sources. What is in OUT and newer is taken. OUT gets the
-# program `stand_in`, or of `fuzzer`, which takes clang, the program `fuzz`, with the tests of memory
-# and of arithmetic; and a folder `classes` to open: the class `bpf`, with its methods for classes
+# programs `stand_in` and `lists`, or of `fuzzer`, which takes clang, the program `fuzz`, with the tests of
+# memory and of arithmetic; and a folder `classes` to open: the class `bpf`, with its methods for classes
 # that are sent, and of each image in the folder IMAGES a class; besides `cut`, whose image is cut,
 # `none`, which has no image, and `a_link`, a link to another class's file that is opened before it.
 #
@@ -16,10 +16,10 @@ here=$(cd "$(dirname "$0")" && pwd)
 [ $# = 4 ] || { sed -n 's/^#  *\(ceph\/\)/\1/p' "$0" >&2; exit 2; }
 plugin=$1 out=$2 images=$3 sanitizers=$4
 classes=$out/classes libraries=/usr/lib/$(uname -m)-linux-gnu
-compiler=g++ program=stand_in of_objects=() of_program=()
+compiler=g++ programs=(stand_in lists) of_objects=() of_program=()
 if [ "$sanitizers" = fuzzer ]; then
     # An OSD calls a method as a function of other pointers than it takes, which clang would tell of.
-    compiler=clang++ program=fuzz sanitizers=address,undefined
+    compiler=clang++ programs=(fuzz) sanitizers=address,undefined
     of_objects=(-O1 -fsanitize=fuzzer-no-link -fno-sanitize=function) of_program=(-fsanitize=fuzzer)
 fi
 mkdir -p "$classes"
@@ -27,23 +27,29 @@ flags=(-std=c++17 -g1 -O0 -fPIC -Wall -Wextra -Werror "-fsanitize=$sanitizers" -
     "-I$SILLARNICA_INCLUDE" "${of_objects[@]}")
 
 jobs=()
-for file in "$plugin"/{engine,classes,native,bpf,call,object,sum,stub}.cc "$plugin/../tests/$program.cc"; do
-    object=$out/$(basename "$file" .cc).o
+for file in "$plugin"/{engine,classes,native,bpf,call,edits,object,sum,stub} "${programs[@]/#/$plugin/../tests/}"; do
+    object=$out/$(basename "$file").o
     is_old=
-    for source in "$file" "$plugin"/*.h; do if [ ! "$object" -nt "$source" ]; then is_old=yes; fi; done
+    for source in "$file.cc" "$plugin"/*.h "$plugin/../tests/stand_in.cc"; do
+        if [ ! "$object" -nt "$source" ]; then is_old=yes; fi
+    done
     [ -n "$is_old" ] || continue
-    $compiler "${flags[@]}" -c "$file" -o "$object" &
+    $compiler "${flags[@]}" -c "$file.cc" -o "$object" &
     jobs+=($!)
 done
 for job in "${jobs[@]}"; do wait "$job"; done
 
 $compiler -shared "-fsanitize=$sanitizers" -o "$classes/sillarnica_engine.so" \
-    "$out"/{engine,classes,native,bpf,call,object,sum}.o "$SILLARNICA_ARCHIVE" "$SILLARNICA_LIBC" \
+    "$out"/{engine,classes,native,bpf,call,edits,object,sum}.o "$SILLARNICA_ARCHIVE" "$SILLARNICA_LIBC" \
     -Wl,--wrap=malloc,--wrap=realloc -Wl,-soname,sillarnica_engine.so -Wl,--version-script="$plugin/engine.map"
 $compiler -shared "-fsanitize=$sanitizers" -o "$classes/libcls_bpf.so" "$out/stub.o" "$classes/sillarnica_engine.so" \
     -Wl,-rpath,'$ORIGIN' -Wl,--version-script="$plugin/stub.map"
-$compiler "-fsanitize=$sanitizers" "${of_program[@]}" -o "$out/$program" "$out/$program.o" -rdynamic -ldl -lpthread \
-    -L"$libraries/ceph" -l:libceph-common.so.2 -Wl,-rpath,"$libraries/ceph"
+for program in "${programs[@]}"; do
+    parts=("$out/$program.o")
+    if [ "$program" = lists ]; then parts+=("$out"/{edits,object}.o); fi
+    $compiler "-fsanitize=$sanitizers" "${of_program[@]}" -o "$out/$program" "${parts[@]}" -rdynamic -ldl -lpthread \
+        -L"$libraries/ceph" -l:libceph-common.so.2 -Wl,-rpath,"$libraries/ceph"
+done
 
 touch "$classes/bpf.sent"
 for image in "$images"/*.img; do
