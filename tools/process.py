@@ -21,9 +21,12 @@ from process_explained import EXPLAINED_ROWS
 from process_objects import OBJECT_ROWS
 from process_rows import CLOSED, FILES, FULL, LINKS, MODES, NEW, UNREAD
 from process_sim import SIM_ROWS
+from process_tests import TEST_ROWS
+from process_traces import TRACE_ROWS
 from process_words import WORD_ROWS
 
-ROWS = [*process_rows.ROWS, *WORD_ROWS, *CLASS_ROWS, *OBJECT_ROWS, *EXPLAINED_ROWS, *SIM_ROWS, *CLUSTER_ROWS]
+ROWS = [*process_rows.ROWS, *WORD_ROWS, *CLASS_ROWS, *OBJECT_ROWS, *EXPLAINED_ROWS, *TEST_ROWS, *TRACE_ROWS, *SIM_ROWS,
+        *CLUSTER_ROWS]
 
 # A run has five minutes: the largest class takes seconds.
 SECONDS = 300

@@ -1,4 +1,6 @@
 """Rows of tools/process.py on what --explain adds below a line."""
+import struct
+
 from process_rows import Row, lines_of, rows_of
 
 # Classes, and what is known of each where it is refused.
@@ -24,7 +26,8 @@ verify - --explain / .method f r 0 0 / mov r0, 0 / exit / mov r0, 1
 verify - --explain / .method f r 0 0 / mov r1, r10 / call 13 / exit
 => 1 refused method 0 slot 1: 13 HelperArgument // method f, IN 0, OUT 0 // call 13 // r1 = stack + 512 //
     wanted: the arguments in the order of the helper, and an output length of at most OUT //
-    see docs/VERIFIER.md, 13 HelperArgument // r1 takes a number // line 3: call 13
+    see docs/VERIFIER.md, 13 HelperArgument // `call 13` is `out_len(length)`: r1 is `length` //
+    r1 takes a number // line 3: call 13
 verify - --explain / .method f r 0 0 / mov r0, 0 / ja -2 / exit
 => 1 refused method 0 slot 1: 1 Backward // method f, IN 0, OUT 0 // ja -2 //
     wanted: a jump forward: the distance is at least 0 // see docs/VERIFIER.md, 1 Backward //
@@ -57,7 +60,8 @@ verify cut --explain
 => 1 line 1: 1 Word // line 1: before // wanted: first an instruction's word, or a label `name:`, `.method` or
     `.rules` // see docs/ASSEMBLY.md, 1 Word
 pack out f:r:0:0:cut --explain
-=> 1 image refused after 0 methods: 1 Truncated // method f, cut
+=> 1 image refused after 0 methods: 1 Truncated // method f, cut //
+    it ends within a field: it was cut, or is none; code has 8 bytes a slot
 """
 
 # Honest mistakes: texts, what is explained of each, and the change that it leads to, which is accepted.
@@ -66,20 +70,20 @@ MISTAKES = r"""
     mov r1, r10 / add r1, -64 / mov r2, r0 / mov r3, r6 / mov r4, 64 / call 9 / end: / mov r0, 0 / exit
 => 1 refused method 0 slot 12: 10 Bounds // method f, IN 0, OUT 64 // call 9 // r1 = stack + 448 //
     r2 = any number // r3 = output + 0 // r4 = 64 // wanted: a pointer, and all of the bytes within its region //
-    see docs/VERIFIER.md, 10 Bounds //
+    see docs/VERIFIER.md, 10 Bounds // `call 9` is `map_get(key, length, to, room)`: r2 is `length` //
     r2 may be 18446744073709551615: at most 64 bytes from stack + 448; `jgt r2, 64, ..` before it // line 14: call 9
 mended by call 9 / end => jgt r2, 64, end / call 9 / end
 .method f r 8 64 / mov r4, 64 / call 9 / mov r1, r0 / call 13 / end: / exit
 => 1 refused method 0 slot 3: 13 HelperArgument // method f, IN 8, OUT 64 // call 13 // r1 = any number //
     wanted: the arguments in the order of the helper, and an output length of at most OUT //
-    see docs/VERIFIER.md, 13 HelperArgument //
+    see docs/VERIFIER.md, 13 HelperArgument // `call 13` is `out_len(length)`: r1 is `length` //
     r1 may be 18446744073709551615: at most OUT, 64; `jgt r1, 64, ..` before it // line 5: call 13
 mended by call 13 => jgt r1, 64, end / call 13
 .method f r 0 0 / lddw r1, 0x0 / mov r2, 5 / mov r3, r10 / add r3, -8 / mov r4, 8 / call 6 / exit
 => 1 refused method 0 slot 6: 13 HelperArgument // method f, IN 0, OUT 0 // call 6 // r1 = 0 // r2 = 5 //
     r3 = stack + 504 // r4 = 8 //
     wanted: the arguments in the order of the helper, and an output length of at most OUT //
-    see docs/VERIFIER.md, 13 HelperArgument //
+    see docs/VERIFIER.md, 13 HelperArgument // `call 6` is `getxattr(name, length, to, room)`: r1 is `name` //
     r1 takes a pointer, made of r1 (input), r3 (output) or r10 (stack): a string is written to the stack, as `stdw
     [r10-8], 7` and `mov r1, r10`, `add r1, -8` //
     line 7: call 6
@@ -88,7 +92,7 @@ mended by lddw r1, 0x0 => stdw [r10-16], 0x6e756f63 / stb [r10-12], 0x74 / mov r
     mov r0, 0 / exit
 => 1 refused method 0 slot 5: 10 Bounds // method f, IN 8, OUT 64 // call 3 // r1 = 0 // r2 = output + 0 //
     r3 = 0..9223372036854775807 // wanted: a pointer, and all of the bytes within its region //
-    see docs/VERIFIER.md, 10 Bounds //
+    see docs/VERIFIER.md, 10 Bounds // `call 3` is `write(offset, bytes, length)`: r3 is `length` //
     r3 may be 9223372036854775807: at most 64 bytes from output + 0; `jgt r3, 64, ..` before it // line 7: call 3
 mended by call 3 => jgt r3, 64, end / call 3
 .method f r 0 64 / mov r6, r3 / mov r1, 0 / mov r2, r3 / mov r3, 64 / call 2 / jslt r0, 0, end / add r6, r0 /
@@ -119,7 +123,9 @@ mended by call 19 => call 15
 mended by call local +1 / exit / mov => mov
 .rules 2 / .method f r 0 8 / stxdw [r10-12], r3 / ldxdw r3, [r10-12] / ldxb r0, [r3+0] / exit
 => 1 refused method 0 slot 0: 9 PointerStored // method f, IN 0, OUT 8 // stxdw [r10-12], r3 //
-    r3 = output + 0 // r10 = stack + 512 // wanted: a number to store // see docs/VERIFIER.md, 9 PointerStored //
+    r3 = output + 0 // r10 = stack + 512 //
+    wanted: a number to store, or a pointer whole, in the stack, at a multiple of 8 //
+    see docs/VERIFIER.md, 9 PointerStored //
     [r10-16] = 0 // [r10-8] = 0 //
     a pointer is stored whole: by `stxdw`, in the stack, at one place that is a multiple of 8, as [r10-8] or [r10-16]
     //
@@ -150,8 +156,8 @@ mended by add r3 => mov32 r4, r4 / add r3
 .rules 3 / .method f r 8 8 / ldxdw r4, [r1+0] / mov r6, r4 / mov r0, 0 / jgt r6, 9, end / call 9 / end: / exit
 => 1 refused method 0 slot 4: 10 Bounds // method f, IN 8, OUT 8 // call 9 // r1 = input + 0 // r2 = 0..8 //
     r3 = output + 0 // r4 = 0..9, a copy of r6 // wanted: a pointer, and all of the bytes within its region //
-    see docs/VERIFIER.md, 10 Bounds // r4 may be 9: at most 8 bytes from output + 0; `jgt r4, 8, ..` before it //
-    line 7: call 9
+    see docs/VERIFIER.md, 10 Bounds // `call 9` is `map_get(key, length, to, room)`: r4 is `room` //
+    r4 may be 9: at most 8 bytes from output + 0; `jgt r4, 8, ..` before it // line 7: call 9
 mended by jgt r6, 9 => jgt r6, 8
 .method f r 8 8 / jeq r2, 0, none / mov r4, r3 / ja end / none: / mov r4, 0 / end: / mov r0, r4 / exit
 => 1 refused method 0 slot 4: 5 UnsetRead // method f, IN 8, OUT 8 // mov r0, r4 // r4 = unset //
@@ -176,15 +182,205 @@ mended by r4 => r7
 .method f r 0 4 / stw [r3+0], 7 / mov r1, 8 / call 13 / exit
 => 1 refused method 0 slot 2: 13 HelperArgument // method f, IN 0, OUT 4 // call 13 // r1 = 8 //
     wanted: the arguments in the order of the helper, and an output length of at most OUT //
-    see docs/VERIFIER.md, 13 HelperArgument // r1 may be 8: at most OUT, 4; `jgt r1, 4, ..` before it //
-    line 4: call 13
+    see docs/VERIFIER.md, 13 HelperArgument // `call 13` is `out_len(length)`: r1 is `length` //
+    r1 is 8: at most OUT, 4; a smaller number, or OUT is at least 8 // line 4: call 13
 mended by mov r1, 8 => mov r1, 4
+.method f r 0 4 / stw [r3+0], 7 / mov r1, 8 / call 13 / exit
+=> 1 refused method 0 slot 2: 13 HelperArgument // method f, IN 0, OUT 4 // call 13 // r1 = 8 //
+    wanted: the arguments in the order of the helper, and an output length of at most OUT //
+    see docs/VERIFIER.md, 13 HelperArgument // `call 13` is `out_len(length)`: r1 is `length` //
+    r1 is 8: at most OUT, 4; a smaller number, or OUT is at least 8 // line 4: call 13
+mended by r 0 4 => r 0 8
+.method f r 0 0 / call 15 / mov r1, r0 / call 13 / mov r0, 0 / exit
+=> 1 refused method 0 slot 2: 13 HelperArgument // method f, IN 0, OUT 0 // call 13 // r1 = any number //
+    wanted: the arguments in the order of the helper, and an output length of at most OUT //
+    see docs/VERIFIER.md, 13 HelperArgument // `call 13` is `out_len(length)`: r1 is `length` //
+    r1 may be 18446744073709551615: at most OUT, 0; a greater OUT // line 4: call 13
+mended by r 0 0 / call 15 => r 0 8 / call 15 / and r0, 7
+.method f r 8 64 / mov r4, 100 / call 9 / mov r0, 0 / exit
+=> 1 refused method 0 slot 1: 10 Bounds // method f, IN 8, OUT 64 // call 9 // r1 = input + 0 // r2 = 0..8 //
+    r3 = output + 0 // r4 = 100 // wanted: a pointer, and all of the bytes within its region //
+    see docs/VERIFIER.md, 10 Bounds //
+    `call 9` is `map_get(key, length, to, room)`: r4 is `room` //
+    r4 is 100: at most 64 bytes from output + 0; a smaller number, or OUT is at least 100 // line 3: call 9
+mended by mov r4, 100 => mov r4, 64
+.method f r 8 64 / add r3, 32 / mov r4, 64 / call 9 / mov r0, 0 / exit
+=> 1 refused method 0 slot 2: 10 Bounds // method f, IN 8, OUT 64 // call 9 // r1 = input + 0 // r2 = 0..8 //
+    r3 = output + 32 // r4 = 64 // wanted: a pointer, and all of the bytes within its region //
+    see docs/VERIFIER.md, 10 Bounds //
+    `call 9` is `map_get(key, length, to, room)`: r4 is `room` //
+    r4 is 64: at most 32 bytes from output + 32; a smaller number, or OUT is at least 96 // line 4: call 9
+mended by r 8 64 => r 8 96
+.method f rw 0 0 / mov r1, r10 / mov r2, 8 / mov r3, r10 / add r3, -8 / mov r4, 8 / call 10 / exit
+=> 1 refused method 0 slot 5: 10 Bounds // method f, IN 0, OUT 0 // call 10 // r1 = stack + 512 // r2 = 8 //
+    r3 = stack + 504 // r4 = 8 // wanted: a pointer, and all of the bytes within its region //
+    see docs/VERIFIER.md, 10 Bounds //
+    `call 10` is `map_set(key, length, value, length)`: r2 is `length` //
+    r2 is 8: at most 0 bytes from stack + 512; a smaller number, or a lower place // line 7: call 10
+mended by mov r2, 8 => add r1, -8 / mov r2, 8
+.method f r 8 0 / mov r3, r1 / mov r4, 8 / call 9 / mov r0, 0 / exit
+=> 1 refused method 0 slot 2: 11 ReadOnlyRegion // method f, IN 8, OUT 0 // call 9 // r1 = input + 0 // r2 = 0..8 //
+    r3 = input + 0 // r4 = 8 // wanted: a pointer to the output or the stack //
+    see docs/VERIFIER.md, 11 ReadOnlyRegion // `call 9` is `map_get(key, length, to, room)`: r3 is `to` //
+    the call writes where r3 points, and the input is read only: give it the output or the stack // line 4: call 9
+mended by mov r3, r1 => mov r3, r10 / add r3, -8
+.method f r 8 64 / add r3, 70 / mov r4, 8 / call 9 / mov r0, 0 / exit
+=> 1 refused method 0 slot 2: 10 Bounds // method f, IN 8, OUT 64 // call 9 // r1 = input + 0 // r2 = 0..8 //
+    r3 = output + 70 // r4 = 8 // wanted: a pointer, and all of the bytes within its region //
+    see docs/VERIFIER.md, 10 Bounds //
+    `call 9` is `map_get(key, length, to, room)`: r3 is `to` //
+    r3 may be output + 70: at most output + 56 for the range // a lower place, or a greater OUT // line 4: call 9
+mended by add r3, 70 => add r3, 56
+.method f r 8 64 / add r3, -8 / mov r4, 8 / call 9 / mov r0, 0 / exit
+=> 1 refused method 0 slot 2: 10 Bounds // method f, IN 8, OUT 64 // call 9 // r1 = input + 0 // r2 = 0..8 //
+    r3 = output - 8 // r4 = 8 // wanted: a pointer, and all of the bytes within its region //
+    see docs/VERIFIER.md, 10 Bounds //
+    `call 9` is `map_get(key, length, to, room)`: r3 is `to` //
+    r3 may be output - 8: at least output + 0 for the range // a higher place: output + 0 is its first byte //
+    line 4: call 9
+mended by add r3, -8 => add r3, 8
+.method f r 8 0 / ldxb r0, [r1-1] / exit
+=> 1 refused method 0 slot 0: 10 Bounds // method f, IN 8, OUT 0 // ldxb r0, [r1-1] // r1 = input + 0 //
+    wanted: a pointer, and all of the bytes within its region // see docs/VERIFIER.md, 10 Bounds //
+    it may be 1 bytes from input - 1 on: from input + 0 on at least // a higher place: input + 0 is its first byte //
+    line 2: ldxb r0, [r1-1]
+mended by r1-1 => r1+1
+.method f r 8 0 / stxdw [r10-520], r2 / mov r0, 0 / exit
+=> 1 refused method 0 slot 0: 10 Bounds // method f, IN 8, OUT 0 // stxdw [r10-520], r2 // r2 = 0..8 //
+    r10 = stack + 512 // wanted: a pointer, and all of the bytes within its region // see docs/VERIFIER.md, 10 Bounds //
+    it may be 8 bytes from stack - 8 on: from stack + 0 on at least //
+    a higher place: the stack is [r10-512] to [r10-1] // line 2: stxdw [r10-520], r2
+mended by -520 => -512
+.method f r 0 8 / add r3, -1 / stb [r3+0], 1 / mov r0, 0 / exit
+=> 1 refused method 0 slot 1: 10 Bounds // method f, IN 0, OUT 8 // stb [r3+0], 1 // r3 = output - 1 //
+    wanted: a pointer, and all of the bytes within its region // see docs/VERIFIER.md, 10 Bounds //
+    it may be 1 bytes from output - 1 on: from output + 0 on at least // a higher place: output + 0 is its first byte //
+    line 3: stb [r3+0], 1
+mended by add r3, -1 => add r3, 1
+.method f r 4 0 / ldxdw r0, [r1+0] / exit
+=> 1 refused method 0 slot 0: 10 Bounds // method f, IN 4, OUT 0 // ldxdw r0, [r1+0] // r1 = input + 0 //
+    wanted: a pointer, and all of the bytes within its region // see docs/VERIFIER.md, 10 Bounds //
+    it may be 8 bytes from input + 0 on, of 4: too few // IN is at least 8 // line 2: ldxdw r0, [r1+0]
+mended by r 4 0 => r 8 0
+.method f r 0 0 / stw [r3+4], 1 / mov r0, 0 / exit
+=> 1 refused method 0 slot 0: 10 Bounds // method f, IN 0, OUT 0 // stw [r3+4], 1 // r3 = output + 0 //
+    wanted: a pointer, and all of the bytes within its region // see docs/VERIFIER.md, 10 Bounds //
+    it may be 4 bytes from output + 4 on, of 0: too few // OUT is at least 8 // line 2: stw [r3+4], 1
+mended by r 0 0 => r 0 8
+.method f r 8 16 / mov r0, 0 / and r2, 7 / add r3, 4 / sub r3, r2 / stb [r3+0], 1 / end: / exit
+=> 1 refused method 0 slot 4: 10 Bounds // method f, IN 8, OUT 16 // stb [r3+0], 1 //
+    r3 = output + any number, signed -3..4 // wanted: a pointer, and all of the bytes within its region //
+    see docs/VERIFIER.md, 10 Bounds //
+    it may be 1 bytes from output - 3 on: from output + 0 on at least //
+    bound what moves r3: no more is subtracted than was added, by `jgt` before the `sub`, and no negative number is
+    added, by `jslt` before the `add` //
+    line 6: stb [r3+0], 1
+mended by and r2, 7 => jgt r2, 4, end
+.method f r 0 0 / jeq r2, 1, end / mov r0, 0 / exit / end:
+=> 1 refused method 0 slot 0: 2 Target // method f, IN 0, OUT 0 // jeq r2, 1, +2 // r2 = 0 //
+    wanted: a jump to a slot at which an instruction begins // see docs/VERIFIER.md, 2 Target //
+    the target is slot 3, and the last one is 2: `exit` at the end, or a nearer label // line 2: jeq r2, 1, end
+mended by end: => end: / mov r0, 1 / exit
+.method f r 0 0 / call 15 / mov r0, r4 / exit
+=> 1 refused method 0 slot 1: 5 UnsetRead // method f, IN 0, OUT 0 // mov r0, r4 // r4 = unset //
+    wanted: each of these registers set on every way that leads here // see docs/VERIFIER.md, 5 UnsetRead //
+    no instruction before it sets r4: set it first // line 3: mov r0, r4
+mended by mov r0, r4 => mov r4, 1 / mov r0, r4
+.method f r 8 0 / jeq r2, 0, other / mov r4, 1 / mov r0, r4 / exit / other: / mov r0, r4 / exit
+=> 1 refused method 0 slot 4: 5 UnsetRead // method f, IN 8, OUT 0 // mov r0, r4 // r4 = unset //
+    wanted: each of these registers set on every way that leads here // see docs/VERIFIER.md, 5 UnsetRead //
+    no way that leads here sets r4: set it on each, or before they part // line 7: mov r0, r4
+mended by jeq r2 => mov r4, 0 / jeq r2
 """
 
+# Mistakes in texts, as those of classes: what is said of each, and a text that is accepted.
+TEXT_MISTAKES = r"""
+.method f r 8 0 / ldxw r0, [r1 + 4] / exit
+=> 1 line 2: 2 Operand // line 2: ldxw r0, [r1 + 4] // form: `ldxw r0, [r1+4]` //
+    wanted: the operands of the word, in its form // see docs/ASSEMBLY.md, 2 Operand
+mended by r1 + 4 => r1+4
+.method f r 8 0 / ldxw r0, r1 / exit
+=> 1 line 2: 2 Operand // line 2: ldxw r0, r1 // form: `ldxw r0, [r1+4]` //
+    wanted: the operands of the word, in its form // see docs/ASSEMBLY.md, 2 Operand
+mended by r0, r1 => r0, [r1+4]
+.method f r 0 8 / stxb r2, [r3+0] / mov r0, 0 / exit
+=> 1 line 2: 2 Operand // line 2: stxb r2, [r3+0] // form: `stxb [r10-8], r2` //
+    wanted: the operands of the word, in its form // see docs/ASSEMBLY.md, 2 Operand
+mended by r2, [r3+0] => [r3+0], r2
+.method f r 0 0 / mov r1, 0 / mov r2, r10 / add r2, -8 / mov r3, 8 / call read / exit
+=> 1 line 6: 2 Operand // line 6: call read // form: `call 2` // read is `call 2` //
+    wanted: the operands of the word, in its form // see docs/ASSEMBLY.md, 2 Operand
+mended by call read => call 2
+.method f r 0 0 / mov r0, -EBUSY / exit
+=> 1 line 2: 2 Operand // line 2: mov r0, -EBUSY // form: `mov r1, r2` or `mov r1, -5` //
+    -EBUSY: a method answers the number -16 // wanted: the operands of the word, in its form //
+    see docs/ASSEMBLY.md, 2 Operand
+mended by -EBUSY => -16
+.method f r 0 0 / mov w0, 0 / exit
+=> 1 line 2: 2 Operand // line 2: mov w0, 0 // form: `mov r1, r2` or `mov r1, -5` //
+    wanted: the operands of the word, in its form // see docs/ASSEMBLY.md, 2 Operand
+mended by w0 => r0
+.method f r 8 0 / mov r0, 0 / jeq r2, 0, 1 / mov r0, 1 / exit
+=> 1 line 3: 2 Operand // line 3: jeq r2, 0, 1 // form: `jeq r2, 15, +3` or `jeq r2, r3, end` //
+    wanted: the operands of the word, in its form // see docs/ASSEMBLY.md, 2 Operand
+mended by jeq r2, 0, 1 => jeq r2, 0, +1
+.method f r 0 0 / mov r0, 0 / exit r0
+=> 1 line 3: 2 Operand // line 3: exit r0 // form: `exit` alone // wanted: the operands of the word, in its form //
+    see docs/ASSEMBLY.md, 2 Operand
+mended by exit r0 => exit
+.method F ro 0 0 / mov r0, 0 / exit
+=> 1 line 1: 2 Operand // line 1: .method F ro 0 0 // form: `.method name rw 8 8` //
+    wanted: the operands of the word, in its form // see docs/ASSEMBLY.md, 2 Operand
+mended by F ro => f r
+.rules 1 / .method f r 0 0 / mov r0, 0 / exit
+=> 1 line 1: 2 Operand // line 1: .rules 1 // form: `.rules 2` or `.rules 3` //
+    wanted: the operands of the word, in its form // see docs/ASSEMBLY.md, 2 Operand
+mended by rules 1 => rules 2
+.method f r 0 0 / mov r0, 0 / goto end / end: / exit
+=> 1 line 3: 1 Word // line 3: goto end // write `ja end` //
+    wanted: first an instruction's word, or a label `name:`, `.method` or `.rules` // see docs/ASSEMBLY.md, 1 Word
+mended by goto => ja
+.method f r 0 0 / r0 = 0 / exit
+=> 1 line 2: 1 Word // line 2: r0 = 0 // write a word first, as `mov r0, 0` or `add r0, r1` //
+    wanted: first an instruction's word, or a label `name:`, `.method` or `.rules` // see docs/ASSEMBLY.md, 1 Word
+mended by r0 = 0 => mov r0, 0
+.method f r 8 0 / mov r0, 0 / if r2 == 0 goto end / mov r0, 1 / end: / exit
+=> 1 line 3: 1 Word // line 3: if r2 == 0 goto end // write a jump as `jeq r2, 15, end` //
+    wanted: first an instruction's word, or a label `name:`, `.method` or `.rules` // see docs/ASSEMBLY.md, 1 Word
+mended by if r2 == 0 goto end => jeq r2, 0, end
+.method f r 0 0 / mov r0, 0 / return
+=> 1 line 3: 1 Word // line 3: return // write `exit`, after `mov r0, 0` //
+    wanted: first an instruction's word, or a label `name:`, `.method` or `.rules` // see docs/ASSEMBLY.md, 1 Word
+mended by return => exit
+.method f r 8 0 / ldr r0, [r1+0] / exit
+=> 1 line 2: 1 Word // line 2: ldr r0, [r1+0] // write `ldxdw r0, [r1+0]` //
+    wanted: first an instruction's word, or a label `name:`, `.method` or `.rules` // see docs/ASSEMBLY.md, 1 Word
+mended by ldr => ldxdw
+.method f r 0 0 / # nothing / mov r0, 0 / exit
+=> 1 line 2: 1 Word // line 2: # nothing // write a comment after `;` //
+    wanted: first an instruction's word, or a label `name:`, `.method` or `.rules` // see docs/ASSEMBLY.md, 1 Word
+mended by # => ;
+.text / .method f r 0 0 / mov r0, 0 / exit
+=> 1 line 1: 1 Word // line 1: .text // write `.method name rw 8 8` before a method's code //
+    wanted: first an instruction's word, or a label `name:`, `.method` or `.rules` // see docs/ASSEMBLY.md, 1 Word
+mended by .text / => ; /
+"""
 
-def mistakes():
-    """The rows of the mistakes: of each the text that is refused, and the one that is accepted."""
-    lines = MISTAKES.strip("\n").replace("\n    ", " ").split("\n")
+# Texts that end or begin with what can't be seen.
+WORD = "wanted: first an instruction's word, or a label `name:`, `.method` or `.rules` // see docs/ASSEMBLY.md, 1 Word"
+OPERAND = "wanted: the operands of the word, in its form // see docs/ASSEMBLY.md, 2 Operand"
+CR_LF = r"\x0d // the line ends with CR LF: end each line with LF alone // "
+UNSEEN = [
+    (b".method f r 0 0\nmov r0, 0\nexit\r\n", "line 3: 1 Word // line 3: exit" + CR_LF + WORD),
+    (b".method f r 0 0\r\nmov r0, 0\r\nexit\r\n", "line 1: 2 Operand // line 1: .method f r 0 0" + CR_LF + OPERAND),
+    (b"\xef\xbb\xbf.method f r 0 0\nmov r0, 0\nexit\n", r"line 1: 1 Word // line 1: \xef\xbb\xbf.method f r 0 0 // "
+     "the text begins with a byte order mark: leave it out // " + WORD),
+]
+
+
+def mistakes(table):
+    """The rows of mistakes: of each the text that is refused, and the one that is accepted."""
+    lines = table.strip("\n").replace("\n    ", " ").split("\n")
     for text, answer, change in zip(lines[::3], lines[1::3], lines[2::3], strict=True):
         yield from rows_of(f"verify - --explain / {text}\n{answer}")
         old, _, new = change.removeprefix("mended by ").partition(" => ")
@@ -201,12 +397,63 @@ LAST = lines_of(
     "wanted: a number in register 0 // see docs/VERIFIER.md, 15 ReturnsPointer // "
     "`mov r0, 0` before it, or another number; output goes by `call 13` // line 4098: exit")
 
-NO_IMAGE = lines_of(
-    "image refused after 0 methods: 1 Truncated // "
-    "wanted: an image, which begins with RCL1, RCL2 or RCL3, or a class's text in UTF-8 // see docs/IMAGE.md")
+IMAGE_WANTED = "wanted: an image, which begins with RCL1, RCL2 or RCL3, or a class's text in UTF-8 // see docs/IMAGE.md"
+EXIT = bytes.fromhex("b700000000000000 9500000000000000")
+
+
+def method_of(name, code, flags=1, slots=None):
+    """A method of an image."""
+    count = len(code) // 8 if slots is None else slots
+    return bytes([len(name)]) + name + struct.pack("<BHHH", flags, 0, 0, count) + code
+
+
+def image_of(*methods, magic=b"RCL1"):
+    return magic + struct.pack("<HH", len(methods), 0) + b"".join(methods)
+
+
+# Damaged images, and what is said of each.
+IMAGES = [
+    (b"RCL1", "0 methods: 1 Truncated // it ends within a field: it was cut, or is none; code has 8 bytes a slot"),
+    (image_of(method_of(b"f", EXIT))[:-3],
+     "0 methods: 1 Truncated // it ends within a field: it was cut, or is none; code has 8 bytes a slot"),
+    (image_of(method_of(b"f", EXIT), magic=b"RCL9"),
+     "0 methods: 2 Magic // "
+     "its first bytes aren't RCL1, RCL2 or RCL3, or the two after the count of methods aren't zero"),
+    (image_of(method_of(b"f", bytes.fromhex("db12000000000000") + EXIT)),
+     "0 methods, slot 0: 3 Opcode // method 0 slot 0: db 12 00 00 00 00 00 00: atomics aren't taken // "
+     "no operation of the language has this first byte"),
+    (image_of(method_of(b"f", EXIT), method_of(b"g", EXIT[:8] + bytes.fromhex("8d00000000000000") + EXIT)),
+     "1 methods, slot 1: 3 Opcode // method 1 slot 1: 8d 00 00 00 00 00 00 00: calls of a register aren't taken // "
+     "no operation of the language has this first byte"),
+    (image_of(method_of(b"f", bytes.fromhex("3000000000000000") + EXIT)),
+     "0 methods, slot 0: 3 Opcode // method 0 slot 0: 30 00 00 00 00 00 00 00: loads from a packet aren't taken // "
+     "no operation of the language has this first byte"),
+    (image_of(method_of(b"f", EXIT + b"\xff" * 8)),
+     "0 methods, slot 2: 3 Opcode // method 0 slot 2: ff ff ff ff ff ff ff ff // "
+     "no operation of the language has this first byte"),
+    (image_of(method_of(b"f", bytes.fromhex("b70b000000000000") + EXIT)),
+     "0 methods, slot 0: 4 Register // method 0 slot 0: b7 0b 00 00 00 00 00 00 // "
+     "registers are r0 to r10: the second byte has dst in its low four bits, src in its high four"),
+    (image_of(method_of(b"f", bytes.fromhex("9500010000000000") + EXIT)),
+     "0 methods, slot 0: 5 NonzeroField // method 0 slot 0: 95 00 01 00 00 00 00 00 // "
+     "a field that the operation doesn't use isn't zero, or its src, offset or imm selects no operation"),
+    (image_of(method_of(b"f", EXIT + bytes.fromhex("1800000001000000"))),
+     "0 methods, slot 2: 6 WideHalf // method 0 slot 2: 18 00 00 00 01 00 00 00 // "
+     "a wide load has a second slot, in which all but the number's high half is zero"),
+    (image_of(method_of(b"F", EXIT)), "0 methods: 7 Name // a method's name has 1 to 64 of a-z, 0-9 and _"),
+    (image_of(method_of(b"g", EXIT), method_of(b"f", EXIT)),
+     "1 methods: 8 Order // methods stand in the order of their names, each once"),
+    (image_of(method_of(b"f", EXIT, flags=4)), "0 methods: 9 Flags // flags are 1 (r), 2 (w) or 3 (rw)"),
+    (image_of(method_of(b"f", EXIT, slots=0)),
+     "0 methods: 10 Limit // "
+     "a class has 1 to 32 methods, of 1 to 4096 slots; IN and OUT are at most 4096, by rule set 3 65535"),
+    (image_of(method_of(b"f", EXIT)) + b"\0", "1 methods: 11 Trailing // bytes follow the last method"),
+]
 
 EXPLAINED_ROWS = [
-    *rows_of(EXPLAINED), *mistakes(),
-    Row("verify - --all --explain", NO_IMAGE, "", 1, stdin=b"RCL1"),
+    *rows_of(EXPLAINED), *mistakes(MISTAKES), *mistakes(TEXT_MISTAKES),
+    *(Row("verify - --explain", lines_of(said), "", 1, stdin=text) for text, said in UNSEEN),
+    *(Row("verify - --all --explain", lines_of(f"image refused after {said} // {IMAGE_WANTED}"), "", 1, stdin=image)
+      for image, said in IMAGES),
     Row("verify - --explain", LAST, "", 1, stdin=LAST_TEXT.encode(), slow=True),
 ]

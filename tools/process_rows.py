@@ -145,7 +145,7 @@ COMMANDS = {
     "run": (["<IN>", "<METHOD>"], {
         "--input": " <HEX>", "--caller": " <N>", "--object": " <HEX>", "--xattr": " <NAME=HEX>",
         "--key": " <KEY=HEX>", "--load": " <FILE>", "--save": " <FILE>", "--show": "",
-        "--explain": ""}),
+        "--trace": "", "--explain": ""}),
     "asm": (["<IN>", "<OUT>"], {"--explain": ""}),
     "pack": (["<OUT>", "<METHOD>..."], {"--rules": " <N>", "--explain": ""}),
     "dis": (["<IN>"], {"--slots": "", "--explain": ""}),

@@ -5,6 +5,7 @@ from process_rows import Row
 PURPOSES = {
     "verify": ("Tells whether the methods of a class image are safe", "[OPTIONS] <IN>"),
     "run": ("Runs a method of a class image beside an object", "[OPTIONS] <IN> <METHOD>"),
+    "test": ("Runs the tests of a class", "<IN> <FILE>"),
     "asm": ("Writes the image of a class from its text", "[OPTIONS] <IN> <OUT>"),
     "pack": ("Writes the image of a class from raw code", "[OPTIONS] <OUT> <METHOD>..."),
     "dis": ("Prints the text of a class image", "[OPTIONS] <IN>"),

@@ -1,7 +1,7 @@
 # Completions of radoscls for bash, made by tools/manual.py from the help of the program.
 _radoscls() {
     # of NAME=FILE, bash gives FILE as the word to complete
-    local word=${2-${COMP_WORDS[COMP_CWORD]}} words="verify run asm pack dis sim cluster help"
+    local word=${2-${COMP_WORDS[COMP_CWORD]}} words="verify run test asm pack dis sim cluster help"
     COMPREPLY=()
     if [ "$COMP_CWORD" = 1 ]; then
         mapfile -t COMPREPLY < <(compgen -W "$words --help --version" -- "$word")
@@ -13,7 +13,8 @@ _radoscls() {
             return
             ;;
         verify) words="--all --explain --help" ;;
-        run) words="--input --caller --object --xattr --key --load --save --show --explain --help" ;;
+        run) words="--input --caller --object --xattr --key --load --save --show --trace --explain --help" ;;
+        test) words="--help" ;;
         asm) words="--explain --help" ;;
         pack) words="--rules --explain --help" ;;
         dis) words="--slots --explain --help" ;;

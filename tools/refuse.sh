@@ -175,7 +175,7 @@ if [ "$rows" != - ]; then
 fi
 
 if [ "$radoscls" != - ]; then
-    cp "$top"/examples/*.img "$top"/examples/*.txt "$top"/examples/*.sim "$work"
+    cp "$top"/examples/*.img "$top"/examples/*.txt "$top"/examples/*.sim "$top"/examples/*.test "$work"
     printf '\xb7\0\0\0\0\0\0\0\x95\0\0\0\0\0\0\0' > "$work/code"
     printf 'RCL1\1\0\0\0\1f\1\0\0\0\0\1\0\x95\0\0\0\0\0\0\0' > "$work/unsafe.img"
     printf '.method f r 0 0\nmov r0\nexit\n' > "$work/wrong.txt"
@@ -207,6 +207,8 @@ if [ "$radoscls" != - ]; then
         'unsaved 1 run keep.img keep --save . --explain'
         'method 1 run keep.img none --explain'
         'hex 1 run keep.img keep --key a=0'
+        'tests 0 test patterns.txt patterns.test'
+        'differs 1 test two.txt count.test'
         'asm 0 asm keep.txt out'
         'wrong_text 1 asm wrong.txt out --explain'
         'unwritten 1 asm keep.txt . --explain'

@@ -46,13 +46,13 @@ call_refused class method input caller e call.InputTooLong named (inl answer) =
 call_refused class method input caller e call.InputTooLong named (inr lack) = cc
 call_refused class method input caller e call.NoMemory named o = tt
 
-method_named-is : (class : List ClassMethod) (name : List ℕ) (m : ClassMethod) → AllByRecursion IsMethod class → method_named class name ≡ Some m → IsMethod m
-method_named-is [] name m h e = absurd (none-some m e)
-method_named-is (x ∷ class) name m h e =
-    let P : ClassMethod → Type 0 = IsMethod in
-    elim (bytes_eq x.name name) as (λ b. cond b (Some x) (method_named class name) ≡ Some m → IsMethod m) [
+-- what is true of each method is true of the method of a name
+pub method_named-is : (P : ClassMethod → Type 0) (class : List ClassMethod) (name : List ℕ) (m : ClassMethod) → AllByRecursion P class → method_named class name ≡ Some m → P m
+method_named-is P [] name m h e = absurd (none-some m e)
+method_named-is P (x ∷ class) name m h e =
+    elim (bytes_eq x.name name) as (λ b. cond b (Some x) (method_named class name) ≡ Some m → P m) [
       | true ↦ λ q. subst P (same_Some x m q) h.0
-      | false ↦ λ q. method_named-is class name m h.1 q
+      | false ↦ λ q. method_named-is P class name m h.1 q
     ] e
 
 method_outcome : (m : ClassMethod) (o : Option ClassMethod) (object : PlainObject) (r : ClientRequest) → o ≡ Some m → outcome_of_method o object r ≡ call_outcome m object r.client r.input
@@ -68,7 +68,7 @@ pub one_outcome : OutcomesAreOne → (class : List ClassMethod) (name : List ℕ
 one_outcome outcomes class name caller input o l is a logged hl ho =
     let m = a.method in
     let r = first_request caller name input in
-    let within = method_named-is class name m is.methods a.named in
+    let within = method_named-is IsMethod class name m is.methods a.named in
     let in_cap = within.in_cap in
     let out_cap = within.out_cap in
     let in16 : m.in_cap < 2 ^ 16 = omega (arith, in_cap) in

@@ -1,7 +1,7 @@
 mod Called
 mod Lines
 pub mod Longer
-mod Noted
+mod Notes
 mod Packed
 mod Printable
 mod Printed

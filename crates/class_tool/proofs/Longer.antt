@@ -1,6 +1,6 @@
 -- The whole file has the class that its beginning has.
 use Rattle.std.proofs.Common.{◌≡◌, ◌+◌, ◌<◌, ◌≤◌, ◌⊎◌, inl, inr, refl, ℕ, List, Option, Some, None, Result, Ok, Err, take, length, sym, ap, subst, ◌∙◌, arith, length-take, lit≤}
-use Rattle.std.specs.Prelude.{◌↔◌, Bool, true, false, IfErr, IsUtf8, string_bytes}
+use Rattle.std.specs.Prelude.{◌↔◌, false, IsUtf8, string_bytes}
 use Rattle.std.proofs.lemmas.List.{take-take, take_all}
 use Rattle.bpf_decode.specs.Class.{Class, IsImage}
 use Rattle.bpf_decode.specs.ImageReading.{image_of}
@@ -8,9 +8,7 @@ use Rattle.bpf_decode.specs.declared.limits.TheConstants.{IMAGE_LIMIT}
 use Rattle.verifier.specs.Verdict.{class_verdict, out_of_memory}
 use Rattle.verifier.specs.declared.refusal.Refusal.{Refusal}
 use Rattle.class_tool.specs.Files.{Disk, Holds, IsBeginning}
-use Rattle.class_advice.specs.Source.{fault_text}
 use Rattle.class_tool.specs.Assembly.{ClassTextFails, IsTooLongIn}
-use Rattle.class_tool.specs.Explained.{IfAsked, IsFaultNote, IsReadNote}
 use Rattle.class_tool.specs.Image.{IsClassIn, IsImageIn, IsLongText, IsMemory, IsRefusedIn, IsSourceOf, IsText, IsVerdictIn, ReadFails, SayNone, Says, class_of, is_for_image}
 use Rattle.class_tool.specs.declared.failure.Failure.{Failure}
 use Rattle.class_tool.specs.declared.failure.Failure.TheVariants as failure
@@ -134,38 +132,9 @@ verdict_in disk name source refusal class same read verdict =
       verdict = subst (λ (c : Class). (refusal ≡ out_of_memory) ⊎ (class_verdict c ≡ Some refusal)) same verdict;
     }
 
--- the note of a beginning of no class is the note of the file
-pub note_in : (disk : Option Disk) (name bytes : List ℕ) (e : Failure) (note : List ℕ) → IsBeginning disk name (TEXT_LIMIT + 1) bytes → IsMemory e ⊎ SayNone bytes e → IsFaultNote bytes e note → IsReadNote disk name e note
-note_in None name bytes (failure.Text error) note b o is = record { text = bytes; held = tt; same = is }
-note_in (Some disk) name bytes (failure.Text error) note b (inl lack) is =
-    record { text = b.0; held = b.1; same = is ∙ (ap (fault_text bytes) lack ∙ ap (fault_text b.0) (sym lack)) }
-note_in (Some disk) name bytes (failure.Text error) note b (inr r) is =
-    record { text = bytes; held = held_whole (Some disk) name bytes b r.0.short; same = is }
-note_in disk name bytes (failure.Image error) note b o is = is
-note_in disk name bytes failure.CannotRead note b o is = is
-note_in disk name bytes failure.CannotWrite note b o is = is
-note_in disk name bytes failure.NoMemory note b o is = is
-note_in disk name bytes failure.TextTooLong note b o is = is
-note_in disk name bytes (failure.Verdict refusal) note b o is = is
-note_in disk name bytes failure.InputNotHex note b o is = is
-note_in disk name bytes failure.ObjectNotHex note b o is = is
-note_in disk name bytes (failure.ObjectLine line) note b o is = is
-note_in disk name bytes (failure.Object error) note b o is = is
-note_in disk name bytes (failure.Call error) note b o is = is
-
 -- why a class's text was not read, by what was read of its file
 pub too_long : (disk : Option Disk) (name bytes : List ℕ) → IsBeginning disk name (TEXT_LIMIT + 1) bytes → TEXT_LIMIT < length bytes → ClassTextFails disk name failure.TextTooLong
 too_long disk name bytes b long = inr (refl, too_long_in disk name bytes b long)
 
 pub no_text : (disk : Option Disk) (name bytes : List ℕ) → IsBeginning disk name (TEXT_LIMIT + 1) bytes → length bytes ≤ TEXT_LIMIT → (IsUtf8 bytes → ⊥) → ClassTextFails disk name failure.CannotRead
 no_text disk name bytes b short wrong = inl (inr (record { bytes = bytes; held = held_whole disk name bytes b short; wrong = wrong }))
-
--- the same of a note that may not be asked for
-pub asked_in : (asked : Bool) (disk : Option Disk) (name bytes : List ℕ) (e : Failure) (note : List ℕ) → IsBeginning disk name (TEXT_LIMIT + 1) bytes → IsMemory e ⊎ SayNone bytes e
-    → IfAsked asked (IsFaultNote bytes e) note → IfAsked asked (IsReadNote disk name e) note
-asked_in true disk name bytes e note b o is = note_in disk name bytes e note b o is
-asked_in false disk name bytes e note b o is = is
-
-pub if_err_both : {A E : Type 0} (r : Result A E) (P Q R : E → Type 0) → ((e : E) → P e → Q e → R e) → IfErr r P → IfErr r Q → IfErr r R
-if_err_both (Ok x) P Q R f p q = tt
-if_err_both (Err e) P Q R f p q = f e p q

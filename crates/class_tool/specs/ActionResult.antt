@@ -33,7 +33,8 @@ Settles before after (Verify image) (Accepted class) = (after ≡ before) × IsS
 Settles before after (Run call) (Ran report) = SavedReports before after call report
 Settles before after (Assemble text image) Assembled = Assembles before after text.now image.now
 Settles before after (Pack asked) Assembled = Packs before after asked
-Settles before after (Disassemble image has_slots) (Disassembled text) = (after ≡ before) × IsTextOf has_slots before.disk image.now (string_bytes text)
+Settles before after (Disassemble image has_slots) (Disassembled text) =
+    (after ≡ before) × IsTextOf has_slots before.disk image.now (string_bytes text)
 Settles before after action answer = ⊥
 
 -- Why an action has no result.

@@ -7,7 +7,9 @@ use Rattle.bpf_decode.specs.Class.{Class, IsImage}
 use Rattle.class_tool.specs.Files.{Disk, FailsToWrite, Holds, IsUnreadable, Storage, Writes}
 use Rattle.class_tool.specs.Image.{IsClassIn, IsFaultOf}
 use Rattle.class_tool.specs.declared.failure.Failure.{Failure}
-use Rattle.class_tool.specs.declared.failure.Failure.TheVariants.{CannotRead, CannotWrite, NoMemory, TextTooLong, Text, Image, Verdict, InputNotHex, ObjectNotHex, ObjectLine, Object, Call}
+use Rattle.class_tool.specs.declared.failure.Failure.TheVariants.{CannotRead, CannotWrite, NoMemory, TextTooLong, Text}
+use Rattle.class_tool.specs.declared.failure.Failure.TheVariants.{Image, Verdict, InputNotHex, ObjectNotHex, ObjectLine}
+use Rattle.class_tool.specs.declared.failure.Failure.TheVariants.{Object, Call}
 use Rattle.class_tool.specs.declared.image.TheConstants.{TEXT_LIMIT}
 
 -- the bytes are the image of the text's class
@@ -91,7 +93,8 @@ pub record WriteFails (before after : Storage) (text image : List ℕ) (failure 
 -- Why no image was written, in the order of the checks. Before the write every file is as it was.
 abbrev pub AssembleFails : Storage → Storage → List ℕ → List ℕ → Failure → Type 0
 AssembleFails before after text image failure =
-    ((after ≡ before) × (ClassTextFails before.disk text failure ⊎ SourceFails before.disk text failure)) ⊎ WriteFails before after text image failure
+    ((after ≡ before) × (ClassTextFails before.disk text failure ⊎ SourceFails before.disk text failure)) ⊎
+    WriteFails before after text image failure
 
 -- a class's canonical text, with each instruction's slot or without
 abbrev pub text_of : Bool → Class → List ℕ

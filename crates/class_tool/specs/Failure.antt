@@ -7,7 +7,9 @@ use Rattle.interp.specs.Refusal.{call_error_text}
 use Rattle.object_store.specs.Refusal.{store_error_text}
 use Rattle.verifier.specs.RuleNumber.{refusal_text}
 use Rattle.class_tool.specs.declared.failure.Failure.{Failure}
-use Rattle.class_tool.specs.declared.failure.Failure.TheVariants.{CannotRead, CannotWrite, NoMemory, TextTooLong, Text, Image, Verdict, InputNotHex, ObjectNotHex, ObjectLine, Object, Call}
+use Rattle.class_tool.specs.declared.failure.Failure.TheVariants.{CannotRead, CannotWrite, NoMemory, TextTooLong, Text}
+use Rattle.class_tool.specs.declared.failure.Failure.TheVariants.{Image, Verdict, InputNotHex, ObjectNotHex, ObjectLine}
+use Rattle.class_tool.specs.declared.failure.Failure.TheVariants.{Object, Call}
 
 -- each failure as it is printed, without the end of its line
 abbrev pub failure_text : Failure → List ℕ

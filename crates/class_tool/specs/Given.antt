@@ -1,5 +1,6 @@
 -- The object that a call begins with, as words spell it.
-use Rattle.std.specs.Prelude.{◌≡◌, ◌⊎◌, ℕ, List, [], ◌∷◌, Option, Some, None, Result, Ok, Err, ◌==◌, ◌&&◌, drop, slice_index, if◌then◌else◌}
+use Rattle.std.specs.Prelude.{◌≡◌, ◌⊎◌, ℕ, List, [], ◌∷◌, Option, Some, None, Result, Ok, Err, ◌==◌, ◌&&◌, drop}
+use Rattle.std.specs.Prelude.{slice_index, if◌then◌else◌}
 use Rattle.std.specs.Borrow.{Bor}
 use Rattle.hex.specs.Hex.{decode_of}
 use Rattle.hex.specs.declared.error.FromHexError.{FromHexError}
@@ -48,7 +49,8 @@ set_in Keys content name value = calls.set_key (Some content) name value
 
 -- an object after one is set, by words and by an entry of the command line:
 abbrev pub with_words : Part → Content → List ℕ → List ℕ → Result Content Failure
-with_words part content name value = and_then (name_in name) (λ name. and_then (bytes_in value) (λ value. of_change (set_in part content name value)))
+with_words part content name value =
+    and_then (name_in name) (λ name. and_then (bytes_in value) (λ value. of_change (set_in part content name value)))
 
 abbrev pub with_entry : Part → Content → NamedValue → Result Content Failure
 with_entry part content entry = with_words part content entry.name.now entry.value.now
@@ -56,7 +58,8 @@ with_entry part content entry = with_words part content entry.name.now entry.val
 -- an object after several are set, one after the other
 abbrev pub with_entries : Part → Content → List NamedValue → Result Content Failure
 with_entries part content [] = Ok content
-with_entries part content (entry ∷ entries) = and_then (with_entry part content entry) (λ more. with_entries part more entries)
+with_entries part content (entry ∷ entries) =
+    and_then (with_entry part content entry) (λ more. with_entries part more entries)
 
 -- an object with that data
 abbrev pub with_data : List ℕ → Result Content Failure
@@ -65,7 +68,8 @@ with_data text = and_then (bytes_in text) (λ bytes. of_change (calls.write None
 -- an object with that data, those xattrs and those keys
 abbrev pub content_in : List ℕ → List NamedValue → List NamedValue → Result Content Failure
 content_in text xattrs keys =
-    and_then (with_data text) (λ content. and_then (with_entries Xattrs content xattrs) (λ more. with_entries Keys more keys))
+    and_then (with_data text) (λ content. and_then (with_entries Xattrs content xattrs)
+    (λ more. with_entries Keys more keys))
 
 -- an object that is there, or why there is none
 abbrev pub there : Result Content Failure → Result PlainObject Failure

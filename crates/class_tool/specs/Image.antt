@@ -1,5 +1,6 @@
 -- The class of a file, by its image or its text, and why it has none.
-use Rattle.std.specs.Prelude.{◌≡◌, ◌⊎◌, ◌+◌, ◌<◌, ◌≤◌, ◌==◌, ◌&&◌, ◌||◌, nat_lt, ⊤, ℕ, Bool, false, List, Option, Some, None, Err, IsUtf8, length, slice_index, string_bytes, take}
+use Rattle.std.specs.Prelude.{◌≡◌, ◌⊎◌, ◌+◌, ◌<◌, ◌≤◌, ◌==◌, ◌&&◌, ◌||◌, nat_lt, ⊤, ℕ, Bool, false, List, Option, Some}
+use Rattle.std.specs.Prelude.{None, Err, IsUtf8, length, slice_index, string_bytes, take}
 use Rattle.std.specs.List.{AllByRecursion, list_any}
 use Rattle.bpf_asm.specs.Classes.{AsmError, read_class_text}
 use Rattle.bpf_asm.specs.Grammar.{IsClassText}
@@ -12,7 +13,9 @@ use Rattle.verifier.specs.Verdict.{class_verdict, out_of_memory}
 use Rattle.verifier.specs.declared.refusal.Refusal.{Refusal}
 use Rattle.class_tool.specs.Files.{Disk, Holds, IsUnreadable}
 use Rattle.class_tool.specs.declared.failure.Failure.{Failure}
-use Rattle.class_tool.specs.declared.failure.Failure.TheVariants.{CannotRead, CannotWrite, NoMemory, TextTooLong, Text, Image, Verdict, InputNotHex, ObjectNotHex, ObjectLine, Object, Call}
+use Rattle.class_tool.specs.declared.failure.Failure.TheVariants.{CannotRead, CannotWrite, NoMemory, TextTooLong, Text}
+use Rattle.class_tool.specs.declared.failure.Failure.TheVariants.{Image, Verdict, InputNotHex, ObjectNotHex, ObjectLine}
+use Rattle.class_tool.specs.declared.failure.Failure.TheVariants.{Object, Call}
 use Rattle.class_tool.specs.declared.image.Source.{Source}
 use Rattle.class_tool.specs.declared.image.TheConstants.{TEXT_LIMIT}
 use Rattle.class_tool.specs.declared.image.Source.TheVariants as sources
@@ -23,7 +26,8 @@ has_zero bytes = list_any (λ b. b == 0) bytes
 
 -- the first three bytes are `RCL`, there are too few for a text, or one is zero
 abbrev pub is_for_image : List ℕ → Bool
-is_for_image bytes = nat_lt (length bytes) 4 || ((slice_index bytes 0 == 82 && (slice_index bytes 1 == 67 && slice_index bytes 2 == 76)) || has_zero bytes)
+is_for_image bytes = nat_lt (length bytes) 4 ||
+    ((slice_index bytes 0 == 82 && (slice_index bytes 1 == 67 && slice_index bytes 2 == 76)) || has_zero bytes)
 
 -- Bytes that are read as a text: they are UTF-8 without a zero, don't begin as an image does, and
 -- are no more than a text may have. All others are read as an image, but those of a text that is

@@ -9,19 +9,24 @@ use Rattle.interp.specs.declared.calls.CallError.TheVariants as call
 use Rattle.pg_log.specs.Log.{reply_at}
 use Rattle.pg_log.specs.Requests.{ClientRequest}
 use Rattle.pg_log.specs.declared.log_error.LogError.{LogError}
-use Rattle.pg_log.specs.declared.log_error.LogError.TheVariants.{LogFull, StaleNumber, NoMemory, NoClass, NoMethod, InputTooLong}
+use Rattle.pg_log.specs.declared.log_error.LogError.TheVariants.{LogFull, StaleNumber, NoMemory, NoClass, NoMethod}
+use Rattle.pg_log.specs.declared.log_error.LogError.TheVariants.{InputTooLong}
 use Rattle.class_tool.specs.declared.log.Logged.{Logged}
 use Rattle.class_tool.specs.declared.failure.Failure.{Failure}
 use Rattle.class_tool.specs.declared.failure.Failure.TheVariants as failure
 
 -- the caller's first request: that method of the first class, on the object `o`
 abbrev pub first_request : ℕ → List ℕ → List ℕ → ClientRequest
-first_request caller method input = record { client = caller; number = 1; object = codes "o"; class = 0; method = method; input = input }
+first_request caller method input =
+    record { client = caller; number = 1; object = codes "o"; class = 0; method = method; input = input }
 
 -- this is the reply to the request in a group that has that class and that request alone
 abbrev pub IsLogged : List ClassMethod → ClientRequest → Logged → Type 0
 IsLogged class r logged =
-    reply_at (class ∷ []) (r ∷ []) 0 ≡ Some (record { code = cast_unsigned w64 logged.code; output = logged.output.items })
+    reply_at (class ∷ []) (r ∷ []) 0 ≡ Some (record {
+      code = cast_unsigned w64 logged.code;
+      output = logged.output.items;
+    })
 
 -- the log's refusal with the same name as a refusal of a call
 abbrev pub refusal_of : CallError → LogError

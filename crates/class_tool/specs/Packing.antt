@@ -12,7 +12,9 @@ use Rattle.class_tool.specs.Files.{Disk, FailsToWrite, Holds, IsUnreadable, Stor
 use Rattle.class_tool.specs.declared.action.Packing.{Packing}
 use Rattle.class_tool.specs.declared.action.RawMethod.{RawMethod}
 use Rattle.class_tool.specs.declared.failure.Failure.{Failure}
-use Rattle.class_tool.specs.declared.failure.Failure.TheVariants.{CannotRead, CannotWrite, NoMemory, TextTooLong, Text, Image, Verdict, InputNotHex, ObjectNotHex, ObjectLine, Object, Call}
+use Rattle.class_tool.specs.declared.failure.Failure.TheVariants.{CannotRead, CannotWrite, NoMemory, TextTooLong, Text}
+use Rattle.class_tool.specs.declared.failure.Failure.TheVariants.{Image, Verdict, InputNotHex, ObjectNotHex, ObjectLine}
+use Rattle.class_tool.specs.declared.failure.Failure.TheVariants.{Object, Call}
 
 -- the file holds the raw code of those instructions
 pub record IsCodeIn (disk : Option Disk) (name : List ℕ) (instructions : List Insn) : Type 0 where
@@ -61,7 +63,8 @@ CodeFails disk name done CannotWrite = ⊥
 CodeFails disk name done NoMemory = ⊤
 CodeFails disk name done TextTooLong = ⊥
 CodeFails disk name done (Text error) = ⊥
-CodeFails disk name done (Image error) = (error.methods ≡ done) × ((error.error ≡ decode.NoMemory) ⊎ IsCodeRefusedIn disk name error.error)
+CodeFails disk name done (Image error) =
+    (error.methods ≡ done) × ((error.error ≡ decode.NoMemory) ⊎ IsCodeRefusedIn disk name error.error)
 CodeFails disk name done (Verdict refusal) = ⊥
 CodeFails disk name done InputNotHex = ⊥
 CodeFails disk name done ObjectNotHex = ⊥
@@ -111,4 +114,5 @@ pub record PackWriteFails (before after : Storage) (asked : Packing) (failure : 
 -- Why no image was written, in the order of the checks. Before the write every file is as it was.
 abbrev pub PackFails : Storage → Storage → Packing → Failure → Type 0
 PackFails before after asked failure =
-    ((after ≡ before) × (MethodsFail before.disk asked.methods.items failure ⊎ PackedFails before.disk asked.rules asked.methods.items failure)) ⊎ PackWriteFails before after asked failure
+    ((after ≡ before) × (MethodsFail before.disk asked.methods.items failure ⊎
+    PackedFails before.disk asked.rules asked.methods.items failure)) ⊎ PackWriteFails before after asked failure

@@ -41,7 +41,8 @@ pub record CallFails (disk : Option Disk) (call : MethodCall) (failure : Failure
 -- Why a call failed, in the order of the checks: because of its class, its input, its object or the
 -- call itself.
 abbrev pub RunFails : Option Disk → MethodCall → Failure → Type 0
-RunFails disk call failure = LoadFails disk call.image.now failure ⊎ InputFails disk call failure ⊎ ObjectFails disk call failure ⊎ CallFails disk call failure
+RunFails disk call failure = LoadFails disk call.image.now failure ⊎ InputFails disk call failure ⊎
+    ObjectFails disk call failure ⊎ CallFails disk call failure
 
 -- the call was made, and its object is not saved
 pub record IsUnsaved (before after : Storage) (call : MethodCall) (failure : Failure) : Type 0 where
@@ -51,7 +52,8 @@ pub record IsUnsaved (before after : Storage) (call : MethodCall) (failure : Fai
 
 -- Why a call failed, or why its object is not saved. Before the write every file is as it was.
 abbrev pub SavedRunFails : Storage → Storage → MethodCall → Failure → Type 0
-SavedRunFails before after call failure = ((after ≡ before) × RunFails before.disk call failure) ⊎ IsUnsaved before after call failure
+SavedRunFails before after call failure =
+    ((after ≡ before) × RunFails before.disk call failure) ⊎ IsUnsaved before after call failure
 
 -- The call was made, and its object is saved if a file is named for it.
 abbrev pub SavedReports : Storage → Storage → MethodCall → RunReport → Type 0

@@ -1,10 +1,13 @@
 -- The text of a call's report.
-use Rattle.std.specs.Prelude.{◌≡◌, ⊤, ℕ, Bool, List, ◌++◌, Option, Some, None, Ok, option_map, length, codes, string_bytes}
+use Rattle.std.specs.Prelude.{◌≡◌, ⊤, ℕ, Bool, true, false, List, [], ◌++◌, Option, Some, None, Ok, option_map}
+use Rattle.std.specs.Prelude.{codes, length, string_bytes}
 use Rattle.std.specs.FinMap as fin
 use Rattle.std.specs.Fmt.{decimal, signed_decimal}
 use Rattle.hex.specs.Hex.{decode_of, encode_lower}
 use Rattle.bpf_decode.specs.Class.{ClassMethod}
 use Rattle.object_store.specs.Object.{Content, PlainObject}
+use Rattle.class_trace.specs.Trace.{IsTraceOf, records, trace_text}
+use Rattle.class_trace.specs.declared.steps.TraceLine.{TraceLine}
 use Rattle.interp.specs.Plain.{Answers}
 use Rattle.interp.specs.declared.outcome.Outcome.{Outcome}
 use Rattle.pg_log.specs.Requests.{ClientRequest}
@@ -25,13 +28,19 @@ holdings_of object = record { bytes = length object.bytes; xattrs = fin.len obje
 -- the line that prints its bytes of data, its xattrs and the keys of its omap
 abbrev pub object_line : Option Holdings → List ℕ
 object_line None = codes "object absent\n"
-object_line (Some h) = codes "object " ++ decimal h.bytes ++ codes " " ++ decimal h.xattrs ++ codes " " ++ decimal h.keys ++ codes "\n"
+object_line (Some h) =
+    codes "object " ++ decimal h.bytes ++ codes " " ++ decimal h.xattrs ++ codes " " ++ decimal h.keys ++ codes "\n"
 
 -- the four lines, and then the lines that show the object
-abbrev pub report_text : RunReport → List ℕ
-report_text report =
-    codes "code " ++ signed_decimal report.code ++ codes "\noutput " ++ or_dash (string_bytes report.output) ++ codes "\nsteps " ++ decimal report.steps ++ codes "\n"
+abbrev pub report_lines : RunReport → List ℕ
+report_lines report =
+    codes "code " ++ signed_decimal report.code ++ codes "\noutput " ++ or_dash (string_bytes report.output) ++
+    codes "\nsteps " ++ decimal report.steps ++ codes "\n"
     ++ object_line report.object ++ string_bytes report.shown
+
+-- after the lines of the instructions
+abbrev pub report_text : RunReport → List ℕ
+report_text report = string_bytes report.traced ++ report_lines report
 
 -- Code and output are those of the answer; steps and object are those of the call.
 pub record IsReportOf (is_shown : Bool) (logged : Logged) (outcome : Outcome) (report : RunReport) : Type 0 where
@@ -45,6 +54,13 @@ pub record IsReportOf (is_shown : Bool) (logged : Logged) (outcome : Outcome) (r
 -- the answer has the code and the output of the call's outcome
 abbrev pub IsOneOutcome : Outcome → Logged → Type 0
 IsOneOutcome outcome logged = (logged.code ≡ outcome.code) × (logged.output.items ≡ outcome.output.items)
+
+-- Nothing, or if they are asked for the lines of what is seen of a call's run: of each step from the
+-- entry to the exit, in order.
+abbrev pub IsTraceText : Bool → ClassMethod → PlainObject → ℕ → List ℕ → List ℕ → Type 0
+IsTraceText false m object caller input text = text ≡ []
+IsTraceText true m object caller input text =
+    (lines : List TraceLine) × IsTraceOf m object caller input (records lines) × (text ≡ trace_text lines)
 
 -- On no object, the answer is the reply of a group that has this call as its only request. A group
 -- can't be given an object.
@@ -69,3 +85,4 @@ pub record Reports (disk : Option Disk) (call : MethodCall) (report : RunReport)
   pub replied : IsReplied object class (first_request call.caller call.method.now input) logged
   pub one : IsOneOutcome outcome logged
   pub said : IsReportOf call.is_shown logged outcome report
+  pub traced : IsTraceText call.is_traced ran.method object call.caller input (string_bytes report.traced)

@@ -1,5 +1,6 @@
 -- An object as a text: its lines, as `--show` prints them, and none for an absent object.
-use Rattle.std.specs.Prelude.{◌≡◌, ◌⊎◌, ℕ, ◌+◌, ◌==◌, true, List, [], ◌∷◌, Option, Some, None, Result, Ok, Err, codes, length, if◌then◌else◌}
+use Rattle.std.specs.Prelude.{◌≡◌, ◌⊎◌, ℕ, ◌+◌, ◌==◌, true, List, [], ◌∷◌, Option, Some, None, Result, Ok, Err, codes}
+use Rattle.std.specs.Prelude.{length, if◌then◌else◌}
 use Rattle.std.specs.Borrow.{Bor}
 use Rattle.std.specs.Str.{bytes_eq}
 use Rattle.file_words.specs.Words.{ended_lines_of, words}
@@ -23,12 +24,14 @@ of_data words = Err ObjectNotHex
 
 -- each further line has an xattr or a key, in any order; if a name repeats, its last line counts
 abbrev pub part_named : List ℕ → Option Part
-part_named word = if bytes_eq word (codes "xattr") then Some Xattrs else if bytes_eq word (codes "key") then Some Keys else None
+part_named word =
+    if bytes_eq word (codes "xattr") then Some Xattrs else if bytes_eq word (codes "key") then Some Keys else None
 
 -- what a further line's words make of an object: by the value, by the name, by the first word:
 abbrev pub of_value : Part → Content → List ℕ → List (List ℕ) → Result Content Failure
 of_value part content name [] = Err ObjectNotHex
-of_value part content name (value ∷ more) = if length more == 0 then with_words part content name (digits_of value) else Err ObjectNotHex
+of_value part content name (value ∷ more) =
+    if length more == 0 then with_words part content name (digits_of value) else Err ObjectNotHex
 
 abbrev pub of_name : Part → Content → List (List ℕ) → Result Content Failure
 of_name part content [] = Err ObjectNotHex
@@ -55,7 +58,8 @@ at_line number (Err e) = Err (ObjectLine number)
 -- of all lines, the first of which has that number
 abbrev pub of_lines : ℕ → PlainObject → List (List ℕ) → Result PlainObject Failure
 of_lines number object [] = Ok object
-of_lines number object (line ∷ lines) = and_then (at_line number (of_words object (words line))) (λ content. of_lines (number + 1) (Some content) lines)
+of_lines number object (line ∷ lines) =
+    and_then (at_line number (of_words object (words line))) (λ content. of_lines (number + 1) (Some content) lines)
 
 -- an empty text has no line
 abbrev pub lines_in : List ℕ → List (List ℕ)

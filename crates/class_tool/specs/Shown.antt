@@ -1,5 +1,6 @@
 -- The lines of all that an object holds.
-use Rattle.std.specs.Prelude.{ℕ, ◌==◌, ◌&&◌, nat_le, not, List, [], ◌∷◌, ◌++◌, Some, None, Bool, true, false, codes, slice_index, if◌then◌else◌}
+use Rattle.std.specs.Prelude.{ℕ, ◌==◌, ◌&&◌, nat_le, not, List, [], ◌∷◌, ◌++◌, Some, None, Bool, true, false, codes}
+use Rattle.std.specs.Prelude.{slice_index, if◌then◌else◌}
 use Rattle.std.specs.List.{flat_map, list_any}
 use Rattle.std.specs.FinMap as fin
 use Rattle.hex.specs.Hex.{encode_lower}
@@ -16,7 +17,8 @@ is_printable b = nat_le 33 b && (nat_le b 126 && not (b == 61))
 
 -- a name is printed as text if it can be read again as the same name, else as 0x and hexadecimal
 abbrev pub is_text : List ℕ → Bool
-is_text name = not (slice_index name 0 == 48 && slice_index name 1 == 120) && not (list_any (λ b. not (is_printable b)) name)
+is_text name =
+    not (slice_index name 0 == 48 && slice_index name 1 == 120) && not (list_any (λ b. not (is_printable b)) name)
 
 -- a name as it is printed
 abbrev pub name_text : List ℕ → List ℕ
@@ -33,7 +35,8 @@ entry_line word entry = word ++ name_text entry.0 ++ codes " " ++ or_dash (encod
 -- the line of its data, then those of its xattrs and of its keys, each in the order of their names
 abbrev pub content_text : Content → List ℕ
 content_text content =
-    data_line content.bytes ++ flat_map (entry_line (codes "xattr ")) (fin.entries content.xattrs) ++ flat_map (entry_line (codes "key ")) (fin.entries content.omap)
+    data_line content.bytes ++ flat_map (entry_line (codes "xattr ")) (fin.entries content.xattrs) ++
+    flat_map (entry_line (codes "key ")) (fin.entries content.omap)
 
 -- the lines that show an object, if they are asked for
 abbrev pub shown_text : Bool → PlainObject → List ℕ

@@ -34,6 +34,8 @@ pub struct MethodCall<'a> {
     pub save: Option<&'a str>,
     /// True if the report shows all that the object holds after the call.
     pub is_shown: bool,
+    /// True if the report begins with the instructions that the call executes.
+    pub is_traced: bool,
 }
 
 /// A method of a class that is packed.

@@ -17,12 +17,14 @@ pub trait Reads {
     /// All bytes of the file of that name.
     fn read(&self, alloc: Global, name: &str) -> io::Result<Vec<u8>>
         ensures held { IfOk result (λ bytes. Holds (disk self.now) name.now bytes.items) }
-        ensures unread { IfErr result (λ e. error_kind e ≢ ErrorKind.OutOfMemory → IsUnreadable (disk self.now) name.now) };
+        ensures unread { IfErr result (λ e. error_kind e ≢ ErrorKind.OutOfMemory →
+            IsUnreadable (disk self.now) name.now) };
 
     /// The first bytes of the file of that name, `most` at most.
     fn read_first(&self, alloc: Global, name: &str, most: usize) -> io::Result<Vec<u8>>
         ensures begun { IfOk result (λ bytes. IsBeginning (disk self.now) name.now most bytes.items) }
-        ensures unread { IfErr result (λ e. error_kind e ≢ ErrorKind.OutOfMemory → IsUnreadable (disk self.now) name.now) };
+        ensures unread { IfErr result (λ e. error_kind e ≢ ErrorKind.OutOfMemory →
+            IsUnreadable (disk self.now) name.now) };
 }
 
 /// The files that can be read and written.
@@ -38,7 +40,8 @@ pub trait Files: Reads {
     /// written in place.
     fn write(&mut self, name: &str, bytes: &[u8]) -> io::Result<()>
         ensures written { IfOk result (λ _. IsWritten (Self.disk self.new) name.now bytes.now) }
-        ensures kept { IsErr result → IsKept (in_place self.old name.now) (Self.disk self.old) (Self.disk self.new) name.now }
+        ensures kept { IsErr result →
+            IsKept (in_place self.old name.now) (Self.disk self.old) (Self.disk self.new) name.now }
         ensures others { OthersStay (Self.disk self.old) (Self.disk self.new) name.now }
         ensures took { IsOk result → failed self.new ≡ failed self.old }
         ensures lost { IsErr result → failed self.new ≡ true };

@@ -3,7 +3,8 @@ ghost use Rattle.std.specs.Prelude.{Result};
 ghost use Rattle.object_store.specs.Object.{Content};
 ghost use Rattle.object_store.specs.Returned.{Gives as Answered};
 ghost use Rattle.object_store.specs.declared.store_error.StoreError.{StoreError as AStoreError};
-ghost use Rattle.class_tool.specs.Given.{Gives, bytes_in, content_in, name_in, object_before, of_change, set_in, with_data, with_entries, with_words};
+ghost use Rattle.class_tool.specs.Given.{Gives, bytes_in, content_in, name_in, object_before, of_change, set_in};
+ghost use Rattle.class_tool.specs.Given.{with_data, with_entries, with_words};
 
 use crate::action::{MethodCall, NamedValue};
 use crate::failure::Failure;
@@ -41,7 +42,8 @@ fn name_in(alloc: Global, text: &[u8]) -> Result<Vec<u8>, Failure>
 
 /// The changed object, or why the store refused the change.
 fn changed(made: Result<Object, StoreError>) -> Result<Object, Failure>
-    ensures { (answer : Result Content AStoreError) → Answered (λ o. o) made answer → Gives (λ o. o) result (of_change answer) }
+    ensures { (answer : Result Content AStoreError) → Answered (λ o. o) made answer →
+        Gives (λ o. o) result (of_change answer) }
 {
     match made {
         Ok(object) => Ok(object),

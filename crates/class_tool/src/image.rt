@@ -1,15 +1,15 @@
-//! The class that a file holds, as an image or as a text, and the note that says why it holds none.
+//! The class that a file holds, as an image or as a text.
 
-ghost use Rattle.std.specs.Prelude.{◌≡◌, ◌⊎◌, ◌↔◌, [], IfErr, IfNone, IfOk, IfSome, IsTrue, OnOk, string_bytes};
+ghost use Rattle.std.specs.Prelude.{◌≡◌, ◌⊎◌, ◌↔◌, IfErr, IfNone, IfOk, IfSome, IsTrue, string_bytes};
 ghost use Rattle.bpf_asm.specs.Grammar.{IsClassText};
-ghost use Rattle.class_tool.specs.Explained.{IfAsked, IsFaultNote, IsReadNote, image_note};
-ghost use Rattle.class_tool.specs.Image.{IsClassIn, IsLongText, IsMemory, IsSafeIn, IsSourceOf, IsText, LoadFails, ReadFails, SayNone, Says, is_for_image};
+ghost use Rattle.class_tool.specs.Image.{IsClassIn, IsLongText, IsMemory, IsSafeIn, IsSourceOf, IsText, LoadFails};
+ghost use Rattle.class_tool.specs.Image.{ReadFails, SayNone, Says, class_of, is_for_image};
 
+use crate::failed::{About, Failed, about_image};
 use crate::failure::Failure;
 use crate::files::Reads;
 use bpf_asm::assemble_class;
-use bpf_decode::{ClassImage, DecodeError, beginning, read_image};
-use class_advice::fault_text;
+use bpf_decode::{ClassImage, beginning, read_image};
 use std::alloc::{AllocError, Global};
 use verifier::{VerifiedClass, verify};
 
@@ -80,169 +80,72 @@ fn class_of_text(alloc: Global, text: &str) -> Result<ClassImage, Failure>
     }
 }
 
-/// The note that says what a file that is read as an image must hold.
-const IMAGE_WANTED: &str =
-    "  wanted: an image, which begins with RCL1, RCL2 or RCL3, or a class's text in UTF-8\n  see docs/IMAGE.md\n";
-
-/// The note of an image that says no class; nothing if memory was refused.
-#[rattlefmt::skip]
-fn image_note(error: DecodeError) -> &'static str
-    ensures { result.now ≡ image_note error }
-{
-    match error {
-        DecodeError::NoMemory => "",
-        DecodeError::Truncated | DecodeError::Magic | DecodeError::Opcode(_) | DecodeError::Register(_) => IMAGE_WANTED,
-        DecodeError::NonzeroField(_) | DecodeError::WideHalf(_) | DecodeError::Name | DecodeError::Order => IMAGE_WANTED,
-        DecodeError::Flags | DecodeError::Limit | DecodeError::Trailing => IMAGE_WANTED,
-    }
-}
-
-/// The note of a text that says no class.
-#[rattlefmt::skip]
-pub(crate) fn fault_note(alloc: Global, text: &str, failure: &Failure) -> Result<String, AllocError>
-    ensures { IfOk result (λ note. IsFaultNote text.now failure.now (string_bytes note)) }
-{
-    match failure {
-        Failure::Text(error) => fault_text(alloc, text, error),
-        Failure::Image(error) => String::from_str(alloc, image_note(error.error)),
-        Failure::CannotRead | Failure::CannotWrite | Failure::NoMemory | Failure::TextTooLong | Failure::Verdict(_) => Ok(String::new(alloc)),
-        Failure::InputNotHex | Failure::ObjectNotHex | Failure::ObjectLine(_) | Failure::Object(_) | Failure::Call(_) => Ok(String::new(alloc)),
-    }
-}
-
-/// The note of a text that says no class, if it is asked for.
-pub(crate) fn asked_note(
-    alloc: Global,
-    text: &str,
-    failure: &Failure,
-    is_explained: bool,
-) -> Result<String, AllocError>
-    ensures { IfOk result (λ note. IfAsked is_explained (IsFaultNote text.now failure.now) (string_bytes note)) }
-{
-    if is_explained {
-        fault_note(alloc, text, failure)
-    } else {
-        Ok(String::new(alloc))
-    }
-}
-
-/// The class of a text, with the text, or else the note of its fault, if it is asked for.
-fn source_of_text(
-    alloc: Global,
-    text: String,
-    is_explained: bool,
-    note: &mut String,
-) -> Result<Source, Failure>
-    requires text { IsText (string_bytes text) }
-    requires silent { string_bytes note.old ≡ [] }
+/// The class of a text, with the text.
+fn source_of_text(alloc: Global, text: String) -> Result<Source, Failed>
+    requires { IsText (string_bytes text) }
     ensures says { IfOk result (Says (string_bytes text)) }
-    ensures fails { IfErr result (λ e. IsMemory e ⊎ SayNone (string_bytes text) e) }
-    ensures noted { IfErr result (λ e. IfAsked is_explained (IsFaultNote (string_bytes text) e) (string_bytes note.new)) }
-    ensures silent { OnOk result (string_bytes note.new ≡ []) }
+    ensures fails { IfErr result (λ e. IsMemory e.failure ⊎ SayNone (string_bytes text) e.failure) }
 {
     match class_of_text(alloc, &text) {
         Ok(class) => Ok(Source::Text(class, text)),
-        Err(failure) => {
-            *note = asked_note(alloc, &text, &failure, is_explained)?;
-            Err(failure)
-        }
+        Err(failure) => Err(Failed {
+            failure,
+            about: About::Text(text),
+        }),
     }
 }
 
-/// The note of an image that says no class, if it is asked for.
-fn asked_image_note(error: DecodeError, is_explained: bool) -> &'static str
-    ensures { IfAsked is_explained (λ note. note ≡ image_note error) result.now }
-{
-    if is_explained { image_note(error) } else { "" }
-}
-
-/// The class of an image's bytes, or else the note of why they say none, if it is asked for.
-fn source_of_image(
-    alloc: Global,
-    bytes: &[u8],
-    is_explained: bool,
-    note: &mut String,
-) -> Result<Source, Failure>
+/// The class of an image's bytes.
+fn source_of_image(alloc: Global, bytes: &[u8]) -> Result<Source, Failed>
     requires image { IsText bytes.now → ⊥ }
     requires short { IsLongText bytes.now → ⊥ }
-    requires silent { string_bytes note.old ≡ [] }
     ensures says { IfOk result (Says bytes.now) }
-    ensures fails { IfErr result (λ e. IsMemory e ⊎ SayNone bytes.now e) }
-    ensures noted { IfErr result (λ e. IfAsked is_explained (IsFaultNote bytes.now e) (string_bytes note.new)) }
-    ensures silent { OnOk result (string_bytes note.new ≡ []) }
+    ensures fails { IfErr result (λ e. IsMemory e.failure ⊎ SayNone bytes.now e.failure) }
 {
     match read_image(alloc, bytes) {
         Ok(class) => Ok(Source::Image(class)),
-        Err(error) => {
-            *note = String::from_str(alloc, asked_image_note(error.error, is_explained))?;
-            Err(Failure::Image(error))
-        }
+        Err(error) => Err(Failed {
+            failure: Failure::Image(error),
+            about: about_image(alloc, bytes),
+        }),
     }
 }
 
-/// The class that bytes say, or else the note of why they say none, if it is asked for.
-fn source_of(
-    alloc: Global,
-    bytes: &[u8],
-    is_explained: bool,
-    note: &mut String,
-) -> Result<Source, Failure>
-    requires { string_bytes note.old ≡ [] }
+/// The class that bytes say.
+fn source_of(alloc: Global, bytes: &[u8]) -> Result<Source, Failed>
     ensures says { IfOk result (Says bytes.now) }
-    ensures fails { IfErr result (λ e. IsMemory e ⊎ SayNone bytes.now e) }
-    ensures noted { IfErr result (λ e. IfAsked is_explained (IsFaultNote bytes.now e) (string_bytes note.new)) }
-    ensures silent { OnOk result (string_bytes note.new ≡ []) }
+    ensures fails { IfErr result (λ e. IsMemory e.failure ⊎ SayNone bytes.now e.failure) }
 {
     if is_long_text(bytes) {
-        return Err(Failure::TextTooLong);
+        return Err(Failed::from(Failure::TextTooLong));
     }
     match text_in(alloc, bytes)? {
-        Some(text) => source_of_text(alloc, text, is_explained, note),
-        None => source_of_image(alloc, bytes, is_explained, note),
+        Some(text) => source_of_text(alloc, text),
+        None => source_of_image(alloc, bytes),
     }
 }
 
-/// The class whose image or text a file holds, or else the note of why its bytes say none, if it is
-/// asked for. Of a longer file one byte more than a text may have is read, which changes no answer:
-/// no image is as long.
-pub(crate) fn read_source<F: Reads>(
-    alloc: Global,
-    files: &F,
-    name: &str,
-    is_explained: bool,
-    note: &mut String,
-) -> Result<Source, Failure>
-    requires { string_bytes note.old ≡ [] }
+/// The class whose image or text a file holds. Of a longer file one byte more than a text may have
+/// is read, which changes no answer: no image is as long.
+pub(crate) fn read_source<F: Reads>(alloc: Global, files: &F, name: &str) -> Result<Source, Failed>
     ensures read { IfOk result (IsSourceOf (F.disk files.now) name.now) }
-    ensures fails { IfErr result (ReadFails (F.disk files.now) name.now) }
-    ensures noted { IfErr result (λ e. IfAsked is_explained (IsReadNote (F.disk files.now) name.now e) (string_bytes note.new)) }
-    ensures silent { OnOk result (string_bytes note.new ≡ []) }
+    ensures fails { IfErr result (λ e. ReadFails (F.disk files.now) name.now e.failure) }
 {
     // Bytes after those make no difference, which this call proves; it does nothing.
     beginning();
     let bytes = match files.read_first(alloc, name, TEXT_LIMIT + 1) {
         Ok(bytes) => bytes,
-        Err(error) => return Err(Failure::of_read(&error)),
+        Err(error) => return Err(Failed::from(Failure::of_read(&error))),
     };
-    source_of(alloc, &bytes, is_explained, note)
+    source_of(alloc, &bytes)
 }
 
-/// The class whose image or text a file holds, or else the note of why its bytes say none, if it is
-/// asked for.
-pub fn read_class<F: Reads>(
-    alloc: Global,
-    files: &F,
-    image: &str,
-    is_explained: bool,
-    note: &mut String,
-) -> Result<ClassImage, Failure>
-    requires { string_bytes note.old ≡ [] }
+/// The class whose image or text a file holds.
+pub fn read_class<F: Reads>(alloc: Global, files: &F, image: &str) -> Result<ClassImage, Failed>
     ensures read { IfOk result (IsClassIn (F.disk files.now) image.now) }
-    ensures fails { IfErr result (ReadFails (F.disk files.now) image.now) }
-    ensures noted { IfErr result (λ e. IfAsked is_explained (IsReadNote (F.disk files.now) image.now e) (string_bytes note.new)) }
-    ensures silent { OnOk result (string_bytes note.new ≡ []) }
+    ensures fails { IfErr result (λ e. ReadFails (F.disk files.now) image.now e.failure) }
 {
-    match read_source(alloc, files, image, is_explained, note)? {
+    match read_source(alloc, files, image)? {
         Source::Image(class) => Ok(class),
         Source::Text(class, _) => Ok(class),
     }
@@ -250,14 +153,30 @@ pub fn read_class<F: Reads>(
 
 /// The class whose image or text a file holds, if it is safe: each method runs to its exit on
 /// every object and input.
-pub fn load<F: Reads>(alloc: Global, files: &F, image: &str) -> Result<VerifiedClass, Failure>
+pub fn load<F: Reads>(alloc: Global, files: &F, image: &str) -> Result<VerifiedClass, Failed>
     ensures safe { IfOk result (IsSafeIn (F.disk files.now) image.now) }
-    ensures fails { IfErr result (LoadFails (F.disk files.now) image.now) }
+    ensures fails { IfErr result (λ e. LoadFails (F.disk files.now) image.now e.failure) }
 {
-    let mut note = String::new(alloc);
-    let class = read_class(alloc, files, image, false, &mut note)?;
-    match verify(alloc, &class) {
-        Ok(verified) => Ok(verified),
-        Err(refusal) => Err(Failure::Verdict(refusal)),
+    let (class, _) = load_with_source(alloc, files, image)?;
+    Ok(class)
+}
+
+/// The same, and what it was read from.
+pub(crate) fn load_with_source<F: Reads>(
+    alloc: Global,
+    files: &F,
+    image: &str,
+) -> Result<(VerifiedClass, Source), Failed>
+    ensures safe { IfOk result (λ r. IsSafeIn (F.disk files.now) image.now r.0) }
+    ensures source { IfOk result (λ r. r.0 ≡ (class_of r.1).methods) }
+    ensures fails { IfErr result (λ e. LoadFails (F.disk files.now) image.now e.failure) }
+{
+    let source = read_source(alloc, files, image)?;
+    match verify(alloc, source.class()) {
+        Ok(verified) => Ok((verified, source)),
+        Err(refusal) => Err(Failed {
+            failure: Failure::Verdict(refusal),
+            about: About::Class(source),
+        }),
     }
 }

@@ -11,7 +11,8 @@ use std::alloc::Global;
 /// bytes.
 pub fn decode_input(alloc: Global, text: &str) -> Result<Vec<u8>, Failure>
     ensures ok { IfOk result (λ bytes. decode_of text.now ≡ Ok bytes.items) }
-    ensures err { IfErr result (λ e. (e ≡ Failure.NoMemory) ⊎ ((e ≡ Failure.InputNotHex) × IsErr (decode_of text.now))) }
+    ensures err { IfErr result (λ e. (e ≡ Failure.NoMemory) ⊎
+        ((e ≡ Failure.InputNotHex) × IsErr (decode_of text.now))) }
 {
     match hex::decode(alloc, text) {
         Ok(bytes) => Ok(bytes),

@@ -60,7 +60,8 @@ fn append_first<C: Classes>(
     request: Request,
 ) -> Result<Logged, LogError>
     requires { table.now ≡ C.classes }
-    ensures ok { IfOk result (λ l. reply_at table.now (request ∷ []) 0 ≡ Some (record { code = cast_unsigned w64 l.code; output = l.output.items })) }
+    ensures ok { IfOk result (λ l. reply_at table.now (request ∷ []) 0 ≡
+        Some (record { code = cast_unsigned w64 l.code; output = l.output.items })) }
     ensures err { IfErr result (λ e. (append_answer table.now [] request ≡ Err e) ⊎ (e ≡ LogError.NoMemory)) }
 {
     let mut group: Group<C> = Group::new(alloc);

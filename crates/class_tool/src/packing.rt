@@ -3,9 +3,11 @@
 ghost use Rattle.std.specs.Prelude.{◌⊎◌, IfOk, IfErr};
 ghost use Rattle.bpf_decode.specs.Class.{IsImage};
 ghost use Rattle.class_tool.specs.Files.{storage};
-ghost use Rattle.class_tool.specs.Packing.{AreMethodsIn, ClassFails, CodeFails, IsCodeIn, IsMethodIn, IsPackedOf, MethodsFail, PackFails, PackedFails, Packs};
+ghost use Rattle.class_tool.specs.Packing.{AreMethodsIn, ClassFails, CodeFails, IsCodeIn, IsMethodIn, IsPackedOf};
+ghost use Rattle.class_tool.specs.Packing.{MethodsFail, PackFails, PackedFails, Packs};
 
 use crate::action::{Packing, RawMethod};
+use crate::failed::{Failed, about_method};
 use crate::failure::Failure;
 use crate::files::{Files, Reads};
 use bpf_decode::{ClassImage, ImageError, Insn, Method, RuleSet, decode, write_image};
@@ -90,7 +92,8 @@ fn packed<F: Reads>(
     raws: &[RawMethod<'_>],
 ) -> Result<Vec<u8>, Failure>
     ensures packed { IfOk result (λ bytes. IsPackedOf (F.disk files.now) rules raws.now bytes.items) }
-    ensures fails { IfErr result (λ e. MethodsFail (F.disk files.now) raws.now e ⊎ PackedFails (F.disk files.now) rules raws.now e) }
+    ensures fails { IfErr result (λ e. MethodsFail (F.disk files.now) raws.now e ⊎
+        PackedFails (F.disk files.now) rules raws.now e) }
 {
     let methods = methods_in(alloc, files, raws)?;
     image_of(alloc, rules, methods)
@@ -99,14 +102,22 @@ fn packed<F: Reads>(
 /// Writes the image of the class of those methods, whose raw code files hold. Nothing is written
 /// before all files are read and the class is known to be right; the image may take the place of
 /// one of them.
-pub fn pack<F: Files>(alloc: Global, files: &mut F, asked: &Packing<'_>) -> Result<(), Failure>
-    ensures ok { IfOk result (λ _. Packs (storage F.disk F.failed F.in_place files.old) (storage F.disk F.failed F.in_place files.new) asked.now) }
-    ensures err { IfErr result (PackFails (storage F.disk F.failed F.in_place files.old) (storage F.disk F.failed F.in_place files.new) asked.now) }
+pub fn pack<F: Files>(alloc: Global, files: &mut F, asked: &Packing<'_>) -> Result<(), Failed>
+    ensures ok { IfOk result (λ _. Packs (storage F.disk F.failed F.in_place files.old)
+        (storage F.disk F.failed F.in_place files.new) asked.now) }
+    ensures err { IfErr result (λ e. PackFails (storage F.disk F.failed F.in_place files.old)
+        (storage F.disk F.failed F.in_place files.new) asked.now e.failure) }
 {
-    let bytes = packed(alloc, files, asked.rules, &asked.methods)?;
+    let bytes = match packed(alloc, files, asked.rules, &asked.methods) {
+        Ok(bytes) => bytes,
+        Err(failure) => {
+            let about = about_method(alloc, &asked.methods, failure);
+            return Err(Failed { failure, about });
+        }
+    };
     match files.write(asked.image, &bytes) {
         Ok(()) => Ok(()),
         // Want of memory is this failure too: the line says which step failed.
-        Err(_) => Err(Failure::CannotWrite),
+        Err(_) => Err(Failed::from(Failure::CannotWrite)),
     }
 }

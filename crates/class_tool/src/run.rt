@@ -5,9 +5,9 @@ ghost use Rattle.std.specs.Option.{option_copied};
 ghost use Rattle.std.specs.Int.{w64};
 ghost use Rattle.interp.specs.Plain.{Answers};
 ghost use Rattle.interp.specs.declared.outcome.Outcome.{Outcome as AnOutcome};
-ghost use Rattle.class_tool.specs.Image.{IsSafeIn};
+ghost use Rattle.class_tool.specs.Image.{IsSafeIn, class_of};
 ghost use Rattle.class_tool.specs.Log.{IsLogged, LogFails, first_request};
-ghost use Rattle.class_tool.specs.RunReport.{IsOneOutcome, IsReportOf, Reports};
+ghost use Rattle.class_tool.specs.RunReport.{IsOneOutcome, IsReplied, IsReportOf, Reports};
 ghost use Rattle.class_tool.specs.Assembly.{TextFails};
 ghost use Rattle.class_tool.specs.Begun.{BeginFails, Begins, IsMisspelledIn, IsSpelledIn};
 ghost use Rattle.class_tool.specs.Files.{storage};
@@ -17,14 +17,16 @@ ghost use Rattle.class_tool.specs.declared.log.Logged.{Logged as ALogged};
 
 use crate::action::MethodCall;
 use crate::assembly::read_text;
+use crate::failed::Failed;
 use crate::failure::Failure;
 use crate::files::{Files, Reads};
 use crate::given::object_before;
-use crate::image::load;
+use crate::image::{Source, load_with_source};
 use crate::input::decode_input;
 use crate::log::{Logged, append};
 use crate::run_report::RunReport;
 use crate::saved::{save, spelled_object};
+use crate::traced::traced;
 use bpf_machine::outcomes;
 use interp::Outcome;
 use object_store::Object;
@@ -39,7 +41,8 @@ fn call(
     object: Option<&Object>,
     input: &[u8],
 ) -> Result<Outcome, Failure>
-    ensures ok { IfOk result (Answers class.now asked.now.method.now (option_copied object.entry) asked.now.caller input.now) }
+    ensures ok { IfOk result (Answers class.now asked.now.method.now
+        (option_copied object.entry) asked.now.caller input.now) }
     ensures err { IfErr result (LogFails class.now asked.now.method.now input.now) }
 {
     let caller = asked.caller.get();
@@ -66,7 +69,10 @@ fn log(
     input: Vec<u8>,
     outcome: &Outcome,
 ) -> Result<RunReport, Failure>
-    ensures ok { IfOk result (λ report. (logged : ALogged) × IsLogged class (first_request asked.now.caller asked.now.method.now input.items) logged × FitsSigned w64 logged.code × FitsSigned w64 outcome.now.code × IsReportOf asked.now.is_shown logged outcome.now report) }
+    ensures ok { IfOk result (λ report. (logged : ALogged) ×
+        IsLogged class (first_request asked.now.caller asked.now.method.now input.items) logged ×
+        FitsSigned w64 logged.code × FitsSigned w64 outcome.now.code ×
+        IsReportOf asked.now.is_shown logged outcome.now report) }
     ensures err { IfErr result (LogFails class asked.now.method.now input.items) }
 {
     let logged = append(alloc, class, asked.caller, asked.method, input)?;
@@ -81,7 +87,10 @@ fn call_and_log(
     asked: &MethodCall<'_>,
     input: Vec<u8>,
 ) -> Result<RunReport, Failure>
-    ensures ok { IfOk result (λ report. (outcome : AnOutcome) × (logged : ALogged) × Answers class asked.now.method.now None asked.now.caller input.items outcome × IsLogged class (first_request asked.now.caller asked.now.method.now input.items) logged × IsOneOutcome outcome logged × IsReportOf asked.now.is_shown logged outcome report) }
+    ensures ok { IfOk result (λ report. (outcome : AnOutcome) × (logged : ALogged) ×
+        Answers class asked.now.method.now None asked.now.caller input.items outcome ×
+        IsLogged class (first_request asked.now.caller asked.now.method.now input.items) logged ×
+        IsOneOutcome outcome logged × IsReportOf asked.now.is_shown logged outcome report) }
     ensures err { IfErr result (LogFails class asked.now.method.now input.items) }
 {
     let outcome = call(alloc, &class, asked, None, &input)?;
@@ -97,7 +106,8 @@ fn report_beside(
     asked: &MethodCall<'_>,
     outcome: &Outcome,
 ) -> Result<RunReport, AllocError>
-    ensures { IfOk result (λ report. (logged : ALogged) × IsOneOutcome outcome.now logged × IsReportOf asked.now.is_shown logged outcome.now report) }
+    ensures { IfOk result (λ report. (logged : ALogged) × IsOneOutcome outcome.now logged ×
+        IsReportOf asked.now.is_shown logged outcome.now report) }
 {
     let answered = Logged {
         code: outcome.code,
@@ -114,7 +124,9 @@ fn call_beside(
     object: &Object,
     input: &[u8],
 ) -> Result<RunReport, Failure>
-    ensures ok { IfOk result (λ report. (outcome : AnOutcome) × (logged : ALogged) × Answers class.now asked.now.method.now (Some object.now) asked.now.caller input.now outcome × IsOneOutcome outcome logged × IsReportOf asked.now.is_shown logged outcome report) }
+    ensures ok { IfOk result (λ report. (outcome : AnOutcome) × (logged : ALogged) ×
+        Answers class.now asked.now.method.now (Some object.now) asked.now.caller input.now outcome ×
+        IsOneOutcome outcome logged × IsReportOf asked.now.is_shown logged outcome report) }
     ensures err { IfErr result (LogFails class.now asked.now.method.now input.now) }
 {
     let outcome = call(alloc, class, asked, Some(object), input)?;
@@ -139,49 +151,75 @@ fn begun<F: Reads>(
 /// The object that a file's text spells.
 fn loaded<F: Reads>(alloc: Global, files: &F, file: &str) -> Result<Option<Object>, Failure>
     ensures ok { IfOk result (IsSpelledIn (F.disk files.now) file.now) }
-    ensures err { IfErr result (λ e. (e ≡ Failure.NoMemory) ⊎ TextFails (F.disk files.now) file.now e ⊎ IsMisspelledIn (F.disk files.now) file.now e) }
+    ensures err { IfErr result (λ e. (e ≡ Failure.NoMemory) ⊎ TextFails (F.disk files.now) file.now e ⊎
+        IsMisspelledIn (F.disk files.now) file.now e) }
 {
     let text = read_text(alloc, files, file)?;
     spelled_object(alloc, &text)
 }
 
-/// Makes the call of a safe class on the object that is spelled. If there is none, it appends the
-/// same request to an empty group, and code and output are those of the log's entry.
-pub(crate) fn run_safe<F: Reads>(
+/// Makes the call on an object. If there is none, it appends the same request to an empty group,
+/// and code and output are those of the log's entry.
+fn answered(
     alloc: Global,
-    files: &F,
     class: VerifiedClass,
     asked: &MethodCall<'_>,
+    object: Option<Object>,
+    input: Vec<u8>,
 ) -> Result<RunReport, Failure>
-    requires { IsSafeIn (F.disk files.now) asked.now.image.now class }
-    ensures ok { IfOk result (Reports (F.disk files.now) asked.now) }
-    ensures err { IfErr result (RunFails (F.disk files.now) asked.now) }
+    ensures ok { IfOk result (λ report. (outcome : AnOutcome) × (logged : ALogged) ×
+        Answers class asked.now.method.now object asked.now.caller input.items outcome ×
+        IsReplied object class (first_request asked.now.caller asked.now.method.now input.items) logged ×
+        IsOneOutcome outcome logged × IsReportOf asked.now.is_shown logged outcome report) }
+    ensures err { IfErr result (LogFails class asked.now.method.now input.items) }
 {
-    let input = decode_input(alloc, asked.input)?;
-    match begun(alloc, files, asked)? {
+    match object {
         None => call_and_log(alloc, class, asked, input),
         Some(object) => call_beside(alloc, &class, asked, &object, &input),
     }
 }
 
-/// Loads the class and makes the call.
-pub fn run<F: Reads>(alloc: Global, files: &F, asked: &MethodCall<'_>) -> Result<RunReport, Failure>
+/// Makes the call of a safe class on the object that is spelled, and a trace of it if one is asked
+/// for.
+fn run_safe<F: Reads>(
+    alloc: Global,
+    files: &F,
+    class: VerifiedClass,
+    source: &Source,
+    asked: &MethodCall<'_>,
+) -> Result<RunReport, Failure>
+    requires safe { IsSafeIn (F.disk files.now) asked.now.image.now class }
+    requires source { class ≡ (class_of source.now).methods }
     ensures ok { IfOk result (Reports (F.disk files.now) asked.now) }
     ensures err { IfErr result (RunFails (F.disk files.now) asked.now) }
 {
-    let class = load(alloc, files, asked.image)?;
-    run_safe(alloc, files, class, asked)
+    let input = decode_input(alloc, asked.input)?;
+    let object = begun(alloc, files, asked)?;
+    let traced = traced(alloc, source, asked, object.as_ref(), &input)?;
+    let report = answered(alloc, class, asked, object, input)?;
+    Ok(report.with_trace(traced))
+}
+
+/// Loads the class and makes the call.
+fn run<F: Reads>(alloc: Global, files: &F, asked: &MethodCall<'_>) -> Result<RunReport, Failed>
+    ensures ok { IfOk result (Reports (F.disk files.now) asked.now) }
+    ensures err { IfErr result (λ e. RunFails (F.disk files.now) asked.now e.failure) }
+{
+    let (class, source) = load_with_source(alloc, files, asked.image)?;
+    Ok(run_safe(alloc, files, class, &source, asked)?)
 }
 
 /// Saves the object after a call if a file is named for it.
-pub(crate) fn keep<F: Files>(
+fn keep<F: Files>(
     alloc: Global,
     files: &mut F,
     asked: &MethodCall<'_>,
     report: &RunReport,
 ) -> Result<(), Failure>
-    ensures ok { IfOk result (λ _. Saves (storage F.disk F.failed F.in_place files.old) (storage F.disk F.failed F.in_place files.new) asked.now.save report.now.after) }
-    ensures err { IfErr result (SaveFails (storage F.disk F.failed F.in_place files.old) (storage F.disk F.failed F.in_place files.new) asked.now.save report.now.after) }
+    ensures ok { IfOk result (λ _. Saves (storage F.disk F.failed F.in_place files.old)
+        (storage F.disk F.failed F.in_place files.new) asked.now.save report.now.after) }
+    ensures err { IfErr result (SaveFails (storage F.disk F.failed F.in_place files.old)
+        (storage F.disk F.failed F.in_place files.new) asked.now.save report.now.after) }
 {
     save(alloc, files, asked.save, report.after.as_ref())
 }
@@ -191,13 +229,15 @@ pub fn run_and_save<F: Files>(
     alloc: Global,
     files: &mut F,
     asked: &MethodCall<'_>,
-) -> Result<RunReport, Failure>
-    ensures ok { IfOk result (SavedReports (storage F.disk F.failed F.in_place files.old) (storage F.disk F.failed F.in_place files.new) asked.now) }
-    ensures err { IfErr result (SavedRunFails (storage F.disk F.failed F.in_place files.old) (storage F.disk F.failed F.in_place files.new) asked.now) }
+) -> Result<RunReport, Failed>
+    ensures ok { IfOk result (SavedReports (storage F.disk F.failed F.in_place files.old)
+        (storage F.disk F.failed F.in_place files.new) asked.now) }
+    ensures err { IfErr result (λ e. SavedRunFails (storage F.disk F.failed F.in_place files.old)
+        (storage F.disk F.failed F.in_place files.new) asked.now e.failure) }
 {
     let report = run(alloc, files, asked)?;
     match keep(alloc, files, asked, &report) {
         Ok(()) => Ok(report),
-        Err(failure) => Err(failure),
+        Err(failure) => Err(Failed::from(failure)),
     }
 }

@@ -1,7 +1,7 @@
 ghost use Rattle.std.specs.Prelude.{◌≡◌, IfOk, Some, option_map, string_bytes};
 ghost use Rattle.std.specs.Option.{option_copied};
 ghost use Rattle.std.specs.Fmt.{DisplaysOnOk};
-ghost use Rattle.class_tool.specs.RunReport.{IsReportOf, holdings_of, object_line};
+ghost use Rattle.class_tool.specs.RunReport.{IsReportOf, holdings_of, object_line, report_lines};
 ghost use Rattle.class_tool.specs.Shown.{or_dash};
 
 use crate::log::Logged;
@@ -11,9 +11,12 @@ use object_store::Object;
 use std::alloc::{AllocError, Global};
 use std::fmt;
 
-/// The end of a call of a method. It prints as four lines, and those that show the object.
+/// The end of a call of a method. It prints as the lines of its instructions, four lines, and those
+/// that show the object.
 #[derive(Drop)]
 pub struct RunReport {
+    /// The lines of the instructions that the call executed, if they are asked for.
+    pub traced: String,
     /// The code that was answered.
     pub code: i64,
     /// The output that was answered in hexadecimal, two lower case digits a byte.
@@ -80,6 +83,7 @@ impl RunReport {
         ensures { IfOk result (IsReportOf is_shown logged.now outcome.now) }
     {
         Ok(RunReport {
+            traced: String::new(alloc),
             code: logged.code,
             output: hex::encode(alloc, &logged.output)?,
             steps: outcome.steps,
@@ -87,6 +91,13 @@ impl RunReport {
             shown: shown_text(alloc, is_shown, outcome.change.after())?,
             after: copy_of(outcome.change.after())?,
         })
+    }
+
+    /// The report with the lines of the call's instructions.
+    pub(crate) fn with_trace(self, traced: String) -> RunReport
+        ensures { result ≡ record self { traced = traced } }
+    {
+        RunReport { traced, ..self }
     }
 
     /// The output as it is printed: its digits, or `-` if there are none.
@@ -107,11 +118,19 @@ impl fmt::Display for RunReport {
     ghost output = { λ report. Some (report_text report) };
 
     fn fmt<W: fmt::Write>(&self, f: &mut fmt::Formatter<W>) -> fmt::Result {
-        let (code, output, steps) = (self.code, self.shown_output(), self.steps);
-        write!(f, "code {code}\noutput {output}\nsteps {steps}\n")?;
-        write_object(self.object, f)?;
-        f.write_str(&self.shown)
+        f.write_str(&self.traced)?;
+        write_lines(self, f)
     }
+}
+
+/// The four lines of a report, and those that show the object.
+fn write_lines<W: fmt::Write>(report: &RunReport, f: &mut fmt::Formatter<W>) -> fmt::Result
+    ensures { DisplaysOnOk W.write_str_gives f.old result (Some (report_lines report.now)) f.new }
+{
+    let (code, output, steps) = (report.code, report.shown_output(), report.steps);
+    write!(f, "code {code}\noutput {output}\nsteps {steps}\n")?;
+    write_object(report.object, f)?;
+    f.write_str(&report.shown)
 }
 
 /// The line of an object that holds so much, or of none.

@@ -3,7 +3,8 @@ ghost use Rattle.std.specs.Prelude.{◌≡◌, ◌⊎◌, IfErr, IfOk, IsTrue, �
 ghost use Rattle.std.specs.Option.{option_copied};
 ghost use Rattle.class_tool.specs.Files.{storage};
 ghost use Rattle.class_tool.specs.Given.{Gives};
-ghost use Rattle.class_tool.specs.Saved.{SaveFails, Saves, at_line, digits_of, lines_in, of_data, of_entry, of_name, of_part, of_value, of_words, part_named, spelled_object};
+ghost use Rattle.class_tool.specs.Saved.{SaveFails, Saves, at_line, digits_of, lines_in, of_data, of_entry, of_name};
+ghost use Rattle.class_tool.specs.Saved.{of_part, of_value, of_words, part_named, spelled_object};
 ghost use Rattle.class_tool.specs.Shown.{shown_text};
 ghost use Rattle.file_words.specs.Words.{words};
 
@@ -181,8 +182,10 @@ pub(crate) fn save<F: Files>(
     file: Option<&str>,
     object: Option<&Object>,
 ) -> Result<(), Failure>
-    ensures ok { IfOk result (λ _. Saves (storage F.disk F.failed F.in_place files.old) (storage F.disk F.failed F.in_place files.new) file.entry (option_copied object.entry)) }
-    ensures err { IfErr result (SaveFails (storage F.disk F.failed F.in_place files.old) (storage F.disk F.failed F.in_place files.new) file.entry (option_copied object.entry)) }
+    ensures ok { IfOk result (λ _. Saves (storage F.disk F.failed F.in_place files.old)
+        (storage F.disk F.failed F.in_place files.new) file.entry (option_copied object.entry)) }
+    ensures err { IfErr result (SaveFails (storage F.disk F.failed F.in_place files.old)
+        (storage F.disk F.failed F.in_place files.new) file.entry (option_copied object.entry)) }
 {
     let Some(file) = file else {
         return Ok(());

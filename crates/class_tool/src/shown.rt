@@ -4,7 +4,8 @@ ghost use Rattle.std.specs.List.{flat_map, list_any};
 ghost use Rattle.std.specs.FinMap as fin;
 ghost use Rattle.std.specs.Option.{option_copied};
 ghost use Rattle.hex.specs.Hex.{encode_lower};
-ghost use Rattle.class_tool.specs.Shown.{content_text, data_line, entry_line, is_printable, is_text, name_text, or_dash, shown_text};
+ghost use Rattle.class_tool.specs.Shown.{content_text, data_line, entry_line, is_printable, is_text, name_text};
+ghost use Rattle.class_tool.specs.Shown.{or_dash, shown_text};
 
 use object_store::Object;
 use std::alloc::{AllocError, Global};
@@ -119,7 +120,8 @@ fn data_line(alloc: Global, object: &Object) -> Result<String, AllocError>
 
 /// The lines of an object's xattrs.
 fn xattr_lines(alloc: Global, object: &Object) -> Result<String, AllocError>
-    ensures { IfOk result (λ text. string_bytes text ≡ flat_map (entry_line (codes "xattr ")) (fin.entries object.now.xattrs)) }
+    ensures { IfOk result (λ text. string_bytes text ≡
+        flat_map (entry_line (codes "xattr ")) (fin.entries object.now.xattrs)) }
 {
     let mut text = String::new(alloc);
     for n in 0..object.xattr_count() {
@@ -132,7 +134,8 @@ fn xattr_lines(alloc: Global, object: &Object) -> Result<String, AllocError>
 
 /// The lines of an object's keys.
 fn key_lines(alloc: Global, object: &Object) -> Result<String, AllocError>
-    ensures { IfOk result (λ text. string_bytes text ≡ flat_map (entry_line (codes "key ")) (fin.entries object.now.omap)) }
+    ensures { IfOk result (λ text. string_bytes text ≡
+        flat_map (entry_line (codes "key ")) (fin.entries object.now.omap)) }
 {
     let mut text = String::new(alloc);
     for n in 0..object.key_count() {

@@ -1,8 +1,8 @@
 -- The command line: `verify IN [--all] [--explain]`, `run IN METHOD [--input HEX] [--caller N]
 -- [--object HEX] [--xattr NAME=HEX ..] [--key KEY=HEX ..] [--load FILE] [--save FILE] [--show]
--- [--explain]`, `asm IN OUT [--explain]`, `pack OUT METHOD .. [--rules N] [--explain]`, `dis IN
--- [--slots] [--explain]`, `sim FILE [--class NAME=IMAGE ..] [--trace]`, and `cluster FILE [--class
--- NAME=IMAGE ..] [--show] [--stats]`.
+-- [--explain]`, `test IN FILE`, `asm IN OUT [--explain]`, `pack OUT METHOD .. [--rules N]
+-- [--explain]`, `dis IN [--slots] [--explain]`, `sim FILE [--class NAME=IMAGE ..] [--trace]`, and
+-- `cluster FILE [--class NAME=IMAGE ..] [--show] [--stats]`.
 use Rattle.std.specs.Prelude.{[], ◌∷◌, Option, Some, true, codes}
 use Rattle.clap.specs.Lexer.{usize_max}
 use Rattle.clap.specs.Words.{App, Rule, Text, new_app, new_rule, with_rule, with_subcommand}
@@ -38,7 +38,9 @@ explain_rule = flag_rule (codes "explain")
 
 -- `verify`, which tells whether a class is safe
 abbrev pub verify_line : App
-verify_line = with_rule (with_rule (with_rule (new_app (codes "verify")) (required_rule (codes "IN"))) (flag_rule (codes "all"))) explain_rule
+verify_line =
+    with_rule (with_rule (with_rule (new_app (codes "verify")) (required_rule (codes "IN"))) (flag_rule (codes "all")))
+    explain_rule
 
 -- a call of a method
 abbrev pub call_line : App
@@ -48,20 +50,28 @@ call_line =
 
 -- on an object that words spell
 abbrev pub object_line : App
-object_line = with_rule (with_rule (with_rule call_line (value_rule (codes "object"))) (each_rule (codes "xattr"))) (each_rule (codes "key"))
+object_line = with_rule (with_rule (with_rule call_line (value_rule (codes "object"))) (each_rule (codes "xattr")))
+    (each_rule (codes "key"))
 
 -- or a file, and into a file
 abbrev pub run_line : App
 run_line =
-    with_rule (with_rule (with_rule (with_rule object_line (value_rule (codes "load"))) (value_rule (codes "save"))) (flag_rule (codes "show"))) explain_rule
+    with_rule (with_rule (with_rule (with_rule (with_rule object_line (value_rule (codes "load")))
+    (value_rule (codes "save"))) (flag_rule (codes "show"))) (flag_rule (codes "trace"))) explain_rule
+
+-- `test`, which runs the tests of a class
+abbrev pub test_line : App
+test_line = with_rule (with_rule (new_app (codes "test")) (required_rule (codes "IN"))) (required_rule (codes "FILE"))
 
 -- `asm`, which makes an image of a text
 abbrev pub asm_line : App
-asm_line = with_rule (with_rule (with_rule (new_app (codes "asm")) (required_rule (codes "IN"))) (required_rule (codes "OUT"))) explain_rule
+asm_line = with_rule (with_rule (with_rule (new_app (codes "asm")) (required_rule (codes "IN")))
+    (required_rule (codes "OUT"))) explain_rule
 
 -- the methods that are packed, one or more
 abbrev pub methods_rule : Rule
-methods_rule = record (required_rule (codes "METHOD")) { range = Some (record { start_inclusive = 1; end_inclusive = usize_max }) }
+methods_rule =
+    record (required_rule (codes "METHOD")) { range = Some (record { start_inclusive = 1; end_inclusive = usize_max }) }
 
 -- the rule set of a packed class
 abbrev pub rules_rule : Rule
@@ -70,11 +80,13 @@ rules_rule = option_rule (codes "rules") (codes "1")
 -- `pack`, which makes an image of raw code
 abbrev pub pack_line : App
 pack_line =
-    with_rule (with_rule (with_rule (with_rule (new_app (codes "pack")) (required_rule (codes "OUT"))) methods_rule) rules_rule) explain_rule
+    with_rule (with_rule (with_rule (with_rule (new_app (codes "pack")) (required_rule (codes "OUT"))) methods_rule)
+    rules_rule) explain_rule
 
 -- `dis`, which gives the text of a class
 abbrev pub dis_line : App
-dis_line = with_rule (with_rule (with_rule (new_app (codes "dis")) (required_rule (codes "IN"))) (flag_rule (codes "slots"))) explain_rule
+dis_line = with_rule (with_rule (with_rule (new_app (codes "dis")) (required_rule (codes "IN")))
+    (flag_rule (codes "slots"))) explain_rule
 
 -- the option of a tenant's class, which may stand more than once
 abbrev pub class_rule : Rule
@@ -86,7 +98,8 @@ trace_rule = flag_rule (codes "trace")
 
 -- `sim`, which plays a file of events
 abbrev pub sim_line : App
-sim_line = with_rule (with_rule (with_rule (new_app (codes "sim")) (required_rule (codes "FILE"))) class_rule) trace_rule
+sim_line = with_rule (with_rule (with_rule (new_app (codes "sim")) (required_rule (codes "FILE"))) class_rule)
+    trace_rule
 
 -- the flag that has a run measured
 abbrev pub stats_rule : Rule
@@ -95,16 +108,23 @@ stats_rule = flag_rule (codes "stats")
 -- `cluster`, which plays a file of calls and maps
 abbrev pub cluster_line : App
 cluster_line =
-    with_rule (with_rule (with_rule (with_rule (new_app (codes "cluster")) (required_rule (codes "FILE"))) class_rule) (flag_rule (codes "show"))) stats_rule
+    with_rule (with_rule (with_rule (with_rule (new_app (codes "cluster")) (required_rule (codes "FILE"))) class_rule)
+    (flag_rule (codes "show"))) stats_rule
 
 -- the program's name, which wants a subcommand
 abbrev pub plain_line : App
 plain_line = let named = new_app (codes "radoscls") in
-    record named { top = record named.top { has_version = true; arg_required_else_help = true; subcommand_required = true } }
+    record named {
+      top = record named.top {
+        has_version = true;
+        arg_required_else_help = true;
+        subcommand_required = true;
+      };
+    }
 
--- with the subcommands that judge a class and call it
+-- with the subcommands that judge a class, call it and test it
 abbrev pub image_line : App
-image_line = with_subcommand (with_subcommand plain_line verify_line.top) run_line.top
+image_line = with_subcommand (with_subcommand (with_subcommand plain_line verify_line.top) run_line.top) test_line.top
 
 -- with those that make images and texts too
 abbrev pub class_line : App

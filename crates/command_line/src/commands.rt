@@ -2,7 +2,9 @@
 ghost use Rattle.std.specs.Prelude.{◌≡◌, IfOk, false};
 ghost use Rattle.clap.specs.declared.builder.command.Command.TheViews.{out-Command};
 ghost use Rattle.clap.specs.Words.{app_of, rule_of};
-ghost use Rattle.command_line.specs.CommandLine.{asm_line, call_line, class_rule, cluster_line, command_line, dis_line, explain_rule, image_line, methods_rule, object_line, pack_line, plain_line, run_line, sim_line, verify_line};
+ghost use Rattle.command_line.specs.CommandLine.{asm_line, call_line, class_rule, cluster_line, command_line, dis_line};
+ghost use Rattle.command_line.specs.CommandLine.{explain_rule, image_line, methods_rule, object_line, pack_line};
+ghost use Rattle.command_line.specs.CommandLine.{plain_line, run_line, sim_line, test_line, verify_line};
 
 use crate::forms::{
     Heading, each, file_command, flag, option, required, value, with_arg, with_subcommand,
@@ -86,8 +88,34 @@ fn run_command<'a>(alloc: Global) -> Result<Command<'a>, AllocError>
     let load = value(alloc, "load", "FILE", help::LOAD);
     let save = value(alloc, "save", "FILE", help::SAVE);
     let show = flag(alloc, "show", "Prints all that the object holds afterwards");
+    let trace = flag(
+        alloc,
+        "trace",
+        "Prints first each executed instruction, and what it changed",
+    );
     let of_files = with_arg(with_arg(of_object, load), save);
-    with_arg(with_arg(of_files, show), explain_flag(alloc))
+    with_arg(
+        with_arg(with_arg(of_files, show), trace),
+        explain_flag(alloc),
+    )
+}
+
+fn test_command<'a>(alloc: Global) -> Result<Command<'a>, AllocError>
+    ensures line { IfOk result (λ c. app_of c ≡ test_line) }
+    ensures local { IfOk result (λ c. (out-Command c).has_globals ≡ false) }
+{
+    let heading = Heading {
+        name: "test",
+        about: "Runs the tests of a class",
+        examples: help::TEST,
+    };
+    let of_image = file_command(
+        alloc,
+        heading,
+        "IN",
+        "The file of the class: its image or text",
+    );
+    with_arg(of_image, required(alloc, "FILE", help::TEST_FILE))
 }
 
 fn asm_command<'a>(alloc: Global) -> Result<Command<'a>, AllocError>
@@ -199,15 +227,16 @@ fn plain_command<'a>(alloc: Global) -> Command<'a>
         .arg_required_else_help(true)
 }
 
-/// The command with the subcommands that judge a class and call it.
+/// The command with the subcommands that judge a class, call it and test it.
 fn image_command<'a>(alloc: Global) -> Result<Command<'a>, AllocError>
     ensures { IfOk result (λ c. app_of c ≡ image_line) }
 {
     let plain = Ok(plain_command(alloc));
-    with_subcommand(
+    let of_calls = with_subcommand(
         with_subcommand(plain, verify_command(alloc)),
         run_command(alloc),
-    )
+    );
+    with_subcommand(of_calls, test_command(alloc))
 }
 
 /// The whole command.
@@ -230,6 +259,7 @@ pub(crate) fn command_named<'a>(alloc: Global, name: &str) -> Result<Command<'a>
     match name {
         "verify"  => verify_command(alloc),
         "run"     => run_command(alloc),
+        "test"    => test_command(alloc),
         "asm"     => asm_command(alloc),
         "pack"    => pack_command(alloc),
         "dis"     => dis_command(alloc),

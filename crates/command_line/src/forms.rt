@@ -80,7 +80,8 @@ pub(crate) fn file_command<'a>(
     id: &'a str,
     help: &'a str,
 ) -> Result<Command<'a>, AllocError>
-    ensures line { IfOk result (λ c. app_of c ≡ with_rule (new_app heading.entry.name.now) (required_rule id.entry.now)) }
+    ensures line { IfOk result (λ c. app_of c ≡
+        with_rule (new_app heading.entry.name.now) (required_rule id.entry.now)) }
     ensures local { IfOk result (λ c. (out-Command c).has_globals ≡ false) }
 {
     Command::new(alloc, heading.name)
@@ -110,7 +111,8 @@ pub(crate) fn with_subcommand<'a>(
     command: Result<Command<'a>, AllocError>,
     subcommand: Result<Command<'a>, AllocError>,
 ) -> Result<Command<'a>, AllocError>
-    ensures { IfOk result (λ new. (old : ACommand) × (sub : ACommand) × (command.entry ≡ Ok old) × (subcommand.entry ≡ Ok sub) × AddsSubcommand old sub new) }
+    ensures { IfOk result (λ new. (old : ACommand) × (sub : ACommand) × (command.entry ≡ Ok old) ×
+        (subcommand.entry ≡ Ok sub) × AddsSubcommand old sub new) }
 {
     match subcommand {
         Ok(subcommand) => match command {

@@ -9,8 +9,12 @@ pub(crate) const RUN: &str = "Examples:
   radoscls run keep.img keep --input 726f6f74
   radoscls run count.img count --key n=0500000000000000 --show
   radoscls run count.img count --object @count.txt --show
+  radoscls run hello.txt hello --trace
   radoscls run count.img count --save kept.txt
   radoscls run count.img count --load kept.txt --save kept.txt";
+
+pub(crate) const TEST: &str = "Example:
+  radoscls test count.img count.test";
 
 pub(crate) const ASM: &str = "Example:
   radoscls asm count.txt count.img";
@@ -42,8 +46,15 @@ pub(crate) const LOAD: &str =
 pub(crate) const SAVE: &str =
     "Writes the object after the call to a file, in the lines of --show; none where it is absent";
 
+/// The file of tests, for the help of `test`.
+pub(crate) const TEST_FILE: &str =
+    "The file of the tests: lines 'object none|VALUE' (begins a case), 'xattr NAME VALUE', 'key NAME VALUE', \
+    'as N' (the client), 'call METHOD VALUE -> CODE [VALUE]', 'is data VALUE', 'is xattr NAME VALUE|none', \
+    'is key NAME VALUE|none'; a VALUE is hexadecimal, - for no bytes, text:.., u8:.., u16:.., u32:.. or \
+    u64:1,2.., or several joined by +";
+
 /// A file of calls and maps, for the help of `cluster`.
 pub(crate) const CLUSTER_FILE: &str =
     "The file: 'cluster nodes 3 replicas 3 groups 64 shards 4 workers 4 tries 100000000', then lines \
-    'client C OBJECT CLASS METHOD HEX' (- for no input; clients first appear as 1, 2, ..) and 'map N N ..' (the nodes that are \
-    up from then on)";
+    'client C OBJECT CLASS METHOD HEX' (- for no input; clients first appear as 1, 2, ..) and 'map N N ..' \
+    (the nodes that are up from then on)";

@@ -15,7 +15,10 @@ use std::convert::AsStr;
 
 /// The subcommand that was entered, and its arguments' texts.
 fn entered<'a>(matches: ArgMatches<'a>) -> Option<ParsedWords<'a>>
-    ensures some { IfSome result (λ p. subcommand_rows_of matches.entry ≡ Some ((parsed_of p).name, (parsed_of p).rows)) }
+    ensures some { IfSome result (λ p. subcommand_rows_of matches.entry ≡ Some (
+      (parsed_of p).name,
+      (parsed_of p).rows,
+    )) }
     ensures none { IfNone result (subcommand_rows_of matches.entry ≡ None) }
 {
     let mut matches = matches;

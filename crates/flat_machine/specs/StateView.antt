@@ -15,7 +15,15 @@ memory_of m = record { input = m.input.items; output = m.output.items; stack = m
 
 -- the state of the definition, which keeps no list of edits
 abbrev pub flat_state : FlatState → State ℕ
-flat_state s = record { slot = s.slot; regs = s.regs; memory = memory_of s.memory; object = s.object.after; out_len = s.out_len; caller = s.caller; edits = None }
+flat_state s = record {
+  slot = s.slot;
+  regs = s.regs;
+  memory = memory_of s.memory;
+  object = s.object.after;
+  out_len = s.out_len;
+  caller = s.caller;
+  edits = None;
+}
 
 -- what the machine of a state's method declares, and where it has its regions
 abbrev pub caps_in : FlatState → Caps

@@ -11,6 +11,7 @@ layout_of lay = record { input = lay.input; output = lay.output; stack = lay.sta
 
 -- the code's ending
 abbrev pub ending_of : code_ending.Ending → Ending
-ending_of (code_endings.Ended code output object steps) = Ended (record { code = code; output = output.items; object = object }) steps
+ending_of (code_endings.Ended code output object steps) =
+    Ended (record { code = code; output = output.items; object = object }) steps
 ending_of code_endings.Stuck = Stuck
 ending_of code_endings.Unfinished = Unfinished

@@ -19,7 +19,8 @@ use txn::NoMemory;
 
 /// The answer of a helper, by its row of the table.
 fn help_by(alloc: Global, helper: Helper, s: &mut FlatState) -> Result<Option<u64>, NoMemory>
-    ensures helped { IfOk result (λ o. Answers o (flat_state s.new) (helped (caps_in s.old) (layout_in s.old) helper (flat_state s.old))) }
+    ensures helped { IfOk result
+        (λ o. Answers o (flat_state s.new) (helped (caps_in s.old) (layout_in s.old) helper (flat_state s.old))) }
     ensures slot { s.new.slot ≡ s.old.slot }
     ensures machine { s.new.memory.machine ≡ s.old.memory.machine }
 {
@@ -67,7 +68,8 @@ fn put_answer(s: &mut FlatState, number: u64)
 
 /// The helper of that id (RFC 9669 section 4.3.1); there is no step for another id.
 pub fn help(alloc: Global, id: u32, s: &mut FlatState) -> Result<Option<()>, NoMemory>
-    ensures helped { IfOk result (λ o. GivesState o (flat_state s.new) (help (caps_in s.old) (layout_in s.old) id (flat_state s.old))) }
+    ensures helped { IfOk result
+        (λ o. GivesState o (flat_state s.new) (help (caps_in s.old) (layout_in s.old) id (flat_state s.old))) }
     ensures slot { s.new.slot ≡ s.old.slot }
     ensures machine { s.new.memory.machine ≡ s.old.memory.machine }
 {

@@ -70,7 +70,8 @@ impl<'a> FlatState<'a> {
         start: &RunStart<'a>,
     ) -> Result<FlatState<'a>, AllocError>
         requires short { length start.now.input.now ≤ machine.now.caps.in_cap }
-        ensures entry { IfOk result (λ s. flat_state s ≡ entry machine.now.caps (layout_of machine.now.layout) (option_copied start.now.object) start.now.caller start.now.input.now) }
+        ensures entry { IfOk result (λ s. flat_state s ≡ entry machine.now.caps (layout_of machine.now.layout)
+            (option_copied start.now.object) start.now.caller start.now.input.now) }
         ensures machine { IfOk result (λ s. s.memory.machine ≡ machine.now) }
     {
         let memory = opening(alloc, machine, start.input)?;

@@ -38,7 +38,8 @@ fn fits(caps: &Caps, layout: &Layout, region: Region) -> bool
 fn are_apart(caps: &Caps, layout: &Layout, a: Region, b: Region) -> bool
     requires left { base (layout_of layout.now) a + size caps.now a < 2 ^ 64 }
     requires right { base (layout_of layout.now) b + size caps.now b < 2 ^ 64 }
-    ensures { IsTrue result ↔ ((at : ℕ) → IsIn caps.now (layout_of layout.now) a at → IsIn caps.now (layout_of layout.now) b at → ⊥) }
+    ensures { IsTrue result ↔ ((at : ℕ) → IsIn caps.now (layout_of layout.now) a at →
+        IsIn caps.now (layout_of layout.now) b at → ⊥) }
 {
     let (a_size, b_size) = (caps.size(a) as u64, caps.size(b) as u64);
     let (a_start, b_start) = (layout.base(a), layout.base(b));

@@ -16,7 +16,8 @@ use bpf_decode::{Region, SignedWidth};
 
 /// The place in a region of the bytes at an address, if the region has all of them.
 fn place_in(machine: &Machine, region: Region, at: u64, w: u64) -> Option<usize>
-    ensures held { result ≡ (if holds machine.now.caps (layout_of machine.now.layout) region at w then Some (at - base (layout_of machine.now.layout) region) else None) }
+    ensures held { result ≡ (if holds machine.now.caps (layout_of machine.now.layout) region at w
+        then Some (at - base (layout_of machine.now.layout) region) else None) }
     ensures inside { IfSome result (λ place. place + w ≤ size machine.now.caps region) }
 {
     let base = machine.layout.base(region);
@@ -130,7 +131,8 @@ pub fn put_room(memory: &mut Regions, room: Option<(Region, usize)>, bytes: &[u8
 /// A load of w bytes, zero-extended (RFC 9669 section 5.1): the number for its register.
 pub fn load(w: usize, at: u64, s: &FlatState) -> Option<u64>
     requires short { w ≤ 8 }
-    ensures { (dst : ℕ) → sets dst (flat_state s.now) result ≡ flat_after (caps_in s.now) (layout_in s.now) (flat_state s.now) (load (caps_in s.now) (layout_in s.now) w dst at (flat_state s.now)) }
+    ensures { (dst : ℕ) → sets dst (flat_state s.now) result ≡ flat_after (caps_in s.now) (layout_in s.now)
+        (flat_state s.now) (load (caps_in s.now) (layout_in s.now) w dst at (flat_state s.now)) }
 {
     let (region, place) = find(&s.memory.machine, at, w as u64)?;
     let bytes = region_bytes(&s.memory, region);
@@ -139,7 +141,8 @@ pub fn load(w: usize, at: u64, s: &FlatState) -> Option<u64>
 
 /// A load with sign extension (section 5.2).
 pub fn load_signed(width: SignedWidth, at: u64, s: &FlatState) -> Option<u64>
-    ensures { (dst : ℕ) → sets dst (flat_state s.now) result ≡ flat_after (caps_in s.now) (layout_in s.now) (flat_state s.now) (load_signed (caps_in s.now) (layout_in s.now) width dst at (flat_state s.now)) }
+    ensures { (dst : ℕ) → sets dst (flat_state s.now) result ≡ flat_after (caps_in s.now) (layout_in s.now)
+        (flat_state s.now) (load_signed (caps_in s.now) (layout_in s.now) width dst at (flat_state s.now)) }
 {
     let w = width.bytes();
     let (region, place) = find(&s.memory.machine, at, w as u64)?;
@@ -150,7 +153,8 @@ pub fn load_signed(width: SignedWidth, at: u64, s: &FlatState) -> Option<u64>
 /// A store of the low w bytes of a number (section 5.1).
 pub fn store(w: usize, at: u64, value: u64, s: &mut FlatState) -> Option<()>
     requires short { w ≤ 8 }
-    ensures store { GivesState result (flat_state s.new) (store (caps_in s.old) (layout_in s.old) w at value (flat_state s.old)) }
+    ensures store { GivesState result (flat_state s.new)
+        (store (caps_in s.old) (layout_in s.old) w at value (flat_state s.old)) }
     ensures slot { s.new.slot ≡ s.old.slot }
     ensures machine { s.new.memory.machine ≡ s.old.memory.machine }
 {

@@ -2,7 +2,9 @@
 
 ghost use Rattle.std.specs.Prelude.{◌≡◌, ◌<◌, ◌+◌, ◌*◌, ◌^◌, ℕ, IfOk};
 ghost use Rattle.bpf_machine.specs.State.{State};
-ghost use Rattle.bpf_machine.specs.Flat.{operand, operation_row, neg_row, mov_row, end_row, alu_row, mem_row, memsx_row, ldx_row, st_row, stx_row, wide_row, ja_row, ja32_row, branch_row, call_row, act, step, exit_code, at_base, width_of, store, flat_after};
+ghost use Rattle.bpf_machine.specs.Flat.{operand, operation_row, neg_row, mov_row, end_row, alu_row, mem_row};
+ghost use Rattle.bpf_machine.specs.Flat.{memsx_row, ldx_row, st_row, stx_row, wide_row, ja_row, ja32_row, branch_row};
+ghost use Rattle.bpf_machine.specs.Flat.{call_row, act, step, exit_code, at_base, width_of, store, flat_after};
 ghost use Rattle.flat_machine.specs.StateView.{caps_in, layout_in, flat_state};
 ghost use Rattle.flat_machine.specs.inner.FlatState.{sets, sets_wide, GivesState};
 
@@ -159,7 +161,8 @@ fn ldx_value(f: Slot, s: &FlatState) -> Option<u64>
 /// LDX in the modes MEM and MEMSX.
 fn ldx_row(f: Slot, s: &mut FlatState) -> Option<()>
     requires slot { s.old.slot < 2 ^ 62 }
-    ensures row { GivesState result (flat_state s.new) (ldx_row (caps_in s.old) (layout_in s.old) f (flat_state s.old)) }
+    ensures row { GivesState result (flat_state s.new)
+        (ldx_row (caps_in s.old) (layout_in s.old) f (flat_state s.old)) }
     ensures machine { s.new.memory.machine ≡ s.old.memory.machine }
 {
     let value = ldx_value(f, s);
@@ -169,7 +172,9 @@ fn ldx_row(f: Slot, s: &mut FlatState) -> Option<()>
 /// Stores a number at an offset from a base, and goes on at the next slot.
 fn store_and_go(f: Slot, base: u64, value: u64, s: &mut FlatState) -> Option<()>
     requires slot { s.old.slot < 2 ^ 62 }
-    ensures stores { GivesState result (flat_state s.new) (flat_after (caps_in s.old) (layout_in s.old) (flat_state s.old) (store (caps_in s.old) (layout_in s.old) (width_of f.opcode) (at_base f base) value (flat_state s.old))) }
+    ensures stores { GivesState result (flat_state s.new)
+        (flat_after (caps_in s.old) (layout_in s.old) (flat_state s.old)
+        (store (caps_in s.old) (layout_in s.old) (width_of f.opcode) (at_base f base) value (flat_state s.old))) }
     ensures machine { s.new.memory.machine ≡ s.old.memory.machine }
 {
     store(width_of(f.opcode), at_base(f, base), value, s)?;
@@ -193,7 +198,8 @@ fn st_row(f: Slot, s: &mut FlatState) -> Option<()>
 /// STX in the mode MEM.
 fn stx_row(f: Slot, s: &mut FlatState) -> Option<()>
     requires slot { s.old.slot < 2 ^ 62 }
-    ensures row { GivesState result (flat_state s.new) (stx_row (caps_in s.old) (layout_in s.old) f (flat_state s.old)) }
+    ensures row { GivesState result (flat_state s.new)
+        (stx_row (caps_in s.old) (layout_in s.old) f (flat_state s.old)) }
     ensures machine { s.new.memory.machine ≡ s.old.memory.machine }
 {
     if f.opcode / 32 != 3 || f.imm != 0 {
@@ -276,7 +282,8 @@ fn branch_row(bits: OpWidth, f: Slot, s: &mut FlatState) -> Option<()>
 /// CALL of a helper.
 fn call_row(alloc: Global, f: Slot, s: &mut FlatState) -> Result<Option<()>, NoMemory>
     requires slot { s.old.slot < 2 ^ 62 }
-    ensures row { IfOk result (λ o. GivesState o (flat_state s.new) (call_row (caps_in s.old) (layout_in s.old) f (flat_state s.old))) }
+    ensures row { IfOk result
+        (λ o. GivesState o (flat_state s.new) (call_row (caps_in s.old) (layout_in s.old) f (flat_state s.old))) }
     ensures machine { s.new.memory.machine ≡ s.old.memory.machine }
 {
     if f.dst != 0 || f.src != 0 || f.offset != 0 {
@@ -299,7 +306,8 @@ fn act(
     s: &mut FlatState,
 ) -> Result<Option<()>, NoMemory>
     requires slot { s.old.slot < 2 ^ 62 }
-    ensures acts { IfOk result (λ o. GivesState o (flat_state s.new) (act (caps_in s.old) (layout_in s.old) f next (flat_state s.old))) }
+    ensures acts { IfOk result
+        (λ o. GivesState o (flat_state s.new) (act (caps_in s.old) (layout_in s.old) f next (flat_state s.old))) }
     ensures machine { s.new.memory.machine ≡ s.old.memory.machine }
 {
     match f.opcode % 8 {
@@ -326,7 +334,8 @@ fn act(
 
 /// A step, if there is one.
 pub fn step(alloc: Global, code: &[u8], s: &mut FlatState) -> Result<Option<()>, NoMemory>
-    ensures stepped { IfOk result (λ o. GivesState o (flat_state s.new) (step (caps_in s.old) (layout_in s.old) code.now (flat_state s.old))) }
+    ensures stepped { IfOk result
+        (λ o. GivesState o (flat_state s.new) (step (caps_in s.old) (layout_in s.old) code.now (flat_state s.old))) }
     ensures machine { s.new.memory.machine ≡ s.old.memory.machine }
 {
     let bytes = at_slot(code, s.slot);

@@ -57,7 +57,8 @@ fn copied(object: Option<&Object>) -> Result<Option<Object>, NoMemory>
 
 /// Runs at most `limit` steps, from a state, until the run stops.
 fn run_on(alloc: Global, code: &[u8], s: &mut FlatState, limit: usize) -> Result<Stop, NoMemory>
-    ensures { IfOk result (λ stop. stopped (flat_state s.old).object stop (flat_state s.new) ≡ run (caps_in s.old) (layout_in s.old) code.now (flat_state s.old).object limit (flat_state s.old)) }
+    ensures { IfOk result (λ stop. stopped (flat_state s.old).object stop (flat_state s.new) ≡
+        run (caps_in s.old) (layout_in s.old) code.now (flat_state s.old).object limit (flat_state s.old)) }
 {
     for n in 0..limit {
         match s.step(alloc, code)? {
@@ -77,7 +78,8 @@ fn finish(
     code: u64,
     s: FlatState,
 ) -> Result<(Vec<u8>, Option<Object>), NoMemory>
-    ensures { IfOk result (λ r. record { code = code; output = r.0.items; object = r.1 } ≡ outcome_of (option_copied before.entry) code (flat_state s.entry)) }
+    ensures { IfOk result (λ r. record { code = code; output = r.0.items; object = r.1 } ≡
+        outcome_of (option_copied before.entry) code (flat_state s.entry)) }
 {
     // The top bit is the sign of a code, which is read as a signed number.
     if code < 0x8000_0000_0000_0000 {
@@ -126,7 +128,8 @@ fn run_from(
     limit: usize,
 ) -> Result<Ending, NoMemory>
     requires beside { s.object.after ≡ option_copied before }
-    ensures { IfOk result (λ e. ending_of e ≡ run (caps_in s.entry) (layout_in s.entry) code.now (option_copied before.entry) limit (flat_state s.entry)) }
+    ensures { IfOk result (λ e. ending_of e ≡
+        run (caps_in s.entry) (layout_in s.entry) code.now (option_copied before.entry) limit (flat_state s.entry)) }
 {
     let stop = run_on(alloc, code, &mut s, limit)?;
     ended(alloc, before, stop, s)
@@ -142,7 +145,10 @@ pub fn flat_run(
     limit: usize,
 ) -> Result<Ending, NoMemory>
     requires short { length start.now.input.now ≤ machine.now.caps.in_cap }
-    ensures { IfOk result (λ e. ending_of e ≡ run machine.now.caps (layout_of machine.now.layout) code.now (option_copied start.now.object) limit (entry machine.now.caps (layout_of machine.now.layout) (option_copied start.now.object) start.now.caller start.now.input.now)) }
+    ensures { IfOk result (λ e. ending_of e ≡
+        run machine.now.caps (layout_of machine.now.layout) code.now (option_copied start.now.object) limit
+        (entry machine.now.caps (layout_of machine.now.layout)
+        (option_copied start.now.object) start.now.caller start.now.input.now)) }
 {
     let s = FlatState::entry(alloc, machine, start)?;
     run_from(alloc, code, start.object, s, limit)

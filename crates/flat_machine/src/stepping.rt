@@ -27,7 +27,9 @@ impl<'a> FlatState<'a> {
     /// One step of a method's bytes, by the definition. Refused: NoMemory. Then, and where there is
     /// no step, the state is of no more use.
     pub fn step(&mut self, alloc: Global, code: &[u8]) -> Result<Stepped, NoMemory>
-        ensures steps { IfOk result (λ stepped. Steps stepped (exit_code code.now (flat_state self.old)) (step (caps_in self.old) (layout_in self.old) code.now (flat_state self.old)) (flat_state self.old) (flat_state self.new)) }
+        ensures steps { IfOk result (λ stepped.
+            Steps stepped (exit_code code.now (flat_state self.old)) (step (caps_in self.old)
+            (layout_in self.old) code.now (flat_state self.old)) (flat_state self.old) (flat_state self.new)) }
         ensures machine { self.new.memory.machine ≡ self.old.memory.machine }
     {
         match exit_code(code, self) {

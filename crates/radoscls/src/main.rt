@@ -8,6 +8,8 @@
 //!   KEY=HEX ..] [--show]`: a call of that method on that object, or on none, by client N (1 to
 //!   4294967295; else client 1): its code, its output, the object that it leaves, and its steps.
 //!   HEX may be `-` for no byte, or `@FILE` for the bytes of a file.
+//! - `radoscls test IN FILE`: whether the class in the file IN does what the tests in the file FILE
+//!   say, or the first line there that differs.
 //! - `radoscls asm IN OUT`: the image of the class text in the file IN, written to the file OUT.
 //! - `radoscls pack OUT NAME:FLAGS:IN:OUT:FILE ..`: the image of a class of those methods, each
 //!   with the raw code in its FILE, written to the file OUT.
@@ -18,8 +20,8 @@
 //! - `radoscls cluster FILE [--class NAME=IMAGE ..] [--stats]`: how each call of the clients in the
 //!   file FILE ends on a cluster in threads, and what that took.
 //!
-//! With `--explain` the first five say more of a failure, below its line. `-` as a file that is
-//! read is standard input, which one argument at most may name.
+//! With `--explain` all but `test`, `sim` and `cluster` say more of a failure, below its line. `-` as
+//! a file that is read is standard input, which one argument at most may name.
 //!
 //! It ends with 0 if that was done and printed, with 1 if it was refused or could not be
 //! printed, and with 2 if the words ask for none of that, or for help.

@@ -1,17 +1,17 @@
 -- A task's end is the program's.
-use Rattle.std.proofs.Common.{◌≡◌, ◌≢◌, ◌∙◌, [], inl, inr, refl, sym, ap, arith, Bool, true, false, List, ℕ, Option, Result, Ok, Err, IfOk, IfErr}
+use Rattle.std.proofs.Common.{◌≡◌, ◌≢◌, ◌∙◌, inl, inr, refl, sym, ap, arith, Bool, true, false, List, ℕ, Option, Result, Ok, Err, IfOk, IfErr}
 use Rattle.command_line.specs.Parsed.{IsMemory, Text}
 use Rattle.command_line.specs.declared.unparsed.Unparsed.{Unparsed}
 use Rattle.class_tool.specs.Files.{Storage}
 use Rattle.class_tool.specs.declared.action.Action.{Action}
 use Rattle.class_tool.specs.declared.action.Action.TheVariants.{Run}
 use Rattle.class_tool.specs.declared.action_result.ActionResult.{ActionResult}
-use Rattle.class_tool.specs.declared.failure.Failure.{Failure}
+use Rattle.class_tool.specs.declared.failed.Failed.{Failed}
 use Rattle.class_tool.specs.declared.failure.Failure.TheVariants.{NoMemory}
 use Rattle.pg_log.specs.Log.{Classes}
 use Rattle.sim.specs.Simulating.{Plays}
 use Rattle.sim.specs.declared.file.SimulationEnd.TheVariants as ending
-use Rattle.radoscls_program.specs.Program.{Ends, Found, IsDone, IsFileNoteAsked, IsNamed, IsRefused, IsUnstarted, Responds, Starts, TaskEnds}
+use Rattle.radoscls_program.specs.Program.{Ends, Found, IsDone, IsNamed, IsRefused, IsUnstarted, Responds, Starts, TaskEnds}
 use Rattle.radoscls_program.specs.Asked.{AreFor, AreForNone}
 use Rattle.radoscls_program.specs.Status.{code_of}
 use Rattle.radoscls_program.specs.Streams.{IsPrinted, Stream, failure_line}
@@ -21,35 +21,39 @@ use Rattle.radoscls_program.specs.declared.task.Task.{Task}
 use Rattle.radoscls_program.specs.declared.task.Task.TheVariants as task
 
 -- the end, if the words name an action
-class_ended : (before after : Storage) (old new : Stream) (words : List Text) (a : Action) (e : Bool) (found : Result ActionResult Failure) (note : List ℕ) (status : ExitStatus)
-    → IsNamed before.disk words a e → Found before after a e found note → Responds old new found note status → Ends before after old new words status
-class_ended before after old new words a e (Ok answer) note Done named found took =
+class_ended : (before after : Storage) (old new : Stream) (words : List Text) (a : Action) (e : Bool) (found : Result ActionResult Failed) (status : ExitStatus)
+    → IsNamed before.disk words a e → Found before after a found → Responds old new found e status → Ends before after old new words status
+class_ended before after old new words a e (Ok answer) Done named found took =
     inl (record { action = a; is_explained = e; named = named; answer = answer; settles = found; printed = took })
-class_ended before after old new words a e (Ok answer) note Refused named found failed =
+class_ended before after old new words a e (Ok answer) Refused named found failed =
     inr (inl (record { action = a; is_explained = e; named = named; answer = answer; settles = found; unprinted = failed }))
-class_ended before after old new words a e (Ok answer) note Usage named found none = absurd none
-class_ended before after old new words a e (Err failure) note Done named found none = absurd none
-class_ended before after old new words a e (Err failure) note Refused named found printed =
-    inl (record { action = a; is_explained = e; named = named; failure = failure; fails = found.0; note = note; noted = found.1; printed = printed })
-class_ended before after old new words a e (Err failure) note Usage named found none = absurd none
+class_ended before after old new words a e (Ok answer) Usage named found none = absurd none
+class_ended before after old new words a e (Err failed) Done named found none = absurd none
+class_ended before after old new words a e (Err failed) Refused named found printed =
+    inl (record { action = a; is_explained = e; named = named; failure = failed.failure; fails = found; told = printed })
+class_ended before after old new words a e (Err failed) Usage named found none = absurd none
 
 -- the end, if the words name the task
 pub ended : (before after : Storage) (old new : Stream) (words : List Text) (task : Task) (status : ExitStatus)
     → AreFor words task → TaskEnds before after old new task status → Ends before after old new words status
 ended before after old new words (task.Class a e) status named acts =
-    class_ended before after old new words a e acts.found acts.note status (inl named) acts.true_of acts.responds
+    class_ended before after old new words a e acts.found status (inl named) acts.true_of acts.responds
 ended before after old new words (task.Each image e) Done named judged =
-    inr (inr (inr (record { image = image.now; is_explained = e; named = (image, named, refl); left = judged.0; ended = judged.1 })))
+    inr (inr (inr (inl (record { image = image.now; is_explained = e; named = (image, named, refl); left = judged.0; ended = judged.1 }))))
 ended before after old new words (task.Each image e) Refused named judged =
-    inr (inr (inr (inr (inr (inr (record { image = image.now; is_explained = e; named = (image, named, refl); left = judged.0; ended = judged.1 }))))))
+    inr (inr (inr (inr (inr (inr (inl (record { image = image.now; is_explained = e; named = (image, named, refl); left = judged.0; ended = judged.1 })))))))
 ended before after old new words (task.Each image e) Usage named judged = absurd judged.1
 ended before after old new words (task.Run call e) status named (inl on) =
-    class_ended before after old new words (Run on.filled) e on.acts.found on.acts.note status
+    class_ended before after old new words (Run on.filled) e on.acts.found status
     (inr (record { call = call; named = named; filled = on.filled; values = on.values; same = refl })) on.acts.true_of on.acts.responds
 ended before after old new words (task.Run call e) Done named (inr un) = absurd (let bad : Done ≡ Refused = un.0 in cc)
 ended before after old new words (task.Run call e) Refused named (inr un) =
     inr (inr (inr (inr (inr (inl (record { call = call; is_explained = e; named = named; unfilled = un.1 }))))))
 ended before after old new words (task.Run call e) Usage named (inr un) = absurd (let bad : Usage ≡ Refused = un.0 in cc)
+ended before after old new words (task.Test asked) Done named tested = inr (inr (inr (inr (record { asked = asked; named = named; left = tested.0; ended = tested.1 }))))
+ended before after old new words (task.Test asked) Refused named tested =
+    inr (inr (inr (inr (inr (inr (inr (record { asked = asked; named = named; left = tested.0; ended = tested.1 })))))))
+ended before after old new words (task.Test asked) Usage named tested = absurd tested.1
 ended before after old new words (task.Sim s) Done named played = inr (inl (record { simulation = s; named = named; left = played.0; ended = played.1 }))
 ended before after old new words (task.Sim s) Refused named played = inr (inr (inr (inl (record { simulation = s; named = named; left = played.0; ended = played.1 }))))
 ended before after old new words (task.Sim s) Usage named played = absurd played.1
@@ -92,7 +96,8 @@ done_well : (before after : Storage) (old new : Stream) (words : List Text) → 
 done_well before after old new words (inl answered) = answered.printed.well
 done_well before after old new words (inr (inl played)) = let p = played.ended in plays_well played.simulation.is_drawn p.classes _ p.text _ _ _ _ p.played
 done_well before after old new words (inr (inr (inl ran))) = ran.ended.ends.well
-done_well before after old new words (inr (inr (inr each))) = each.ended.printed.well
+done_well before after old new words (inr (inr (inr (inl each)))) = each.ended.printed.well
+done_well before after old new words (inr (inr (inr (inr tests)))) = tests.ended.shown.1.well
 
 -- if a write fails, the status is 1
 pub failed_by : (before after : Storage) (old new : Stream) (words : List Text) (status : ExitStatus) (n : ℕ)
@@ -109,8 +114,3 @@ pub started : {A B : Type 0} (words : Result A B) (texts : A → List Text) (bef
     → Starts before after old new status
 started (Ok all) texts before after old new status ends none = inl (texts all, ends)
 started (Err e) texts before after old new status none unread = inr unread
-
--- nothing is told of memory
-pub unnoted : (is_explained : Bool) → IsFileNoteAsked is_explained NoMemory []
-unnoted true = refl
-unnoted false = refl

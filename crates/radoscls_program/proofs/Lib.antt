@@ -3,5 +3,6 @@ mod Entering
 mod Filling
 mod Raws
 mod Tenants
+mod TestRuns
 mod Told
 mod Verdicts

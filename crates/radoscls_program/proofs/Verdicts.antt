@@ -1,13 +1,14 @@
--- The end of `verify --all`.
-use Rattle.std.proofs.Common.{◌++◌, inl, inr, Bool, List, ℕ, Option}
+-- The end of `verify --all`, and notes.
+use Rattle.std.proofs.Common.{◌≡◌, inl, inr, Bool, true, false, List, [], ℕ, IsUtf8, Option, String, string_bytes, subst, sym}
+use Rattle.std.proofs.lemmas.Str.{IsUtf8-nil, IsUtf8-string_bytes}
+use Rattle.class_tool.specs.Note.{IsNote}
 use Rattle.class_tool.specs.Each.{AreVerdicts}
-use Rattle.class_tool.specs.Explained.{IfAsked, IsFileNote}
 use Rattle.class_tool.specs.Files.{Disk}
 use Rattle.class_tool.specs.Image.{ReadFails}
 use Rattle.class_tool.specs.declared.each.Verdicts.{Verdicts}
 use Rattle.class_tool.specs.declared.failure.Failure.{Failure}
 use Rattle.radoscls_program.specs.Judged.{EachEnds, Shows}
-use Rattle.radoscls_program.specs.Streams.{IsPrinted, Stream, failure_line}
+use Rattle.radoscls_program.specs.Streams.{IsTold, Stream}
 use Rattle.radoscls_program.specs.declared.status.ExitStatus.{ExitStatus}
 use Rattle.radoscls_program.specs.declared.status.ExitStatus.TheVariants.{Done, Refused, Usage}
 
@@ -20,6 +21,14 @@ module _ (disk : Option Disk) (old new : Stream) (image : List ℕ) (e : Bool) w
   judged v Usage are none = absurd none
 
   -- by a failure that was told
-  pub unjudged : (failure : Failure) (note : List ℕ) → ReadFails disk image failure → IfAsked e (IsFileNote disk image failure) note
-      → IsPrinted old new (failure_line failure ++ note) → EachEnds disk old new image e Refused
-  unjudged failure note fails is printed = inr (inr (record { failure = failure; fails = fails; note = note; noted = is; printed = printed }))
+  pub unjudged : (failure : Failure) → ReadFails disk image failure → IsTold old new failure e → EachEnds disk old new image e Refused
+  unjudged failure fails told = inr (inr (record { failure = failure; fails = fails; told = told }))
+
+-- any note that is asked for is a text
+pub noted : {Z : Type 0} (e : Bool) (note : String Z) → e ≡ true → IsNote e (string_bytes note)
+noted e note asked = subst (λ (b : Bool). IsNote b (string_bytes note)) (sym asked) (IsUtf8-string_bytes note)
+
+-- no note is one
+pub unnoted : (e : Bool) (note : List ℕ) → note ≡ [] → IsNote e note
+unnoted true note none = subst IsUtf8 (sym none) IsUtf8-nil
+unnoted false note none = none

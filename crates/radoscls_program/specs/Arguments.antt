@@ -1,5 +1,6 @@
 -- The arguments of each subcommand.
-use Rattle.std.specs.Prelude.{◌≡◌, ◌==◌, ◌&&◌, ◌||◌, not, Bool, true, false, Option, Some, None, is_none, if◌then◌else◌, length, option_and_then, option_map, codes}
+use Rattle.std.specs.Prelude.{◌≡◌, ◌==◌, ◌&&◌, ◌||◌, not, Bool, true, false, Option, Some, None, is_none, if◌then◌else◌}
+use Rattle.std.specs.Prelude.{length, option_and_then, option_map, codes}
 use Rattle.std.specs.Str.{bytes_eq}
 use Rattle.bpf_decode.specs.declared.rule_set.RuleSet.{RuleSet}
 use Rattle.bpf_decode.specs.declared.rule_set.RuleSet.TheVariants.{One, Two, Three}
@@ -18,6 +19,7 @@ use Rattle.radoscls_program.specs.Tenants.{SpellsTenants}
 use Rattle.radoscls_program.specs.declared.actions.Plain.{Plain}
 use Rattle.radoscls_program.specs.declared.task.Task.{Task}
 use Rattle.radoscls_program.specs.declared.task.Task.TheVariants as task
+use Rattle.radoscls_program.specs.declared.task.Testing.{Testing}
 
 -- the rule set that a text names
 abbrev pub rules_named : Text → Option RuleSet
@@ -48,7 +50,8 @@ plain_of call = record { image = call.image; method = call.method; input = call.
 abbrev pub loads_alone : Parsed → Bool
 loads_alone p =
     is_none (one_in p (codes "load"))
-    || (is_none (one_in p (codes "object")) && ((length (all_in p (codes "xattr")) == 0) && (length (all_in p (codes "key")) == 0)))
+    || (is_none (one_in p (codes "object")) &&
+    ((length (all_in p (codes "xattr")) == 0) && (length (all_in p (codes "key")) == 0)))
 
 -- a file that isn't named by the word for the class's
 abbrev pub is_another : Option Text → Option Text → Bool
@@ -61,7 +64,7 @@ abbrev pub saves_apart : Parsed → Bool
 saves_apart p = is_another (one_in p (codes "save")) (one_in p (codes "IN"))
 
 -- `run` takes that, the object's data --object, an xattr of each --xattr and a key of each --key,
--- the files --load and --save, and whether --show is there. A file may hold a value.
+-- the files --load and --save, and whether --show and --trace are there. A file may hold a value.
 pub record TakesCall (p : Parsed) (call : MethodCall) : Type 0 where
   pub plain : TakesPlain p (plain_of call)
   pub data_text : one_in p (codes "object") ≡ option_map (λ t. t.now) call.data
@@ -72,6 +75,7 @@ pub record TakesCall (p : Parsed) (call : MethodCall) : Type 0 where
   pub alone : loads_alone p ≡ true
   pub apart : saves_apart p ≡ true
   pub shown : call.is_shown ≡ is_set_in p (codes "show")
+  pub traced : call.is_traced ≡ is_set_in p (codes "trace")
 
 -- The arguments of each action but a call: to tell whether a class is safe, the file IN, without
 -- --all; to assemble a text, the file IN and the file OUT of the image; to pack raw code, those of
@@ -79,9 +83,11 @@ pub record TakesCall (p : Parsed) (call : MethodCall) : Type 0 where
 abbrev pub TakesAction : Parsed → Action → Type 0
 TakesAction p (Verify image) = (one_in p (codes "IN") ≡ Some image.now) × (is_set_in p (codes "all") ≡ false)
 TakesAction p (Run call) = ⊥
-TakesAction p (Assemble text image) = (one_in p (codes "IN") ≡ Some text.now) × (one_in p (codes "OUT") ≡ Some image.now)
+TakesAction p (Assemble text image) =
+    (one_in p (codes "IN") ≡ Some text.now) × (one_in p (codes "OUT") ≡ Some image.now)
 TakesAction p (Pack asked) = TakesPacking p asked
-TakesAction p (Disassemble image has_slots) = (one_in p (codes "IN") ≡ Some image.now) × (has_slots ≡ is_set_in p (codes "slots"))
+TakesAction p (Disassemble image has_slots) =
+    (one_in p (codes "IN") ≡ Some image.now) × (has_slots ≡ is_set_in p (codes "slots"))
 
 -- `sim` takes the file of events FILE, a tenant's class of each --class, and whether --trace is
 -- there.
@@ -101,11 +107,17 @@ pub record TakesCluster (p : Parsed) (c : Clustering) : Type 0 where
 abbrev pub TakesEach : Parsed → Text → Type 0
 TakesEach p image = (one_in p (codes "IN") ≡ Some image) × (is_set_in p (codes "all") ≡ true)
 
+-- `test` takes the file IN of the class and the file FILE of its tests.
+pub record TakesTest (p : Parsed) (asked : Testing) : Type 0 where
+  pub class : one_in p (codes "IN") ≡ Some asked.class.now
+  pub file : one_in p (codes "FILE") ≡ Some asked.file.now
+
 -- a task is one of these; --explain has a failure explained, and --stats has a run measured
 abbrev pub TakesTask : Parsed → Task → Type 0
 TakesTask p (task.Class action is_explained) = TakesAction p action × (is_explained ≡ is_set_in p (codes "explain"))
 TakesTask p (task.Each image is_explained) = TakesEach p image.now × (is_explained ≡ is_set_in p (codes "explain"))
 TakesTask p (task.Run call is_explained) = TakesCall p call × (is_explained ≡ is_set_in p (codes "explain"))
+TakesTask p (task.Test asked) = TakesTest p asked
 TakesTask p (task.Sim s) = TakesSim p s
 TakesTask p (task.Cluster c) = TakesCluster p c.clustering × (c.is_measured ≡ is_set_in p (codes "stats"))
 
@@ -122,6 +134,7 @@ abbrev pub name_for : Task → Text
 name_for (task.Class action is_explained) = subcommand_for action
 name_for (task.Each image is_explained) = codes "verify"
 name_for (task.Run call is_explained) = codes "run"
+name_for (task.Test asked) = codes "test"
 name_for (task.Sim s) = codes "sim"
 name_for (task.Cluster c) = codes "cluster"
 

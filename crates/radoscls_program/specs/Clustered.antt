@@ -17,11 +17,13 @@ Ran disk old new c ending = Clusters disk c old.printed new.printed old.failed n
 
 -- memory was refused, nothing was printed of the calls, and a line says so
 abbrev pub IsCut : Option Disk → Stream → Stream → Clustering → Type 0
-IsCut disk old new c = (middle : Stream) × Ran disk old middle c ending.NoMemory × IsPrinted middle new (failure_line NoMemory)
+IsCut disk old new c =
+    (middle : Stream) × Ran disk old middle c ending.NoMemory × IsPrinted middle new (failure_line NoMemory)
 
 -- nothing was done, and one line says why
 abbrev pub IsBarred : Option Disk → Stream → Stream → Clustering → Type 0
-IsBarred disk old new c = (failure : Failure) × ClusteringFails disk c failure × IsPrinted old new (failure_line failure)
+IsBarred disk old new c =
+    (failure : Failure) × ClusteringFails disk c failure × IsPrinted old new (failure_line failure)
 
 -- The ends of a run of a file: each call was made, and its line shows the answer that its session
 -- gave; or a line is bad, the cluster or a map is refused, a write or a flush failed, memory was

@@ -1,5 +1,6 @@
 -- Standard input, whose name is `-`.
-use Rattle.std.specs.Prelude.{◌≡◌, ◌==◌, ◌≤◌, ◌++◌, ℕ, Bool, false, List, [], ◌∷◌, Option, Some, None, codes, count_by, map, slice_index, if◌then◌else◌}
+use Rattle.std.specs.Prelude.{◌≡◌, ◌==◌, ◌≤◌, ◌++◌, ℕ, Bool, false, List, [], ◌∷◌, Option, Some, None, codes, count_by}
+use Rattle.std.specs.Prelude.{map, slice_index, if◌then◌else◌}
 use Rattle.std.specs.List.{after_first, flat_map, list_any}
 use Rattle.std.specs.Str.{bytes_eq}
 use Rattle.command_line.specs.Parsed.{Parsed, Text, all_in, one_in}
@@ -34,7 +35,8 @@ file_of text = if slice_index text 0 == 64 then Some (after_at text) else None
 -- the values of a call
 abbrev pub call_values : Parsed → List Text
 call_values p =
-    named (one_in p (codes "input")) ++ named (one_in p (codes "object")) ++ map image_in (all_in p (codes "xattr")) ++ map image_in (all_in p (codes "key"))
+    named (one_in p (codes "input")) ++ named (one_in p (codes "object")) ++ map image_in (all_in p (codes "xattr")) ++
+    map image_in (all_in p (codes "key"))
 
 -- the same as a list
 abbrev pub value_file : Text → List Text
@@ -44,7 +46,8 @@ value_file text = named (file_of text)
 -- --class, raw code, those of values, and that of --load
 abbrev pub files_read : Parsed → List Text
 files_read p =
-    named (one_in p (codes "IN")) ++ named (one_in p (codes "FILE")) ++ map image_in (all_in p (codes "class")) ++ code_files p
+    named (one_in p (codes "IN")) ++ named (one_in p (codes "FILE")) ++ map image_in (all_in p (codes "class")) ++
+    code_files p
     ++ flat_map value_file (call_values p) ++ named (one_in p (codes "load"))
 
 -- at most one of them is standard input, and neither OUT nor the file of --save is

@@ -1,8 +1,9 @@
 -- A reader must believe Program (how the program ends, and what it prints and writes), and what it
 -- cites: Asked and Arguments (what words ask for; `command_line` says how they are read), Inputs
 -- (how standard input is used), Entries, Tenants and Raw (how words spell xattrs and keys, tenants'
--- classes and methods), Judged, Playing and Clustered (how `verify --all`, `sim` and `cluster`
--- end), Status and Streams (the number of an exit status, and what is known of standard output).
+-- classes and methods), Judged, Tested, Playing and Clustered (how `verify --all`, `test`, `sim` and
+-- `cluster` end), Status and Streams (the number of an exit status, and what is known of standard
+-- output).
 pub mod Arguments
 pub mod Asked
 pub mod Clustered
@@ -16,3 +17,4 @@ pub mod Program
 pub mod Raw
 pub mod Status
 pub mod Streams
+pub mod Tested

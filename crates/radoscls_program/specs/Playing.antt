@@ -17,16 +17,19 @@ Plays disk old new s ending = Simulates disk s old.printed new.printed old.faile
 
 -- memory was refused at a line, and one more line says so
 abbrev pub IsCut : Option Disk → Stream → Stream → Simulation → Type 0
-IsCut disk old new s = (middle : Stream) × Plays disk old middle s ending.NoMemory × IsPrinted middle new (failure_line NoMemory)
+IsCut disk old new s =
+    (middle : Stream) × Plays disk old middle s ending.NoMemory × IsPrinted middle new (failure_line NoMemory)
 
 -- no line was done, and one line says why
 abbrev pub IsBarred : Option Disk → Stream → Stream → Simulation → Type 0
-IsBarred disk old new s = (failure : Failure) × SimulationFails disk s failure × IsPrinted old new (failure_line failure)
+IsBarred disk old new s =
+    (failure : Failure) × SimulationFails disk s failure × IsPrinted old new (failure_line failure)
 
 -- The ends of a run of a file: each line was done and printed; or one is bad, a write or a flush
 -- failed, memory was refused at a line, or no line was done.
 abbrev pub SimEnds : Option Disk → Stream → Stream → Simulation → ExitStatus → Type 0
 SimEnds disk old new s Done = Plays disk old new s ending.Done
 SimEnds disk old new s Refused =
-    Plays disk old new s ending.Bad ⊎ Plays disk old new s ending.Unprinted ⊎ IsCut disk old new s ⊎ IsBarred disk old new s
+    Plays disk old new s ending.Bad ⊎ Plays disk old new s ending.Unprinted ⊎ IsCut disk old new s ⊎
+    IsBarred disk old new s
 SimEnds disk old new s Usage = ⊥

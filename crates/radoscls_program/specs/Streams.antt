@@ -2,6 +2,7 @@
 use Rattle.std.specs.Prelude.{◌≡◌, ◌⊎◌, ◌++◌, ℕ, List, Option, Bool, true, codes}
 use Rattle.std.specs.Io.KnownBytes.{Appends}
 use Rattle.class_tool.specs.Failure.{failure_text}
+use Rattle.class_tool.specs.Note.{IsNote}
 use Rattle.class_tool.specs.Output.{Begins}
 use Rattle.class_tool.specs.declared.failure.Failure.{Failure}
 
@@ -31,3 +32,9 @@ IsPrinted old new text = Took old new text ⊎ Lost old new text
 -- a failure's line
 abbrev pub failure_line : Failure → List ℕ
 failure_line failure = failure_text failure ++ codes "\n"
+
+-- A failure's line was printed, and a note below it, if one is asked for.
+pub record IsTold (old new : Stream) (failure : Failure) (is_explained : Bool) : Type 0 where
+  pub note : List ℕ
+  pub noted : IsNote is_explained note
+  pub printed : IsPrinted old new (failure_line failure ++ note)

@@ -1,5 +1,6 @@
 -- The values of a call: the digits of a word, no bytes for `-`, or the bytes of the file after `@`.
-use Rattle.std.specs.Prelude.{◌≡◌, ◌⊎◌, ◌++◌, ⊤, ℕ, Bool, true, false, List, [], ◌∷◌, Option, Some, None, option_map, string_bytes, map}
+use Rattle.std.specs.Prelude.{◌≡◌, ◌⊎◌, ◌++◌, ⊤, ℕ, Bool, true, false, List, [], ◌∷◌, Option, Some, None, option_map}
+use Rattle.std.specs.Prelude.{string_bytes, map}
 use Rattle.std.specs.Borrow.{Bor}
 use Rattle.hex.specs.Hex.{encode_lower}
 use Rattle.class_tool.specs.Files.{Disk, IsBeginning, IsUnreadable}
@@ -100,9 +101,11 @@ pub record IsFilled (disk : Option Disk) (call filled : MethodCall) : Type 0 whe
   pub load : text_in filled.load ≡ text_in call.load
   pub save : text_in filled.save ≡ text_in call.save
   pub shown : filled.is_shown ≡ call.is_shown
+  pub traced : filled.is_traced ≡ call.is_traced
 
 -- Memory was refused, or a value's file can't be read.
 abbrev pub FillFails : Option Disk → MethodCall → Failure → Type 0
 FillFails disk call failure =
     ValueFails disk call.input.now failure ⊎ MaybeFails disk (text_in call.data) failure
-    ⊎ EntriesFail disk (map entry_texts call.xattrs.items) failure ⊎ EntriesFail disk (map entry_texts call.keys.items) failure
+    ⊎ EntriesFail disk (map entry_texts call.xattrs.items) failure ⊎
+    EntriesFail disk (map entry_texts call.keys.items) failure

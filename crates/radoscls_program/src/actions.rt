@@ -1,5 +1,6 @@
 //! Reads the arguments of each subcommand.
-ghost use Rattle.std.specs.Prelude.{◌≡◌, ◌≢◌, ◌≤◌, List, IfErr, IfOk, None, Some, codes, false, length, option_and_then, true};
+ghost use Rattle.std.specs.Prelude.{◌≡◌, ◌≢◌, ◌≤◌, List, IfErr, IfOk, None, Some, codes, false, length};
+ghost use Rattle.std.specs.Prelude.{option_and_then, true};
 ghost use Rattle.command_line.specs.Parsed.{all_in, one_in, parsed_of};
 ghost use Rattle.file_words.specs.Words.{id_in};
 ghost use Rattle.tenant_classes.specs.declared.tenant_class.TheConstants.{TENANT_LIMIT};
@@ -9,7 +10,8 @@ ghost use Rattle.class_tool.specs.declared.action.Packing.{Packing as APacking};
 ghost use Rattle.cluster_tool.specs.declared.asked.Clustering.{Clustering as AClustering};
 ghost use Rattle.sim.specs.declared.asked.Simulation.{Simulation as ASimulation};
 ghost use Rattle.radoscls_program.specs.declared.actions.Plain.{Plain as APlain};
-ghost use Rattle.radoscls_program.specs.Arguments.{TakesCall, TakesCluster, TakesPacking, TakesPlain, TakesSim, loads_alone, rules_named, saves_apart};
+ghost use Rattle.radoscls_program.specs.Arguments.{TakesCall, TakesCluster, TakesPacking, TakesPlain, TakesSim};
+ghost use Rattle.radoscls_program.specs.Arguments.{loads_alone, rules_named, saves_apart};
 ghost use Rattle.radoscls_program.specs.Entries.{AreEntries};
 ghost use Rattle.radoscls_program.specs.Tenants.{SpellsTenants, are_tenants};
 
@@ -49,7 +51,8 @@ pub(crate) fn wanted<'a>(words: &ParsedWords<'a>, id: &str) -> Result<&'a str, M
 
 /// The client of `--caller`.
 fn caller_of<'a>(words: &ParsedWords<'a>) -> Result<ClientId, Mistake<'a>>
-    ensures some { IfOk result (λ caller. option_and_then id_in (one_in (parsed_of words.now) (codes "caller")) ≡ Some caller) }
+    ensures some { IfOk result (λ caller. option_and_then id_in (one_in (parsed_of words.now) (codes "caller")) ≡
+        Some caller) }
     ensures none { IfErr result (λ _. option_and_then id_in (one_in (parsed_of words.now) (codes "caller")) ≡ None) }
 {
     let text = wanted(words, "caller")?;
@@ -80,7 +83,8 @@ fn entries_of<'a>(
     wanted: Wanted,
 ) -> Result<Vec<NamedValue<'a>>, Mistake<'a>>
     ensures some { IfOk result (λ es. AreEntries (all_in (parsed_of words.now) id.now) es.items) }
-    ensures none { IfErr result (λ m. m ≢ Mistake.NoMemory → (es : List ANamedValue) → AreEntries (all_in (parsed_of words.now) id.now) es → ⊥) }
+    ensures none { IfErr result (λ m. m ≢ Mistake.NoMemory → (es : List ANamedValue) →
+        AreEntries (all_in (parsed_of words.now) id.now) es → ⊥) }
 {
     let texts = words.all(alloc, id)?;
     entries(alloc, wanted, &texts)
@@ -131,7 +135,8 @@ pub(crate) fn call_of<'a>(
     words: &ParsedWords<'a>,
 ) -> Result<MethodCall<'a>, Mistake<'a>>
     ensures some { IfOk result (TakesCall (parsed_of words.now)) }
-    ensures none { IfErr result (λ m. m ≢ Mistake.NoMemory → (call : AMethodCall) → TakesCall (parsed_of words.now) call → ⊥) }
+    ensures none { IfErr result (λ m. m ≢ Mistake.NoMemory → (call : AMethodCall) →
+        TakesCall (parsed_of words.now) call → ⊥) }
 {
     let plain = match plain_call(words) {
         Ok(plain) => plain,
@@ -152,6 +157,7 @@ pub(crate) fn call_of<'a>(
         load: words.one("load"),
         save: words.one("save"),
         is_shown: words.is_set("show"),
+        is_traced: words.is_set("trace"),
     })
 }
 
@@ -173,8 +179,10 @@ fn rules_named(text: &str) -> Option<RuleSet>
 
 /// The rule set that `--rules` names.
 fn rules_of<'a>(words: &ParsedWords<'a>) -> Result<RuleSet, Mistake<'a>>
-    ensures some { IfOk result (λ rules. option_and_then rules_named (one_in (parsed_of words.now) (codes "rules")) ≡ Some rules) }
-    ensures none { IfErr result (λ _. option_and_then rules_named (one_in (parsed_of words.now) (codes "rules")) ≡ None) }
+    ensures some { IfOk result (λ rules. option_and_then rules_named (one_in (parsed_of words.now) (codes "rules")) ≡
+        Some rules) }
+    ensures none { IfErr result (λ _. option_and_then rules_named (one_in (parsed_of words.now) (codes "rules")) ≡
+        None) }
 {
     let text = wanted(words, "rules")?;
     match rules_named(text) {
@@ -189,7 +197,8 @@ pub(crate) fn packing_of<'a>(
     words: &ParsedWords<'a>,
 ) -> Result<Packing<'a>, Mistake<'a>>
     ensures some { IfOk result (TakesPacking (parsed_of words.now)) }
-    ensures none { IfErr result (λ m. m ≢ Mistake.NoMemory → (asked : APacking) → TakesPacking (parsed_of words.now) asked → ⊥) }
+    ensures none { IfErr result (λ m. m ≢ Mistake.NoMemory → (asked : APacking) →
+        TakesPacking (parsed_of words.now) asked → ⊥) }
 {
     let image = wanted(words, "OUT")?;
     let rules = rules_of(words)?;
@@ -207,7 +216,8 @@ fn tenants_of<'a>(
     alloc: Global,
     words: &ParsedWords<'a>,
 ) -> Result<Vec<TenantClass<'a>>, Mistake<'a>>
-    ensures none { IfErr result (λ m. m ≢ Mistake.NoMemory → are_tenants (all_in (parsed_of words.now) (codes "class")) ≡ false) }
+    ensures none { IfErr result (λ m. m ≢ Mistake.NoMemory →
+        are_tenants (all_in (parsed_of words.now) (codes "class")) ≡ false) }
     ensures some { IfOk result (λ tenants. SpellsTenants (all_in (parsed_of words.now) (codes "class")) tenants.items) }
     ensures room { IfOk result (λ tenants. length tenants.items ≤ TENANT_LIMIT) }
 {
@@ -221,7 +231,8 @@ pub(crate) fn simulation_of<'a>(
     words: &ParsedWords<'a>,
 ) -> Result<Simulation<'a>, Mistake<'a>>
     ensures some { IfOk result (TakesSim (parsed_of words.now)) }
-    ensures none { IfErr result (λ m. m ≢ Mistake.NoMemory → (asked : ASimulation) → TakesSim (parsed_of words.now) asked → ⊥) }
+    ensures none { IfErr result (λ m. m ≢ Mistake.NoMemory → (asked : ASimulation) →
+        TakesSim (parsed_of words.now) asked → ⊥) }
 {
     let file = wanted(words, "FILE")?;
     let tenants = tenants_of(alloc, words)?;
@@ -238,7 +249,8 @@ pub(crate) fn clustering_of<'a>(
     words: &ParsedWords<'a>,
 ) -> Result<Clustering<'a>, Mistake<'a>>
     ensures some { IfOk result (TakesCluster (parsed_of words.now)) }
-    ensures none { IfErr result (λ m. m ≢ Mistake.NoMemory → (asked : AClustering) → TakesCluster (parsed_of words.now) asked → ⊥) }
+    ensures none { IfErr result (λ m. m ≢ Mistake.NoMemory → (asked : AClustering) →
+        TakesCluster (parsed_of words.now) asked → ⊥) }
 {
     let file = wanted(words, "FILE")?;
     let tenants = tenants_of(alloc, words)?;

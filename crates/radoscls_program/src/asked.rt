@@ -8,7 +8,7 @@ ghost use Rattle.radoscls_program.specs.declared.task.Task.{Task as ATask};
 use crate::actions::{call_of, clustering_of, packing_of, simulation_of, wanted};
 use crate::inputs::check_inputs;
 use crate::mistake::Mistake;
-use crate::task::{ClusterTask, Task};
+use crate::task::{ClusterTask, Task, Testing};
 use class_tool::Action;
 use command_line::{ParsedWords, Unparsed, misused, parse};
 use std::alloc::{AllocError, Global};
@@ -36,6 +36,17 @@ fn run_task<'a>(alloc: Global, words: &ParsedWords<'a>) -> Result<Task<'a>, Mist
 {
     let call = call_of(alloc, words)?;
     Ok(Task::Run(call, words.is_set("explain")))
+}
+
+/// `test`.
+fn test_task<'a>(words: &ParsedWords<'a>) -> Result<Task<'a>, Mistake<'a>>
+    requires { (parsed_of words.now).name ≡ codes "test" }
+    ensures named { IfOk result (Names (parsed_of words.now)) }
+    ensures unnamed { IfErr result (λ m. m ≢ Mistake.NoMemory → (task : ATask) → Names (parsed_of words.now) task → ⊥) }
+{
+    let class = wanted(words, "IN")?;
+    let file = wanted(words, "FILE")?;
+    Ok(Task::Test(Testing { class, file }))
 }
 
 /// `asm`.
@@ -104,6 +115,7 @@ fn task_of<'a>(alloc: Global, words: &ParsedWords<'a>) -> Result<Task<'a>, Mista
     match words.name() {
         "verify"  => verify_task(words),
         "run"     => run_task(alloc, words),
+        "test"    => test_task(words),
         "asm"     => asm_task(words),
         "pack"    => pack_task(alloc, words),
         "dis"     => dis_task(words),

@@ -27,7 +27,8 @@ pub(crate) fn entries<'a>(
     texts: &[&'a str],
 ) -> Result<Vec<NamedValue<'a>>, Mistake<'a>>
     ensures some { IfOk result (λ es. AreEntries (map (λ t. t.now) texts.now) es.items) }
-    ensures none { IfErr result (λ m. m ≢ Mistake.NoMemory → (es : List ANamedValue) → AreEntries (map (λ t. t.now) texts.now) es → ⊥) }
+    ensures none { IfErr result (λ m. m ≢ Mistake.NoMemory → (es : List ANamedValue) →
+        AreEntries (map (λ t. t.now) texts.now) es → ⊥) }
 {
     let mut entries = Vec::new(alloc);
     for text in texts {

@@ -2,7 +2,8 @@
 ghost use Rattle.std.specs.Prelude.{◌≡◌, ◌≢◌, ◌++◌, IfErr, IfOk, OnOk, codes, count_by, map, option_map};
 ghost use Rattle.command_line.specs.Parsed.{one_in, parsed_of};
 ghost use Rattle.std.specs.List.{flat_map, list_any};
-ghost use Rattle.radoscls_program.specs.Inputs.{UsesInputWell, call_values, code_files, files_read, is_input, named, value_file};
+ghost use Rattle.radoscls_program.specs.Inputs.{UsesInputWell, call_values, code_files, files_read, is_input, named};
+ghost use Rattle.radoscls_program.specs.Inputs.{value_file};
 ghost use Rattle.radoscls_program.specs.Raw.{after_field, code_in};
 ghost use Rattle.radoscls_program.specs.Tenants.{image_in};
 
@@ -40,7 +41,8 @@ fn after_colon<'a>(text: &'a str) -> &'a str
 
 /// Adds a text that is there.
 fn push_named<'a>(names: &mut Vec<&'a str>, name: Option<&'a str>) -> Result<(), AllocError>
-    ensures { OnOk result (map (λ n. n.now) names.new.items ≡ map (λ n. n.now) names.old.items ++ named (option_map (λ n. n.now) name.entry)) }
+    ensures { OnOk result (map (λ n. n.now) names.new.items ≡ map (λ n. n.now) names.old.items ++
+        named (option_map (λ n. n.now) name.entry)) }
 {
     if let Some(name) = name {
         names.push(name)?;
@@ -50,7 +52,8 @@ fn push_named<'a>(names: &mut Vec<&'a str>, name: Option<&'a str>) -> Result<(),
 
 /// Adds the files of tenants' classes that texts name.
 fn push_images<'a>(names: &mut Vec<&'a str>, texts: &[&'a str]) -> Result<(), AllocError>
-    ensures { OnOk result (map (λ n. n.now) names.new.items ≡ map (λ n. n.now) names.old.items ++ map image_in (map (λ t. t.now) texts.now)) }
+    ensures { OnOk result (map (λ n. n.now) names.new.items ≡ map (λ n. n.now) names.old.items ++
+        map image_in (map (λ t. t.now) texts.now)) }
 {
     for text in texts {
         names.push(after_equals(text))?;
@@ -60,7 +63,8 @@ fn push_images<'a>(names: &mut Vec<&'a str>, texts: &[&'a str]) -> Result<(), Al
 
 /// Adds the files of raw code that texts name.
 fn push_codes<'a>(names: &mut Vec<&'a str>, texts: &[&'a str]) -> Result<(), AllocError>
-    ensures { OnOk result (map (λ n. n.now) names.new.items ≡ map (λ n. n.now) names.old.items ++ map code_in (map (λ t. t.now) texts.now)) }
+    ensures { OnOk result (map (λ n. n.now) names.new.items ≡ map (λ n. n.now) names.old.items ++
+        map code_in (map (λ t. t.now) texts.now)) }
 {
     for text in texts {
         let rest = after_colon(after_colon(text));
@@ -114,7 +118,8 @@ fn call_values<'a>(alloc: Global, words: &ParsedWords<'a>) -> Result<Vec<&'a str
 
 /// Adds the files that values name.
 fn push_value_files<'a>(names: &mut Vec<&'a str>, values: &[&'a str]) -> Result<(), AllocError>
-    ensures { OnOk result (map (λ n. n.now) names.new.items ≡ map (λ n. n.now) names.old.items ++ flat_map value_file (map (λ v. v.now) values.now)) }
+    ensures { OnOk result (map (λ n. n.now) names.new.items ≡ map (λ n. n.now) names.old.items ++
+        flat_map value_file (map (λ v. v.now) values.now)) }
 {
     for value in values {
         push_named(names, file_of(value))?;

@@ -1,10 +1,10 @@
 //! `verify --all`.
-ghost use Rattle.std.specs.Prelude.{◌++◌};
 ghost use Rattle.radoscls_program.specs.Judged.{EachEnds, Shows};
-ghost use Rattle.radoscls_program.specs.Streams.{IsPrinted, failure_line, stream};
+ghost use Rattle.radoscls_program.specs.Streams.{stream};
 
 use crate::status::ExitStatus;
-use class_tool::{Failure, Files, Output, Verdicts, verify_each};
+use crate::telling::tell;
+use class_tool::{Files, Output, Verdicts, verify_each};
 use std::alloc::Global;
 
 /// Prints verdicts.
@@ -23,13 +23,6 @@ fn show<O: Output>(verdicts: &Verdicts, out: &mut O) -> ExitStatus
     }
 }
 
-/// Prints a failure's line, and a note.
-fn tell<O: Output>(failure: Failure, note: &str, out: &mut O)
-    ensures { IsPrinted (stream O.printed O.failed out.old) (stream O.printed O.failed out.new) (failure_line failure ++ note.now) }
-{
-    let _ = out.print(format_args!("{failure}\n{note}"));
-}
-
 /// Prints the verdict of each method of the class in a file, or why no class was read.
 pub(crate) fn judge<F: Files, O: Output>(
     alloc: Global,
@@ -38,14 +31,11 @@ pub(crate) fn judge<F: Files, O: Output>(
     is_explained: bool,
     out: &mut O,
 ) -> ExitStatus
-    ensures { EachEnds (F.disk files.now) (stream O.printed O.failed out.old) (stream O.printed O.failed out.new) image.now is_explained result }
+    ensures { EachEnds (F.disk files.now) (stream O.printed O.failed out.old)
+        (stream O.printed O.failed out.new) image.now is_explained result }
 {
-    let mut note = String::new(alloc);
-    match verify_each(alloc, files, image, is_explained, &mut note) {
+    match verify_each(alloc, files, image, is_explained) {
         Ok(verdicts) => show(&verdicts, out),
-        Err(failure) => {
-            tell(failure, &note, out);
-            ExitStatus::Refused
-        }
+        Err(failed) => tell(alloc, files, &failed, is_explained, out),
     }
 }

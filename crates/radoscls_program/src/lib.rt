@@ -1,5 +1,5 @@
 //! The program `radoscls` on words, files and two writers: does what a command line asks for by
-//! `class_tool`, `sim` and `cluster_tool`, and prints it. `program` says what each of its endings
+//! `class_tool`, `class_tests`, `sim` and `cluster_tool`, and prints it. `program` says what each of its endings
 //! means: what was printed, which file was written, and why not. `start` runs it on the words and
 //! files of the process, and gives what that ends with. The command `cluster` starts threads and
 //! waits for them; the others do neither.
@@ -17,7 +17,9 @@ mod process;
 mod raw_method;
 mod status;
 mod task;
+mod telling;
 mod tenant_class;
+mod testing;
 mod threads;
 mod values;
 

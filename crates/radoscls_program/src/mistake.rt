@@ -42,7 +42,8 @@ impl Wanted {
             Wanted::Xattr        => ("--xattr <NAME=HEX>", "a name, '=' and the value"),
             Wanted::Key          => ("--key <KEY=HEX>", "a key, '=' and the value"),
             Wanted::Method       => ("<METHOD>...", "NAME:FLAGS:IN:OUT:FILE, FLAGS r, w or rw, IN and OUT 0 to 65535"),
-            Wanted::Class        => ("--class <NAME=IMAGE>", "a name, '=' and the file of the class: its image or text"),
+            Wanted::Class        =>
+                ("--class <NAME=IMAGE>", "a name, '=' and the file of the class: its image or text"),
             Wanted::ClassName    => ("--class <NAME=IMAGE>", "a name that isn't empty and has no blank"),
             Wanted::FreeName     => ("--class <NAME=IMAGE>", "a name other than lock, obj and earlier ones"),
             Wanted::FewerClasses => ("--class <NAME=IMAGE>", "at most 62 classes"),
@@ -68,7 +69,8 @@ impl Mistake<'_> {
             Mistake::ObjectTwice => {
                 String::from_str(
                     alloc,
-                    "the argument '--load <FILE>' cannot be used with '--object <HEX>', '--xattr <NAME=HEX>' or '--key <KEY=HEX>'",
+                    "the argument '--load <FILE>' cannot be used with '--object <HEX>', '--xattr <NAME=HEX>' or \
+                    '--key <KEY=HEX>'",
                 )
             }
             Mistake::Value(wanted, text) => {

@@ -1,10 +1,10 @@
 //! From words to what they ask for, done and printed, and the status that a run ends with.
 
-ghost use Rattle.std.specs.Prelude.{◌≡◌, ◌≢◌, ◌++◌, ℕ, List, [], true, false, map, string_bytes};
+ghost use Rattle.std.specs.Prelude.{◌≡◌, ◌≢◌, true, false, map};
 ghost use Rattle.command_line.specs.Parsed.{IsMemory};
 ghost use Rattle.radoscls_program.specs.Clustered.{ClusterEnds};
 ghost use Rattle.radoscls_program.specs.Playing.{SimEnds};
-ghost use Rattle.radoscls_program.specs.Program.{Acts, CallEnds, Ends, Found, IsDone, IsFileNoteAsked, IsRefused, IsUsage, Responds, TaskEnds};
+ghost use Rattle.radoscls_program.specs.Program.{Acts, CallEnds, Ends, IsDone, IsRefused, IsUsage, Responds, TaskEnds};
 ghost use Rattle.class_tool.specs.Files.{storage};
 ghost use Rattle.radoscls_program.specs.Status.{code_of};
 ghost use Rattle.radoscls_program.specs.Streams.{stream, IsPrinted, failure_line};
@@ -14,11 +14,11 @@ use crate::asked::asked;
 use crate::judging::judge;
 use crate::status::ExitStatus;
 use crate::task::{ClusterTask, Task};
+use crate::telling::{refuse, tell};
+use crate::testing::test;
 use crate::threads::play_cluster;
 use crate::values::{call_with, filled};
-use class_tool::{
-    Action, ActionResult, Failure, Files, MethodCall, Output, Reads, find, find_noted,
-};
+use class_tool::{Action, ActionResult, Failed, Failure, Files, MethodCall, Output, Reads, find};
 use cluster_tool::{Figures, Meter};
 use command_line::Unparsed;
 use sim::{Simulation, SimulationEnd, simulate};
@@ -29,46 +29,23 @@ use std::sync::Wait;
 use std::thread::Threads;
 use std::time::Clock;
 
-/// Prints a failure's line.
-pub fn refuse<O: Output>(failure: Failure, out: &mut O) -> ExitStatus
-    ensures status { result ≡ ExitStatus.Refused }
-    ensures printed { IsPrinted (stream O.printed O.failed out.old) (stream O.printed O.failed out.new) (failure_line failure) }
-{
-    let _ = out.print(format_args!("{failure}\n"));
-    ExitStatus::Refused
-}
-
-/// Prints an answer, or a failure and the note below it.
-fn respond<O: Output>(found: Result<ActionResult, Failure>, note: &str, out: &mut O) -> ExitStatus
-    ensures { Responds (stream O.printed O.failed out.old) (stream O.printed O.failed out.new) found note.now result }
+/// Prints an answer, or why there is none.
+fn respond<F: Files, O: Output>(
+    alloc: Global,
+    files: &F,
+    found: &Result<ActionResult, Failed>,
+    is_explained: bool,
+    out: &mut O,
+) -> ExitStatus
+    ensures { Responds (stream O.printed O.failed out.old)
+        (stream O.printed O.failed out.new) found.now is_explained result }
 {
     match found {
-        Ok(answer) => match out.print(&answer) {
+        Ok(answer) => match out.print(answer) {
             Ok(()) => ExitStatus::Done,
             Err(_) => ExitStatus::Refused,
         },
-        Err(failure) => {
-            let _ = out.print(format_args!("{failure}\n{note}"));
-            ExitStatus::Refused
-        }
-    }
-}
-
-/// Finds an answer, and writes the note if that is asked for.
-fn find_with_note<F: Files>(
-    alloc: Global,
-    files: &mut F,
-    action: &Action<'_>,
-    is_explained: bool,
-    note: &mut String,
-) -> Result<ActionResult, Failure>
-    requires { string_bytes note.old ≡ [] }
-    ensures { Found (storage F.disk F.failed F.in_place files.old) (storage F.disk F.failed F.in_place files.new) action.now is_explained result (string_bytes note.new) }
-{
-    if is_explained {
-        find_noted(alloc, files, action, note)
-    } else {
-        find(alloc, files, action)
+        Err(failed) => tell(alloc, files, failed, is_explained, out),
     }
 }
 
@@ -94,40 +71,15 @@ fn act<F: Files, O: Output, E: io::Write>(
     out: &mut O,
     err: &mut E,
 ) -> ExitStatus
-    ensures { Acts (storage F.disk F.failed F.in_place files.old) (storage F.disk F.failed F.in_place files.new) (stream O.printed O.failed out.old) (stream O.printed O.failed out.new) action.now is_explained result }
+    ensures { Acts (storage F.disk F.failed F.in_place files.old) (storage F.disk F.failed F.in_place files.new)
+        (stream O.printed O.failed out.old) (stream O.printed O.failed out.new) action.now is_explained result }
 {
-    let mut note = String::new(alloc);
-    let found = find_with_note(alloc, files, action, is_explained, &mut note);
-    let is_answered = found.is_ok();
-    let status = respond(found, &note, out);
-    if is_answered && status == ExitStatus::Refused {
+    let found = find(alloc, files, action);
+    let status = respond(alloc, files, &found, is_explained, out);
+    if found.is_ok() && status == ExitStatus::Refused {
         tell_saved(action, err);
     }
     status
-}
-
-/// Prints that a value's file can't be read, and what the files tell of it, if that is asked for.
-fn refuse_value<F: Files, O: Output>(
-    alloc: Global,
-    files: &F,
-    failure: Failure,
-    is_explained: bool,
-    out: &mut O,
-) -> ExitStatus
-    ensures status { result ≡ ExitStatus.Refused }
-    ensures printed { (note : List ℕ) × IsFileNoteAsked is_explained failure note × IsPrinted (stream O.printed O.failed out.old) (stream O.printed O.failed out.new) (failure_line failure ++ note) }
-{
-    let fault = match failure {
-        Failure::CannotRead if is_explained => files.fault(alloc),
-        _ => None,
-    };
-    match fault {
-        Some(note) => {
-            let _ = out.print(format_args!("{failure}\n{note}"));
-            ExitStatus::Refused
-        }
-        None => refuse(failure, out),
-    }
 }
 
 /// Makes a call, after its values' files are read, and prints what it comes to.
@@ -139,15 +91,16 @@ fn act_call<F: Files, O: Output, E: io::Write>(
     out: &mut O,
     err: &mut E,
 ) -> ExitStatus
-    ensures { CallEnds (storage F.disk F.failed F.in_place files.old) (storage F.disk F.failed F.in_place files.new) (stream O.printed O.failed out.old) (stream O.printed O.failed out.new) call.now is_explained result }
+    ensures { CallEnds (storage F.disk F.failed F.in_place files.old) (storage F.disk F.failed F.in_place files.new)
+        (stream O.printed O.failed out.old) (stream O.printed O.failed out.new) call.now is_explained result }
 {
     let values = match filled(alloc, files, call) {
         Ok(values) => values,
-        Err(failure) => return refuse_value(alloc, files, failure, is_explained, out),
+        Err(failure) => return tell(alloc, files, &Failed::from(failure), is_explained, out),
     };
     match call_with(alloc, call, &values) {
         Ok(made) => act(alloc, files, &Action::Run(made), is_explained, out, err),
-        Err(_) => refuse(Failure::NoMemory, out),
+        Err(error) => tell(alloc, files, &Failed::from(error), is_explained, out),
     }
 }
 
@@ -158,7 +111,8 @@ fn play<F: Reads, O: Output>(
     simulation: &Simulation<'_>,
     out: &mut O,
 ) -> ExitStatus
-    ensures { SimEnds (F.disk files.now) (stream O.printed O.failed out.old) (stream O.printed O.failed out.new) simulation.now result }
+    ensures { SimEnds (F.disk files.now) (stream O.printed O.failed out.old)
+        (stream O.printed O.failed out.new) simulation.now result }
 {
     match simulate(alloc, files, simulation, out) {
         Ok(SimulationEnd::Done) => ExitStatus::Done,
@@ -178,7 +132,8 @@ fn measure<R: AllocGlobal + Threads + Wait + Clock + Sync, F: Reads, O: Output, 
     out: &mut O,
     err: &mut E,
 ) -> ExitStatus
-    ensures { ClusterEnds (F.disk files.now) (stream O.printed O.failed out.old) (stream O.printed O.failed out.new) task.now.clustering result }
+    ensures { ClusterEnds (F.disk files.now) (stream O.printed O.failed out.old)
+        (stream O.printed O.failed out.new) task.now.clustering result }
 {
     let figures = Figures::new();
     let lines = if task.is_measured {
@@ -205,13 +160,15 @@ fn do_task<R: AllocGlobal + Threads + Wait + Clock + Sync, F: Files, O: Output, 
     out: &mut O,
     err: &mut E,
 ) -> ExitStatus
-    ensures { TaskEnds (storage F.disk F.failed F.in_place files.old) (storage F.disk F.failed F.in_place files.new) (stream O.printed O.failed out.old) (stream O.printed O.failed out.new) task.now result }
+    ensures { TaskEnds (storage F.disk F.failed F.in_place files.old) (storage F.disk F.failed F.in_place files.new)
+        (stream O.printed O.failed out.old) (stream O.printed O.failed out.new) task.now result }
 {
     let alloc = rt.alloc();
     match task {
         Task::Class(action, is_explained) => act(alloc, files, action, *is_explained, out, err),
         Task::Each(image, is_explained) => judge(alloc, files, image, *is_explained, out),
         Task::Run(call, is_explained) => act_call(alloc, files, call, *is_explained, out, err),
+        Task::Test(asked) => test(alloc, files, asked, out),
         Task::Sim(simulation) => play(alloc, files, simulation, out),
         Task::Cluster(cluster) => measure(rt, files, cluster, out, err),
     }
@@ -220,8 +177,11 @@ fn do_task<R: AllocGlobal + Threads + Wait + Clock + Sync, F: Files, O: Output, 
 /// Prints why the words name no task: a refusal if memory ran out, else usage or help.
 fn explain<O: Output, E: io::Write>(error: &Unparsed, out: &mut O, err: &mut E) -> ExitStatus
     ensures done { result ≢ ExitStatus.Done }
-    ensures refused { result ≡ ExitStatus.Refused → IsPrinted (stream O.printed O.failed out.old) (stream O.printed O.failed out.new) (failure_line Failure.NoMemory) }
-    ensures usage { result ≡ ExitStatus.Usage → (IsMemory error.now → ⊥) × (stream O.printed O.failed out.new ≡ stream O.printed O.failed out.old) }
+    ensures refused { result ≡ ExitStatus.Refused →
+        IsPrinted (stream O.printed O.failed out.old) (stream O.printed O.failed out.new)
+        (failure_line Failure.NoMemory) }
+    ensures usage { result ≡ ExitStatus.Usage →
+        (IsMemory error.now → ⊥) × (stream O.printed O.failed out.new ≡ stream O.printed O.failed out.old) }
 {
     if error.is_memory() {
         return refuse(Failure::NoMemory, out);
@@ -238,7 +198,8 @@ pub(crate) fn perform<
     O: Output,
     E: io::Write,
 >(rt: &R, words: &[S], files: &mut F, out: &mut O, err: &mut E) -> ExitStatus
-    ensures { Ends (storage F.disk F.failed F.in_place files.old) (storage F.disk F.failed F.in_place files.new) (stream O.printed O.failed out.old) (stream O.printed O.failed out.new) (map S.text words.now) result }
+    ensures { Ends (storage F.disk F.failed F.in_place files.old) (storage F.disk F.failed F.in_place files.new)
+        (stream O.printed O.failed out.old) (stream O.printed O.failed out.new) (map S.text words.now) result }
 {
     match asked(rt.alloc(), words) {
         Ok(task) => {
@@ -276,9 +237,15 @@ pub fn program<
     E: io::Write,
 >(rt: &R, words: &[S], files: &mut F, out: &mut O, err: &mut E) -> u8
     ensures status { (status : AStatus) × (result ≡ code_of status) }
-    ensures done { result ≡ 0 → IsDone (storage F.disk F.failed F.in_place files.old) (storage F.disk F.failed F.in_place files.new) (stream O.printed O.failed out.old) (stream O.printed O.failed out.new) (map S.text words.now) }
-    ensures refused { result ≡ 1 → IsRefused (storage F.disk F.failed F.in_place files.old) (storage F.disk F.failed F.in_place files.new) (stream O.printed O.failed out.old) (stream O.printed O.failed out.new) (map S.text words.now) }
-    ensures usage { result ≡ 2 → IsUsage (storage F.disk F.failed F.in_place files.old) (storage F.disk F.failed F.in_place files.new) (stream O.printed O.failed out.old) (stream O.printed O.failed out.new) (map S.text words.now) }
+    ensures done { result ≡ 0 →
+        IsDone (storage F.disk F.failed F.in_place files.old) (storage F.disk F.failed F.in_place files.new)
+        (stream O.printed O.failed out.old) (stream O.printed O.failed out.new) (map S.text words.now) }
+    ensures refused { result ≡ 1 →
+        IsRefused (storage F.disk F.failed F.in_place files.old) (storage F.disk F.failed F.in_place files.new)
+        (stream O.printed O.failed out.old) (stream O.printed O.failed out.new) (map S.text words.now) }
+    ensures usage { result ≡ 2 →
+        IsUsage (storage F.disk F.failed F.in_place files.old) (storage F.disk F.failed F.in_place files.new)
+        (stream O.printed O.failed out.old) (stream O.printed O.failed out.new) (map S.text words.now) }
     // If a write or a flush of `out` fails, the ending is 1.
     ensures failed { O.failed out.old ≡ false → O.failed out.new ≡ true → result ≡ 1 }
 {

@@ -9,8 +9,9 @@ ghost use Rattle.radoscls_program.specs.Status.{code_of};
 ghost use Rattle.radoscls_program.specs.Streams.{stream};
 ghost use Rattle.radoscls_program.specs.declared.status.ExitStatus.{ExitStatus as AStatus};
 
-use crate::perform::{perform, refuse};
+use crate::perform::perform;
 use crate::status::ExitStatus;
+use crate::telling::refuse;
 use class_tool::{Failure, Output, SystemFiles};
 use std::io::{ErrorKind, Input};
 use std::process::ExitCode;
@@ -31,7 +32,8 @@ fn words<R: Env + AllocGlobal>(rt: &R) -> io::Result<Vec<String>> {
 /// Says why there are no words: on `out` if memory for them was refused, and on `err`, as of
 /// wrong words, if one of them is no text.
 fn unstarted<O: Output, E: io::Write>(error: &io::Error, out: &mut O, err: &mut E) -> ExitStatus
-    ensures unstarted { (files : Storage) → IsUnstarted files files (stream O.printed O.failed out.old) (stream O.printed O.failed out.new) result }
+    ensures unstarted { (files : Storage) →
+        IsUnstarted files files (stream O.printed O.failed out.old) (stream O.printed O.failed out.new) result }
     ensures memory { (result ≡ ExitStatus.Refused) ↔ (error_kind error.now ≡ ErrorKind.OutOfMemory) }
 {
     match error.kind() {
@@ -51,8 +53,12 @@ pub fn end_of<
     O: Output,
     E: io::Write,
 >(rt: &R, words: &io::Result<Vec<String>>, files: &mut F, out: &mut O, err: &mut E) -> ExitStatus
-    ensures asked { IfOk words.now (λ all. Ends (storage F.disk F.failed F.in_place files.old) (storage F.disk F.failed F.in_place files.new) (stream O.printed O.failed out.old) (stream O.printed O.failed out.new) (map string_bytes all.items) result) }
-    ensures unread { IfErr words.now (λ _. IsUnstarted (storage F.disk F.failed F.in_place files.old) (storage F.disk F.failed F.in_place files.new) (stream O.printed O.failed out.old) (stream O.printed O.failed out.new) result) }
+    ensures asked { IfOk words.now
+        (λ all. Ends (storage F.disk F.failed F.in_place files.old) (storage F.disk F.failed F.in_place files.new)
+        (stream O.printed O.failed out.old) (stream O.printed O.failed out.new) (map string_bytes all.items) result) }
+    ensures unread { IfErr words.now
+        (λ _. IsUnstarted (storage F.disk F.failed F.in_place files.old) (storage F.disk F.failed F.in_place files.new)
+        (stream O.printed O.failed out.old) (stream O.printed O.failed out.new) result) }
     ensures memory { IfErr words.now (λ e. (result ≡ ExitStatus.Refused) ↔ (error_kind e ≡ ErrorKind.OutOfMemory)) }
 {
     match words {
@@ -69,7 +75,8 @@ pub fn start<
     O: Output,
     E: io::Write,
 >(rt: &R, out: &mut O, err: &mut E) -> ExitCode
-    ensures { (status : AStatus) × (exit_status result ≡ code_of status) × (after : Storage) × Starts unwritten after (stream O.printed O.failed out.old) (stream O.printed O.failed out.new) status }
+    ensures { (status : AStatus) × (exit_status result ≡ code_of status) × (after : Storage) ×
+        Starts unwritten after (stream O.printed O.failed out.old) (stream O.printed O.failed out.new) status }
 {
     let mut files = SystemFiles::new(rt);
     let words = words(rt);

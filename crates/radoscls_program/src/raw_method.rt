@@ -12,7 +12,8 @@ use std::alloc::Global;
 /// A text's first field, which ends with a `:`, and what stands after it.
 fn split<'a>(text: &'a str) -> Option<(&'a str, &'a str)>
     ensures none { IfNone result (has_field text.now ≡ false) }
-    ensures some { IfSome result (λ p. (has_field text.now ≡ true) × (p.0.now ≡ field_in text.now) × (p.1.now ≡ after_field text.now)) }
+    ensures some { IfSome result (λ p. (has_field text.now ≡ true) × (p.0.now ≡ field_in text.now) ×
+        (p.1.now ≡ after_field text.now)) }
 {
     text.split_once(':')
 }
@@ -59,7 +60,8 @@ pub(crate) fn raw_methods<'a>(
     texts: &[&'a str],
 ) -> Result<Vec<RawMethod<'a>>, Mistake<'a>>
     ensures some { IfOk result (λ ms. AreRaw (map (λ t. t.now) texts.now) ms.items) }
-    ensures none { IfErr result (λ m. m ≢ Mistake.NoMemory → (ms : List ARawMethod) → AreRaw (map (λ t. t.now) texts.now) ms → ⊥) }
+    ensures none { IfErr result (λ m. m ≢ Mistake.NoMemory → (ms : List ARawMethod) →
+        AreRaw (map (λ t. t.now) texts.now) ms → ⊥) }
 {
     let mut methods = Vec::new(alloc);
     for text in texts {

@@ -2,6 +2,15 @@ use class_tool::{Action, MethodCall};
 use cluster_tool::Clustering;
 use sim::Simulation;
 
+/// The tests of a class, to be run.
+#[derive(Clone, Copy)]
+pub(crate) struct Testing<'a> {
+    /// The file of the class: its image or its text.
+    pub(crate) class: &'a str,
+    /// The file of its tests.
+    pub(crate) file: &'a str,
+}
+
 /// A file of calls and maps, to be played on a cluster in threads.
 #[derive(Drop)]
 pub(crate) struct ClusterTask<'a> {
@@ -20,6 +29,8 @@ pub(crate) enum Task<'a> {
     Each(&'a str, bool),
     /// A call, whose values files may hold, and whether a failure is explained.
     Run(MethodCall<'a>, bool),
+    /// The tests of the class in a file, run.
+    Test(Testing<'a>),
     /// A file of events, played.
     Sim(Simulation<'a>),
     /// A file of calls and maps, played on a cluster in threads.

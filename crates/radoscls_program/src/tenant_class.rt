@@ -4,7 +4,8 @@ ghost use Rattle.std.specs.List.{list_any};
 ghost use Rattle.std.specs.Str.{bytes_eq};
 ghost use Rattle.tenant_classes.specs.Classes.{names_of};
 ghost use Rattle.tenant_classes.specs.declared.tenant_class.TheConstants.{TENANT_LIMIT};
-ghost use Rattle.radoscls_program.specs.Tenants.{SpellsTenants, are_tenants, image_in, is_equals, is_tenant, is_word, name_in};
+ghost use Rattle.radoscls_program.specs.Tenants.{SpellsTenants, are_tenants, image_in, is_equals, is_tenant, is_word};
+ghost use Rattle.radoscls_program.specs.Tenants.{name_in};
 
 use crate::mistake::{Mistake, Wanted};
 use std::alloc::Global;
@@ -41,7 +42,8 @@ fn is_taken(name: &str, tenants: &[TenantClass<'_>]) -> bool
 /// text after it.
 fn tenant_class<'a>(text: &'a str) -> Option<TenantClass<'a>>
     ensures none { IfNone result (list_any is_equals text.now ≡ false) }
-    ensures some { IfSome result (λ o. (list_any is_equals text.now ≡ true) × (o.name.now ≡ name_in text.now) × (o.image.now ≡ image_in text.now)) }
+    ensures some { IfSome result (λ o. (list_any is_equals text.now ≡ true) × (o.name.now ≡ name_in text.now) ×
+        (o.image.now ≡ image_in text.now)) }
 {
     match text.split_once('=') {
         Some((name, image)) => Some(TenantClass { name, image }),
@@ -55,7 +57,8 @@ fn next_class<'a>(
     tenants: &[TenantClass<'_>],
 ) -> Result<TenantClass<'a>, Mistake<'a>>
     ensures none { IfErr result (λ _. is_tenant (names_of tenants.now) text.now ≡ false) }
-    ensures some { IfOk result (λ o. (is_tenant (names_of tenants.now) text.now ≡ true) × (o.name.now ≡ name_in text.now) × (o.image.now ≡ image_in text.now)) }
+    ensures some { IfOk result (λ o. (is_tenant (names_of tenants.now) text.now ≡ true) ×
+        (o.name.now ≡ name_in text.now) × (o.image.now ≡ image_in text.now)) }
 {
     let Some(class) = tenant_class(text) else {
         return Err(Mistake::Value(Wanted::Class, text));

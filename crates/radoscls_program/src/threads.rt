@@ -2,8 +2,8 @@
 ghost use Rattle.radoscls_program.specs.Clustered.{ClusterEnds};
 ghost use Rattle.radoscls_program.specs.Streams.{stream};
 
-use crate::perform::refuse;
 use crate::status::ExitStatus;
+use crate::telling::refuse;
 use class_tool::{Failure, Output, Reads};
 use cluster_tool::{Clustering, ClusteringEnd, Meter, cluster};
 use std::io;
@@ -19,7 +19,8 @@ pub(crate) fn play_cluster<
     O: Output,
     E: io::Write,
 >(rt: &R, files: &F, asked: &Clustering<'_>, meter: &mut Meter<'_, E>, out: &mut O) -> ExitStatus
-    ensures { ClusterEnds (F.disk files.now) (stream O.printed O.failed out.old) (stream O.printed O.failed out.new) asked.now result }
+    ensures { ClusterEnds (F.disk files.now) (stream O.printed O.failed out.old)
+        (stream O.printed O.failed out.new) asked.now result }
 {
     match cluster(rt, files, asked, meter, out) {
         Ok(ClusteringEnd::Done) => ExitStatus::Done,

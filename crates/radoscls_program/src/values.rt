@@ -2,7 +2,9 @@
 ghost use Rattle.std.specs.Prelude.{◌≡◌, ◌⊎◌, Option, IfErr, IfOk, map, option_map, string_bytes};
 ghost use Rattle.class_tool.specs.Files.{Disk, IsUnreadable};
 ghost use Rattle.class_tool.specs.declared.failure.Failure.TheVariants.{CannotRead, NoMemory};
-ghost use Rattle.radoscls_program.specs.Values.{AreValues, EntriesFail, FillFails, HasValues, IsFileValue, IsFilled, IsMaybeValue, IsValue, MaybeFails, ValueFails, entry_texts, filled_texts};
+ghost use Rattle.radoscls_program.specs.Values.{AreValues, EntriesFail, FillFails, HasValues, IsFileValue, IsFilled};
+ghost use Rattle.radoscls_program.specs.Values.{IsMaybeValue, IsValue, MaybeFails, ValueFails, entry_texts};
+ghost use Rattle.radoscls_program.specs.Values.{filled_texts};
 ghost use Rattle.radoscls_program.specs.Inputs.{after_at, file_of};
 
 use class_tool::{Failure, MethodCall, NamedValue, Reads};
@@ -85,7 +87,8 @@ fn filled_entries<F: Reads>(
     files: &F,
     entries: &[NamedValue<'_>],
 ) -> Result<Vec<FilledEntry>, Failure>
-    ensures ok { IfOk result (λ filled. AreValues (F.disk files.now) (map entry_texts entries.now) (map filled_texts filled.items)) }
+    ensures ok { IfOk result
+        (λ filled. AreValues (F.disk files.now) (map entry_texts entries.now) (map filled_texts filled.items)) }
     ensures err { IfErr result (EntriesFail (F.disk files.now) (map entry_texts entries.now)) }
 {
     let mut filled = Vec::new(alloc);
@@ -113,7 +116,8 @@ fn maybe_digits<F: Reads>(
     files: &F,
     text: Option<&str>,
 ) -> Result<Option<String>, Failure>
-    ensures ok { IfOk result (λ digits. IsMaybeValue (F.disk files.now) (option_map (λ t. t.now) text.entry) (option_map string_bytes digits)) }
+    ensures ok { IfOk result (λ digits. IsMaybeValue (F.disk files.now) (option_map (λ t. t.now) text.entry)
+        (option_map string_bytes digits)) }
     ensures err { IfErr result (MaybeFails (F.disk files.now) (option_map (λ t. t.now) text.entry)) }
 {
     match text {
@@ -177,7 +181,8 @@ pub(crate) fn call_with<'a: 'b, 'b>(
     call: &MethodCall<'a>,
     filled: &'b FilledCall,
 ) -> Result<MethodCall<'b>, AllocError>
-    ensures { IfOk result (λ made. (disk : Option Disk) → HasValues disk call.now filled.entry.now → IsFilled disk call.now made) }
+    ensures { IfOk result (λ made. (disk : Option Disk) → HasValues disk call.now filled.entry.now →
+        IsFilled disk call.now made) }
 {
     Ok(MethodCall {
         image: call.image,
@@ -190,5 +195,6 @@ pub(crate) fn call_with<'a: 'b, 'b>(
         load: call.load,
         save: call.save,
         is_shown: call.is_shown,
+        is_traced: call.is_traced,
     })
 }

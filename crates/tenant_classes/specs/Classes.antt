@@ -45,7 +45,8 @@ failure_of (built_in.Verdict refusal) = Verdict refusal
 
 -- A built-in class can't be loaded.
 abbrev pub BuiltInFails : Failure → Type 0
-BuiltInFails failure = (why : BuiltInFailure) × (failure ≡ failure_of why) × (TextFails LOCK.now why ⊎ TextFails OBJ.now why)
+BuiltInFails failure =
+    (why : BuiltInFailure) × (failure ≡ failure_of why) × (TextFails LOCK.now why ⊎ TextFails OBJ.now why)
 
 -- a file holds a safe class
 abbrev pub HoldsClass : Option Disk → TenantClass → Type 0
@@ -54,7 +55,8 @@ HoldsClass disk o = (class : List ClassMethod) × IsSafeIn disk o.image.now clas
 -- The first file from which no safe class was read, and why; each file before it holds one.
 abbrev pub TenantsFail : Option Disk → List TenantClass → Failure → Type 0
 TenantsFail disk [] failure = ⊥
-TenantsFail disk (o ∷ tenants) failure = LoadFails disk o.image.now failure ⊎ (HoldsClass disk o × TenantsFail disk tenants failure)
+TenantsFail disk (o ∷ tenants) failure =
+    LoadFails disk o.image.now failure ⊎ (HoldsClass disk o × TenantsFail disk tenants failure)
 
 -- Why the classes can't be loaded: because of a built-in class, or else because of a tenant's, the
 -- first one that can't be loaded.

@@ -4,7 +4,8 @@ ghost use Rattle.builtin_classes.specs.BuiltIn.{AreLoaded};
 ghost use Rattle.builtin_classes.specs.declared.lock.TheConstants.{LOCK};
 ghost use Rattle.builtin_classes.specs.declared.obj.TheConstants.{OBJ};
 ghost use Rattle.interp.specs.declared.limits.TheConstants.{CLASS_LIMIT};
-ghost use Rattle.tenant_classes.specs.Classes.{AreClasses, BuiltInFails, ClassesFail, TenantsFail, GrewByTenants, failure_of, names_of};
+ghost use Rattle.tenant_classes.specs.Classes.{AreClasses, BuiltInFails, ClassesFail, TenantsFail, GrewByTenants};
+ghost use Rattle.tenant_classes.specs.Classes.{failure_of, names_of};
 
 use crate::tenant_class::{TENANT_LIMIT, TenantClass};
 use builtin_classes::{BuiltInFailure, load_lock, load_obj};

@@ -5,4 +5,5 @@ use Rattle.class_tool.specs.Files.{Disk}
 
 -- the files `text` and `image`, and no other
 abbrev pub two_files : List ℕ → List ℕ → Disk
-two_files text image name = if bytes_eq name (codes "text") then Some text else (if bytes_eq name (codes "image") then Some image else None)
+two_files text image name =
+    if bytes_eq name (codes "text") then Some text else (if bytes_eq name (codes "image") then Some image else None)

@@ -38,7 +38,7 @@ fn hold(files: &TwoFiles, text: &[u8], image: &[u8], has_failed: bool) -> bool {
 fn printed<R: Abort + AllocGlobal>(rt: &R, files: &mut TwoFiles, asked: &Action<'_>) -> String {
     let text = match find(rt.alloc(), files, asked) {
         Ok(answer) => format!(in rt.alloc(); "{answer}"),
-        Err(failure) => format!(in rt.alloc(); "{failure}"),
+        Err(failed) => format!(in rt.alloc(); "{}", failed.failure),
     };
     text.expect(rt, "memory")
 }

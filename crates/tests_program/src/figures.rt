@@ -76,7 +76,8 @@ fn figures_are_shown(rt: HostRuntime) {
     figures.note_nudges(3);
     let shown = figures.to_string(rt.alloc()).expect(&rt, "memory");
     let wanted =
-        "calls 3\ncalls a second 1\nmean microseconds 4\nworst microseconds 9\nmap to last answer microseconds 7\nmessages 4\nrepeats 2\nnudges 5\n";
+        "calls 3\ncalls a second 1\nmean microseconds 4\nworst microseconds 9\nmap to last answer microseconds \
+    7\nmessages 4\nrepeats 2\nnudges 5\n";
     assert!(&rt; shown.as_str() == wanted);
 }
 
@@ -93,7 +94,8 @@ fn figures_without_a_clock(rt: HostRuntime) {
     figures.note_whole(&clock);
     let shown = figures.to_string(rt.alloc()).expect(&rt, "memory");
     let wanted =
-        "calls 1\ncalls a second 0\nmean microseconds 0\nworst microseconds 0\nmap to last answer microseconds 0\nmessages 0\nrepeats 0\nnudges 0\n";
+        "calls 1\ncalls a second 0\nmean microseconds 0\nworst microseconds 0\nmap to last answer microseconds \
+    0\nmessages 0\nrepeats 0\nnudges 0\n";
     assert!(&rt; shown.as_str() == wanted);
 }
 

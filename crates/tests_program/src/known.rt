@@ -22,7 +22,8 @@ pub struct TwoFiles {
 impl TwoFiles {
     /// The bytes of a file.
     fn file(&self, name: &str) -> io::Result<&[u8]>
-        ensures held { IfOk result (λ bytes. two_files self.now.text.items self.now.image.items name.now ≡ Some bytes.now) }
+        ensures held { IfOk result (λ bytes. two_files self.now.text.items self.now.image.items name.now ≡
+            Some bytes.now) }
         ensures absent { IfErr result (λ _. two_files self.now.text.items self.now.image.items name.now ≡ None) }
     {
         match name {
@@ -35,8 +36,10 @@ impl TwoFiles {
     /// Makes those bytes the whole of a file, or leaves it as it is.
     fn replaced(&mut self, name: &str, bytes: &[u8]) -> io::Result<()>
         ensures written { OnOk result (two_files self.new.text.items self.new.image.items name.now ≡ Some bytes.now) }
-        ensures kept { IsErr result → IsKept false (Some (two_files self.old.text.items self.old.image.items)) (Some (two_files self.new.text.items self.new.image.items)) name.now }
-        ensures others { OthersStay (Some (two_files self.old.text.items self.old.image.items)) (Some (two_files self.new.text.items self.new.image.items)) name.now }
+        ensures kept { IsErr result → IsKept false (Some (two_files self.old.text.items self.old.image.items))
+            (Some (two_files self.new.text.items self.new.image.items)) name.now }
+        ensures others { OthersStay (Some (two_files self.old.text.items self.old.image.items))
+            (Some (two_files self.new.text.items self.new.image.items)) name.now }
         ensures flag { self.new.has_failed ≡ self.old.has_failed }
     {
         if !self.takes {

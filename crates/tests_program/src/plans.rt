@@ -90,7 +90,8 @@ fn lines(rt: HostRuntime) -> Result<(), Fail> {
     push_head(&mut text, 64, 1)?;
     push_refused(rt.alloc(), &mut text, "7 InputTooLong")?;
     let wanted =
-        "client 1 call 0 place 0 code 0 output -\nclient 2 call 10 place 7 code -16 output 680f\nclient 64 call 1 refused 7 InputTooLong\n";
+        "client 1 call 0 place 0 code 0 output -\nclient 2 call 10 place 7 code -16 output 680f\nclient 64 call 1 \
+    refused 7 InputTooLong\n";
     assert!(rt; text.as_str() == wanted);
     let bad = bad_line(rt.alloc(), 3)?;
     let refused = refused_line(rt.alloc(), 12, "1 NoneUp")?;

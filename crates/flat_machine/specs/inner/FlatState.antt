@@ -9,7 +9,8 @@ use Rattle.helpers.specs.Table.{row, signature_of}
 use Rattle.bpf_machine.specs.declared.caps.Caps.{Caps}
 use Rattle.flat_machine.specs.declared.run.Stop.{Stop}
 use Rattle.flat_machine.specs.declared.run.Stop.TheVariants as stops
-use Rattle.bpf_machine.specs.State.{◌>>=◌, State, reg, set_reg, go, after, with_edits, outcome_of, Ending, Ended, Stuck, Unfinished}
+use Rattle.bpf_machine.specs.State.{◌>>=◌, State, reg, set_reg, go, after, with_edits, outcome_of, Ending, Ended, Stuck}
+use Rattle.bpf_machine.specs.State.{Unfinished}
 use Rattle.bpf_machine.specs.Helper.{asked, answered, write_room}
 use Rattle.bpf_machine.specs.Flat.{Layout, range, arguments}
 
@@ -41,7 +42,16 @@ abbrev pub helped : Caps → Layout → Helper → State ℕ → Option (State �
 helped caps lay h s =
     arguments caps lay s (row h).takes.arguments 1 >>= λ g.
     let e = (row h).effect s.object (asked g) in
-    Some (record { slot = s.slot; regs = answered s.regs e.answer; memory = write_room s.memory g.target e.bytes; object = e.object; out_len = unwrap_or e.out_len s.out_len; caller = s.caller; edits = with_edits (helper_edits h s.object (asked g)) s.edits })
+    Some (record {
+      slot = s.slot;
+      regs = answered s.regs e.answer;
+      memory = write_room s.memory g.target e.bytes;
+      object = e.object;
+      out_len = unwrap_or e.out_len s.out_len;
+      caller = s.caller;
+      edits =
+          with_edits (helper_edits h s.object (asked g)) s.edits;
+    })
 
 -- a helper's answer in register 0, registers 1 to 5 unset
 abbrev pub with_answer : State ℕ → ℕ → State ℕ

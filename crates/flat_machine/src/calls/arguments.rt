@@ -37,7 +37,8 @@ pub fn text_in(memory: &Regions, text: Range) -> &[u8]
 /// be written.
 fn range_at(s: &FlatState, writes: bool, register: u8) -> Option<Range>
     requires { register < 255 }
-    ensures taken { option_map (λ r. (r.place, r.len)) result ≡ range_at (caps_in s.now) (layout_in s.now) (flat_state s.now) writes register }
+    ensures taken { option_map (λ r. (r.place, r.len)) result ≡
+        range_at (caps_in s.now) (layout_in s.now) (flat_state s.now) writes register }
     ensures inside { IfSome result (λ r. IfSome r.place (λ p. p.1 + r.len ≤ size (caps_in s.now) p.0)) }
 {
     let address = get(s, register)?;
@@ -48,7 +49,9 @@ fn range_at(s: &FlatState, writes: bool, register: u8) -> Option<Range>
 
 /// The arguments of `read`: a place in the object, and a range for its bytes.
 pub fn number_and_room(s: &FlatState) -> Option<(u64, Range)>
-    ensures given { option_map (λ r. with_number r.0 (with_room r.1.len r.1.place (nothing_given s.now.caller))) result ≡ arguments (caps_in s.now) (layout_in s.now) (flat_state s.now) (Argument.Number ∷ Argument.Writable ∷ []) 1 }
+    ensures given { option_map (λ r. with_number r.0 (with_room r.1.len r.1.place (nothing_given s.now.caller)))
+        result ≡ arguments (caps_in s.now) (layout_in s.now) (flat_state s.now)
+        (Argument.Number ∷ Argument.Writable ∷ []) 1 }
     ensures inside { IfSome result (λ r. IfSome r.1.place (λ p. p.1 + r.1.len ≤ size (caps_in s.now) p.0)) }
 {
     let n = get(s, 1)?;
@@ -58,7 +61,10 @@ pub fn number_and_room(s: &FlatState) -> Option<(u64, Range)>
 
 /// The arguments of `write`: a place in the object, and the range of the bytes.
 pub fn number_and_text(s: &FlatState) -> Option<(u64, Range)>
-    ensures { option_map (λ r. with_number r.0 (with_text (bytes_in (flat_state s.now).memory r.1.place r.1.len) (nothing_given s.now.caller))) result ≡ arguments (caps_in s.now) (layout_in s.now) (flat_state s.now) (Argument.Number ∷ Argument.Readable ∷ []) 1 }
+    ensures { option_map
+        (λ r. with_number r.0 (with_text (bytes_in (flat_state s.now).memory r.1.place r.1.len)
+        (nothing_given s.now.caller))) result ≡
+        arguments (caps_in s.now) (layout_in s.now) (flat_state s.now) (Argument.Number ∷ Argument.Readable ∷ []) 1 }
 {
     let n = get(s, 1)?;
     let text = range_at(s, false, 2)?;
@@ -67,7 +73,9 @@ pub fn number_and_text(s: &FlatState) -> Option<(u64, Range)>
 
 /// The argument of `rmxattr` and `map_rm`: the range of a name.
 pub fn one_text(s: &FlatState) -> Option<Range>
-    ensures { option_map (λ r. with_text (bytes_in (flat_state s.now).memory r.place r.len) (nothing_given s.now.caller)) result ≡ arguments (caps_in s.now) (layout_in s.now) (flat_state s.now) (Argument.Readable ∷ []) 1 }
+    ensures { option_map
+        (λ r. with_text (bytes_in (flat_state s.now).memory r.place r.len) (nothing_given s.now.caller)) result ≡
+        arguments (caps_in s.now) (layout_in s.now) (flat_state s.now) (Argument.Readable ∷ []) 1 }
 {
     range_at(s, false, 1)
 }
@@ -75,7 +83,10 @@ pub fn one_text(s: &FlatState) -> Option<Range>
 /// The arguments of `getxattr`, `map_get`, `map_next` and `xattr_next`: the range of a name, and
 /// one for the bytes found.
 pub fn text_and_room(s: &FlatState) -> Option<(Range, Range)>
-    ensures given { option_map (λ r. with_text (bytes_in (flat_state s.now).memory r.0.place r.0.len) (with_room r.1.len r.1.place (nothing_given s.now.caller))) result ≡ arguments (caps_in s.now) (layout_in s.now) (flat_state s.now) (Argument.Readable ∷ Argument.Writable ∷ []) 1 }
+    ensures given { option_map
+        (λ r. with_text (bytes_in (flat_state s.now).memory r.0.place r.0.len)
+        (with_room r.1.len r.1.place (nothing_given s.now.caller))) result ≡
+        arguments (caps_in s.now) (layout_in s.now) (flat_state s.now) (Argument.Readable ∷ Argument.Writable ∷ []) 1 }
     ensures inside { IfSome result (λ r. IfSome r.1.place (λ p. p.1 + r.1.len ≤ size (caps_in s.now) p.0)) }
 {
     let text = range_at(s, false, 1)?;
@@ -85,7 +96,10 @@ pub fn text_and_room(s: &FlatState) -> Option<(Range, Range)>
 
 /// The arguments of `copy`: a range, and that of the bytes that are copied to it.
 pub fn room_and_text(s: &FlatState) -> Option<(Range, Range)>
-    ensures given { option_map (λ r. with_room r.0.len r.0.place (with_text (bytes_in (flat_state s.now).memory r.1.place r.1.len) (nothing_given s.now.caller))) result ≡ arguments (caps_in s.now) (layout_in s.now) (flat_state s.now) (Argument.Writable ∷ Argument.Readable ∷ []) 1 }
+    ensures given { option_map
+        (λ r. with_room r.0.len r.0.place (with_text (bytes_in (flat_state s.now).memory r.1.place r.1.len)
+        (nothing_given s.now.caller))) result ≡
+        arguments (caps_in s.now) (layout_in s.now) (flat_state s.now) (Argument.Writable ∷ Argument.Readable ∷ []) 1 }
     ensures inside { IfSome result (λ r. IfSome r.0.place (λ p. p.1 + r.0.len ≤ size (caps_in s.now) p.0)) }
 {
     let room = range_at(s, true, 1)?;
@@ -95,7 +109,10 @@ pub fn room_and_text(s: &FlatState) -> Option<(Range, Range)>
 
 /// The arguments of `setxattr`, `map_set` and `compare`: two ranges.
 pub fn two_texts(s: &FlatState) -> Option<(Range, Range)>
-    ensures { option_map (λ r. with_text (bytes_in (flat_state s.now).memory r.0.place r.0.len) (with_text (bytes_in (flat_state s.now).memory r.1.place r.1.len) (nothing_given s.now.caller))) result ≡ arguments (caps_in s.now) (layout_in s.now) (flat_state s.now) (Argument.Readable ∷ Argument.Readable ∷ []) 1 }
+    ensures { option_map
+        (λ r. with_text (bytes_in (flat_state s.now).memory r.0.place r.0.len)
+        (with_text (bytes_in (flat_state s.now).memory r.1.place r.1.len) (nothing_given s.now.caller))) result ≡
+        arguments (caps_in s.now) (layout_in s.now) (flat_state s.now) (Argument.Readable ∷ Argument.Readable ∷ []) 1 }
 {
     let name = range_at(s, false, 1)?;
     let value = range_at(s, false, 3)?;

@@ -12,7 +12,8 @@ use txn::NoMemory;
 
 /// Helper 3, `write`: writes a range's bytes into the object at a place.
 pub fn write(alloc: Global, s: &mut FlatState) -> Result<Option<u64>, NoMemory>
-    ensures helped { IfOk result (λ o. Answers o (flat_state s.new) (helped (caps_in s.old) (layout_in s.old) Helper.Write (flat_state s.old))) }
+    ensures helped { IfOk result
+        (λ o. Answers o (flat_state s.new) (helped (caps_in s.old) (layout_in s.old) Helper.Write (flat_state s.old))) }
     ensures slot { s.new.slot ≡ s.old.slot }
     ensures machine { s.new.memory.machine ≡ s.old.memory.machine }
 {
@@ -27,7 +28,8 @@ pub fn write(alloc: Global, s: &mut FlatState) -> Result<Option<u64>, NoMemory>
 
 /// Helper 4, `truncate`: cuts the object's data or extends it with zeros.
 pub fn truncate(alloc: Global, s: &mut FlatState) -> Result<Option<u64>, NoMemory>
-    ensures helped { IfOk result (λ o. Answers o (flat_state s.new) (helped (caps_in s.old) (layout_in s.old) Helper.Truncate (flat_state s.old))) }
+    ensures helped { IfOk result (λ o. Answers o (flat_state s.new)
+        (helped (caps_in s.old) (layout_in s.old) Helper.Truncate (flat_state s.old))) }
     ensures slot { s.new.slot ≡ s.old.slot }
     ensures machine { s.new.memory.machine ≡ s.old.memory.machine }
 {
@@ -39,7 +41,8 @@ pub fn truncate(alloc: Global, s: &mut FlatState) -> Result<Option<u64>, NoMemor
 
 /// Helper 7, `setxattr`: sets an xattr.
 pub fn setxattr(alloc: Global, s: &mut FlatState) -> Result<Option<u64>, NoMemory>
-    ensures helped { IfOk result (λ o. Answers o (flat_state s.new) (helped (caps_in s.old) (layout_in s.old) Helper.SetXattr (flat_state s.old))) }
+    ensures helped { IfOk result (λ o. Answers o (flat_state s.new)
+        (helped (caps_in s.old) (layout_in s.old) Helper.SetXattr (flat_state s.old))) }
     ensures slot { s.new.slot ≡ s.old.slot }
     ensures machine { s.new.memory.machine ≡ s.old.memory.machine }
 {
@@ -54,7 +57,8 @@ pub fn setxattr(alloc: Global, s: &mut FlatState) -> Result<Option<u64>, NoMemor
 
 /// Helper 8, `rmxattr`: removes an xattr.
 pub fn rmxattr(alloc: Global, s: &mut FlatState) -> Result<Option<u64>, NoMemory>
-    ensures helped { IfOk result (λ o. Answers o (flat_state s.new) (helped (caps_in s.old) (layout_in s.old) Helper.RmXattr (flat_state s.old))) }
+    ensures helped { IfOk result (λ o. Answers o (flat_state s.new)
+        (helped (caps_in s.old) (layout_in s.old) Helper.RmXattr (flat_state s.old))) }
     ensures slot { s.new.slot ≡ s.old.slot }
     ensures machine { s.new.memory.machine ≡ s.old.memory.machine }
 {
@@ -69,7 +73,8 @@ pub fn rmxattr(alloc: Global, s: &mut FlatState) -> Result<Option<u64>, NoMemory
 
 /// Helper 10, `map_set`: sets the value of a key.
 pub fn map_set(alloc: Global, s: &mut FlatState) -> Result<Option<u64>, NoMemory>
-    ensures helped { IfOk result (λ o. Answers o (flat_state s.new) (helped (caps_in s.old) (layout_in s.old) Helper.MapSet (flat_state s.old))) }
+    ensures helped { IfOk result (λ o. Answers o (flat_state s.new)
+        (helped (caps_in s.old) (layout_in s.old) Helper.MapSet (flat_state s.old))) }
     ensures slot { s.new.slot ≡ s.old.slot }
     ensures machine { s.new.memory.machine ≡ s.old.memory.machine }
 {
@@ -84,7 +89,8 @@ pub fn map_set(alloc: Global, s: &mut FlatState) -> Result<Option<u64>, NoMemory
 
 /// Helper 11, `map_rm`: removes a key.
 pub fn map_rm(alloc: Global, s: &mut FlatState) -> Result<Option<u64>, NoMemory>
-    ensures helped { IfOk result (λ o. Answers o (flat_state s.new) (helped (caps_in s.old) (layout_in s.old) Helper.MapRm (flat_state s.old))) }
+    ensures helped { IfOk result
+        (λ o. Answers o (flat_state s.new) (helped (caps_in s.old) (layout_in s.old) Helper.MapRm (flat_state s.old))) }
     ensures slot { s.new.slot ≡ s.old.slot }
     ensures machine { s.new.memory.machine ≡ s.old.memory.machine }
 {
@@ -99,7 +105,8 @@ pub fn map_rm(alloc: Global, s: &mut FlatState) -> Result<Option<u64>, NoMemory>
 
 /// Helper 14, `create`: creates an absent object.
 pub fn create(alloc: Global, s: &mut FlatState) -> Result<Option<u64>, NoMemory>
-    ensures helped { IfOk result (λ o. Answers o (flat_state s.new) (helped (caps_in s.old) (layout_in s.old) Helper.Create (flat_state s.old))) }
+    ensures helped { IfOk result (λ o. Answers o (flat_state s.new)
+        (helped (caps_in s.old) (layout_in s.old) Helper.Create (flat_state s.old))) }
     ensures slot { s.new.slot ≡ s.old.slot }
     ensures machine { s.new.memory.machine ≡ s.old.memory.machine }
 {

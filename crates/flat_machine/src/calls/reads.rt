@@ -22,7 +22,8 @@ fn read_over(staged: &Staged, at: u64, bytes: &mut Vec<u8>, room: Span) -> u64
     requires inside { room.at + room.len ≤ length bytes.old.items }
     requires some { 0 < room.len }
     ensures answer { result ≡ (read_answer staged.entry.now.after at room.len).number }
-    ensures bytes { bytes.new.items ≡ written bytes.old.items room.at (read_answer staged.entry.now.after at room.len).bytes }
+    ensures bytes { bytes.new.items ≡ written bytes.old.items room.at
+        (read_answer staged.entry.now.after at room.len).bytes }
     ensures long { length bytes.new.items ≡ length bytes.old.items }
 {
     helpers::read(staged, at, bytes, room)
@@ -33,7 +34,8 @@ fn read_into(memory: &mut Regions, region: Region, room: Span, staged: &Staged, 
     requires inside { room.at + room.len ≤ size memory.old.machine.caps region }
     requires some { 0 < room.len }
     ensures answer { result ≡ (read_answer staged.entry.now.after at room.len).number }
-    ensures bytes { memory_of memory.new ≡ put (memory_of memory.old) region room.at (read_answer staged.entry.now.after at room.len).bytes }
+    ensures bytes { memory_of memory.new ≡ put (memory_of memory.old) region room.at
+        (read_answer staged.entry.now.after at room.len).bytes }
     ensures machine { memory.new.machine ≡ memory.old.machine }
 {
     match region {
@@ -45,7 +47,8 @@ fn read_into(memory: &mut Regions, region: Region, room: Span, staged: &Staged, 
 
 /// Helper 2, `read`: copies the object's bytes from a place on into a range.
 pub fn read(s: &mut FlatState) -> Option<u64>
-    ensures helped { Answers result (flat_state s.new) (helped (caps_in s.old) (layout_in s.old) Helper.Read (flat_state s.old)) }
+    ensures helped { Answers result (flat_state s.new)
+        (helped (caps_in s.old) (layout_in s.old) Helper.Read (flat_state s.old)) }
     ensures slot { s.new.slot ≡ s.old.slot }
     ensures machine { s.new.memory.machine ≡ s.old.memory.machine }
 {
@@ -64,7 +67,8 @@ pub fn read(s: &mut FlatState) -> Option<u64>
 
 /// Helper 6, `getxattr`: copies an xattr's value into a range.
 pub fn getxattr(s: &mut FlatState) -> Option<u64>
-    ensures helped { Answers result (flat_state s.new) (helped (caps_in s.old) (layout_in s.old) Helper.GetXattr (flat_state s.old)) }
+    ensures helped { Answers result (flat_state s.new)
+        (helped (caps_in s.old) (layout_in s.old) Helper.GetXattr (flat_state s.old)) }
     ensures slot { s.new.slot ≡ s.old.slot }
     ensures machine { s.new.memory.machine ≡ s.old.memory.machine }
 {
@@ -76,7 +80,8 @@ pub fn getxattr(s: &mut FlatState) -> Option<u64>
 
 /// Helper 9, `map_get`: copies a key's value into a range.
 pub fn map_get(s: &mut FlatState) -> Option<u64>
-    ensures helped { Answers result (flat_state s.new) (helped (caps_in s.old) (layout_in s.old) Helper.MapGet (flat_state s.old)) }
+    ensures helped { Answers result (flat_state s.new)
+        (helped (caps_in s.old) (layout_in s.old) Helper.MapGet (flat_state s.old)) }
     ensures slot { s.new.slot ≡ s.old.slot }
     ensures machine { s.new.memory.machine ≡ s.old.memory.machine }
 {
@@ -88,7 +93,8 @@ pub fn map_get(s: &mut FlatState) -> Option<u64>
 
 /// Helper 12, `map_next`: copies the least key above a range's bytes into a range.
 pub fn map_next(s: &mut FlatState) -> Option<u64>
-    ensures helped { Answers result (flat_state s.new) (helped (caps_in s.old) (layout_in s.old) Helper.MapNext (flat_state s.old)) }
+    ensures helped { Answers result (flat_state s.new)
+        (helped (caps_in s.old) (layout_in s.old) Helper.MapNext (flat_state s.old)) }
     ensures slot { s.new.slot ≡ s.old.slot }
     ensures machine { s.new.memory.machine ≡ s.old.memory.machine }
 {
@@ -100,7 +106,8 @@ pub fn map_next(s: &mut FlatState) -> Option<u64>
 
 /// Helper 13, `out_len`: sets the number of bytes of the output region that are output.
 pub fn out_len(s: &mut FlatState) -> Option<u64>
-    ensures helped { Answers result (flat_state s.new) (helped (caps_in s.old) (layout_in s.old) Helper.OutLen (flat_state s.old)) }
+    ensures helped { Answers result (flat_state s.new)
+        (helped (caps_in s.old) (layout_in s.old) Helper.OutLen (flat_state s.old)) }
     ensures slot { s.new.slot ≡ s.old.slot }
     ensures machine { s.new.memory.machine ≡ s.old.memory.machine }
 {
@@ -113,7 +120,8 @@ pub fn out_len(s: &mut FlatState) -> Option<u64>
 
 /// Helper 16, `compare`: compares the bytes of two ranges.
 pub fn compare(s: &FlatState) -> Option<u64>
-    ensures { Answers result (flat_state s.now) (helped (caps_in s.now) (layout_in s.now) Helper.Compare (flat_state s.now)) }
+    ensures { Answers result (flat_state s.now)
+        (helped (caps_in s.now) (layout_in s.now) Helper.Compare (flat_state s.now)) }
 {
     let (left, right) = two_texts(s)?;
     Some(helpers::compared(text_in(&s.memory, left), text_in(&s.memory, right)))
@@ -121,7 +129,8 @@ pub fn compare(s: &FlatState) -> Option<u64>
 
 /// Helper 17, `copy`: copies a range's bytes into a range.
 pub fn copy(alloc: Global, s: &mut FlatState) -> Result<Option<u64>, NoMemory>
-    ensures helped { IfOk result (λ o. Answers o (flat_state s.new) (helped (caps_in s.old) (layout_in s.old) Helper.Copy (flat_state s.old))) }
+    ensures helped { IfOk result
+        (λ o. Answers o (flat_state s.new) (helped (caps_in s.old) (layout_in s.old) Helper.Copy (flat_state s.old))) }
     ensures slot { s.new.slot ≡ s.old.slot }
     ensures machine { s.new.memory.machine ≡ s.old.memory.machine }
 {
@@ -139,7 +148,8 @@ pub fn copy(alloc: Global, s: &mut FlatState) -> Result<Option<u64>, NoMemory>
 
 /// Helper 18, `xattr_next`: copies the least name of an xattr above a range's bytes into a range.
 pub fn xattr_next(s: &mut FlatState) -> Option<u64>
-    ensures helped { Answers result (flat_state s.new) (helped (caps_in s.old) (layout_in s.old) Helper.XattrNext (flat_state s.old)) }
+    ensures helped { Answers result (flat_state s.new)
+        (helped (caps_in s.old) (layout_in s.old) Helper.XattrNext (flat_state s.old)) }
     ensures slot { s.new.slot ≡ s.old.slot }
     ensures machine { s.new.memory.machine ≡ s.old.memory.machine }
 {

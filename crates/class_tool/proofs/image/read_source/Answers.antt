@@ -1,9 +1,8 @@
 use Rattle.std.proofs.Common.{ℕ, List, ◌⊎◌, subst}
-use Rattle.std.specs.Prelude.{IfErr, IfOk, string_bytes}
+use Rattle.std.specs.Prelude.{IfErr, IfOk}
 use Rattle.std.proofs.lemmas.Result.{IfErr-weaker, IfOk-weaker}
-use Rattle.class_tool.specs.Explained.{IfAsked, IsFaultNote, IsReadNote}
 use Rattle.class_tool.specs.Image.{IsMemory, IsSourceOf, ReadFails, SayNone, Says}
-use Rattle.class_tool.proofs.Longer.{asked_in, if_err_both, read_fails, source_in}
+use Rattle.class_tool.proofs.Longer.{read_fails, source_in}
 use Rattle.class_tool.proofs.image.read_source.Goals as goal
 
 pub returns-clause-read : goal.returns-clause-read
@@ -18,16 +17,6 @@ pub returns-clause-fails : goal.returns-clause-fails
 returns-clause-fails g c =
     let disk = g.F.Reads.disk c.args.files.now in
     let bytes = c.in-Ok.bytes.items in
-    IfErr-weaker c.source_of.result (λ e. IsMemory e ⊎ SayNone bytes e) (ReadFails disk c.args.name.now)
-    (λ e why. read_fails c.beginning.ensures.read disk c.args.name.now bytes e c.in-Ok.ensures.begun why)
-    (subst (λ (b : List ℕ). IfErr c.source_of.result (λ e. IsMemory e ⊎ SayNone b e)) c.deref.ensures.value c.source_of.ensures.fails)
-
-pub returns-clause-noted : goal.returns-clause-noted
-returns-clause-noted g c =
-    let disk = g.F.Reads.disk c.args.files.now in
-    let bytes = c.in-Ok.bytes.items in
-    let note = string_bytes c.source_of.new.note in
-    if_err_both c.source_of.result (λ e. IsMemory e ⊎ SayNone bytes e) (λ e. IfAsked c.args.is_explained (IsFaultNote bytes e) note) (λ e. IfAsked c.args.is_explained (IsReadNote disk c.args.name.now e) note)
-    (λ e why is. asked_in c.args.is_explained disk c.args.name.now bytes e note c.in-Ok.ensures.begun why is)
-    (subst (λ (b : List ℕ). IfErr c.source_of.result (λ e. IsMemory e ⊎ SayNone b e)) c.deref.ensures.value c.source_of.ensures.fails)
-    (subst (λ (b : List ℕ). IfErr c.source_of.result (λ e. IfAsked c.args.is_explained (IsFaultNote b e) note)) c.deref.ensures.value c.source_of.ensures.noted)
+    IfErr-weaker c.source_of.result (λ e. IsMemory e.failure ⊎ SayNone bytes e.failure) (λ e. ReadFails disk c.args.name.now e.failure)
+    (λ e why. read_fails c.beginning.ensures.read disk c.args.name.now bytes e.failure c.in-Ok.ensures.begun why)
+    (subst (λ (b : List ℕ). IfErr c.source_of.result (λ e. IsMemory e.failure ⊎ SayNone b e.failure)) c.deref.ensures.value c.source_of.ensures.fails)

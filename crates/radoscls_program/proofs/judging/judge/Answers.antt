@@ -1,4 +1,3 @@
-use Rattle.std.proofs.Common.{string_bytes}
 use Rattle.radoscls_program.specs.Streams.{stream}
 use Rattle.radoscls_program.proofs.Verdicts.{judged, unjudged}
 use Rattle.radoscls_program.proofs.judging.judge.Goals as goal
@@ -8,10 +7,3 @@ returns-in-Ok g c =
     let out = stream g.O.Output.printed g.O.Output.failed in
     judged (g.F.Reads.disk c.args.files.now) (out c.args.out.now) (out c.show.new.out) c.args.image.now c.args.is_explained c.in-Ok.verdicts c.show.result
     c.in-Ok.ensures.ok c.show.ensures
-
-pub returns : goal.returns
-returns g c =
-    let out = stream g.O.Output.printed g.O.Output.failed in
-    unjudged (g.F.Reads.disk c.args.files.now) (out c.args.out.now) (out c.tell.new.out) c.args.image.now c.args.is_explained c.in-Err.failure
-    (string_bytes c.verify_each.new.note) c.in-Err.ensures.err c.in-Err.ensures.noted
-    (rw c.deref.ensures at c.tell.ensures)

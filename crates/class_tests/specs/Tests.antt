@@ -1,0 +1,80 @@
+-- Calls and lines, and how the lines of a file end.
+use Rattle.std.specs.Prelude.{ℕ, suc, List, [], ◌∷◌, Option, Some, None, length, nat_lt, ◌==◌, slice_index}
+use Rattle.std.specs.Prelude.{if◌then◌else◌, codes}
+use Rattle.std.specs.Str.{bytes_eq}
+use Rattle.bpf_decode.specs.Class.{ClassMethod}
+use Rattle.bpf_machine.specs.Safe.{call_outcome}
+use Rattle.bpf_machine.specs.State.{Outcome}
+use Rattle.file_words.specs.Words.{ended_lines_of, words}
+use Rattle.verifier.specs.Verified.{method_named}
+use Rattle.class_tests.specs.Cases.{answer_said, as_line, is_line, judged, object_line, opening, set_line}
+use Rattle.class_tests.specs.Spelled.{Text, value_in}
+use Rattle.class_tests.specs.declared.case.Case.{Case}
+use Rattle.class_tests.specs.declared.said.Said.{Said}
+use Rattle.class_tests.specs.declared.said.Said.TheVariants.{Answer, NoMethod, InputTooLong}
+use Rattle.class_tests.specs.declared.step.Part.TheVariants.{Xattrs, Keys}
+use Rattle.class_tests.specs.declared.step.Step.{Step}
+use Rattle.class_tests.specs.declared.step.Step.TheVariants.{Next, Holds, Differs, Bad}
+use Rattle.class_tests.specs.declared.tests.TestEnd.{TestEnd}
+use Rattle.class_tests.specs.declared.tests.TestEnd.TheVariants.{AllHold, DiffersAt, BadAt}
+
+-- THE ANSWER OF A CALL: the outcome of the method's bytes on the case's object, unless the class
+-- has no such method or the input is too long. After it the case has the object that it left.
+abbrev pub answered : Case → Outcome → Case
+answered case outcome = record case { object = outcome.object }
+
+abbrev pub called : Option ClassMethod → Case → List ℕ → Option Said → Step
+called None case input said = judged case said NoMethod
+called (Some method) case input said =
+    if nat_lt method.in_cap (length input) then judged case said InputTooLong else
+    (let outcome = call_outcome method case.object case.caller input in judged (answered case outcome) said
+    (Answer outcome.code outcome.output))
+
+-- `call METHOD INPUT -> CODE [OUTPUT]`
+abbrev pub call_with : List ClassMethod → Case → Text → Option (List ℕ) → Option Said → Step
+call_with class case method None said = Bad
+call_with class case method (Some input) None = Bad
+call_with class case method (Some input) (Some said) = called (method_named class method) case input (Some said)
+
+abbrev pub call_line : List ClassMethod → Case → List Text → Step
+call_line class case (method ∷ input ∷ arrow ∷ said) =
+    if bytes_eq arrow (codes "->") then call_with class case method (value_in input) (answer_said said) else Bad
+call_line class case _ = Bad
+
+-- A LINE by its words, the first of which says its kind. Blank lines and those that begin with `#`
+-- say nothing.
+abbrev pub line_by : List ClassMethod → Case → Text → List Text → Step
+line_by class case word args =
+    if slice_index word 0 == 35 then Next case else
+    if bytes_eq word (codes "object") then object_line args else
+    if bytes_eq word (codes "xattr") then set_line Xattrs case args else
+    if bytes_eq word (codes "key") then set_line Keys case args else
+    if bytes_eq word (codes "as") then as_line case args else
+    if bytes_eq word (codes "call") then call_line class case args else
+    if bytes_eq word (codes "is") then is_line case args else Bad
+
+abbrev pub step_by : List ClassMethod → Case → List Text → Step
+step_by class case [] = Next case
+step_by class case (word ∷ args) = line_by class case word args
+
+abbrev pub step_of : List ClassMethod → Case → Text → Step
+step_of class case line = step_by class case (words line)
+
+-- HOW LINES END: at the first that is malformed or says what isn't so, by its number; else with the
+-- number of those that said something.
+abbrev pub after_step : ℕ → ℕ → (ℕ → Case → TestEnd) → Step → TestEnd
+after_step number count rest (Next case) = rest count case
+after_step number count rest (Holds case) = rest (suc count) case
+after_step number count rest (Differs said there) = DiffersAt number said there
+after_step number count rest Bad = BadAt number
+
+-- after `number` lines, of which `count` said something
+abbrev pub end_after : List ClassMethod → ℕ → ℕ → Case → List Text → TestEnd
+end_after class number count case [] = AllHold count
+end_after class number count case (line ∷ lines) =
+    after_step (suc number) count (λ count case. end_after class (suc number) count case lines)
+    (step_of class case line)
+
+-- THE END OF A FILE OF TESTS.
+abbrev pub end_of : List ClassMethod → Text → TestEnd
+end_of class text = end_after class 0 0 opening (ended_lines_of text)

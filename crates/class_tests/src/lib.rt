@@ -1,0 +1,23 @@
+//! Tests of a class, as a file of lines has them: each line sets up an object, makes a call, or
+//! says what the call's answer or the object must be. `run_tests` finds the first line that is
+//! malformed, or that says what isn't so, and what there is instead; of none it gives the number of
+//! lines that hold. A call's answer is the outcome of the method's bytes (`specs/Tests.antt`).
+#![tactic(auto)]
+
+mod bytes;
+mod calls;
+mod case;
+mod checks;
+mod lines;
+mod said;
+mod setting;
+mod spelled;
+mod step;
+mod tests;
+mod text;
+
+pub use bytes::Bytes;
+pub use case::Case;
+pub use said::Said;
+pub use tests::{TestEnd, run_tests};
+pub use text::end_text;

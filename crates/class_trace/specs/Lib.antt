@@ -1,0 +1,2 @@
+-- What the records of a run are, by the machine's definitions.
+pub mod Trace
