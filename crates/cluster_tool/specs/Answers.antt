@@ -14,7 +14,8 @@ use Rattle.rados_client.specs.declared.exec_error.ExecError.{ExecError}
 -- `exec` promises (`IsCall`) for the request that the session sent: a reply is true by a legal list
 -- of requests to these classes, and that list begins with all that the session had seen of it
 -- before; a refusal for class, method or input is the request's.
-abbrev pub AreCalls : Classes → List PlannedCall → List (Result PlacedReply ExecError) → SessionState → SessionState → Type 0
+abbrev pub AreCalls : Classes → List PlannedCall → List (Result PlacedReply ExecError) → SessionState → SessionState →
+    Type 0
 AreCalls classes [] [] old new = new ≡ old
 AreCalls classes [] (end ∷ ends) old new = ⊥
 AreCalls classes (call ∷ calls) [] old new = ⊥
@@ -31,7 +32,8 @@ pub record IsNewSession (number : ℕ) (s : SessionState) : Type 0 where
 
 -- A CLIENT'S CALLS: a new session of that client made them in their order, and these are their
 -- ends.
-pub record AreEndsOf (classes : Classes) (client : ℕ) (planned : List PlannedCall) (ends : List (Result PlacedReply ExecError)) : Type 0 where
+pub record AreEndsOf (classes : Classes) (client : ℕ) (planned : List PlannedCall)
+    (ends : List (Result PlacedReply ExecError)) : Type 0 where
   pub first : SessionState
   pub last : SessionState
   pub new : IsNewSession client first

@@ -18,7 +18,8 @@ pub record CallerState : Type 0 where
 -- the client made a call, and kept its end
 pub record MadeCall (classes : Classes) (call : PlannedCall) (old new : CallerState) : Type 0 where
   pub end : Result PlacedReply ExecError
-  pub made : IsCall classes old.session new.session (next_request old.session call.object call.class call.method call.input) end
+  pub made : IsCall classes old.session new.session
+      (next_request old.session call.object call.class call.method call.input) end
   pub lost : new.lost ≡ false → old.lost ≡ false
   pub ends : new.lost ≡ false → new.ends ≡ old.ends ++ end ∷ []
 
@@ -48,4 +49,5 @@ pub record AreNew (clients : ℕ) (callers : List CallerState) : Type 0 where
 -- each client made its calls of these steps
 pub record AllCalled (classes : Classes) (steps : List PlannedStep) (olds news : List CallerState) : Type 0 where
   pub count : length news ≡ length olds
-  pub each : (k : ℕ) (d : CallerState) → k < length olds → HasCalled classes steps (slice_index_or olds k d) (slice_index_or news k d)
+  pub each : (k : ℕ) (d : CallerState) → k < length olds →
+      HasCalled classes steps (slice_index_or olds k d) (slice_index_or news k d)

@@ -39,7 +39,8 @@ abbrev pub groups_if : Bool → Config → Option ℕ
 groups_if is_shown config = if is_shown then Some config.groups else None
 
 -- Each call and each map was made: the lines of the calls' ends are printed, and the ends are true.
-pub record IsMade (is_shown : Bool) (classes : Classes) (plan : FilePlan) (printed : List ℕ) (config : Config) : Type 0 where
+pub record IsMade (is_shown : Bool) (classes : Classes) (plan : FilePlan) (printed : List ℕ)
+    (config : Config) : Type 0 where
   pub all : List (List (Result PlacedReply ExecError))
   pub done : AreDone classes config plan.steps all
   pub lines : printed ≡ all_lines (groups_if is_shown config) plan.steps 1 (map (map shown) all)
@@ -58,12 +59,14 @@ IsNoRoom printed = printed ≡ refused_line 1 (config_error_text config_error.No
 -- THE CLUSTER OR A MAP IS REFUSED: a number of the first line is outside its limits; or all are
 -- within, and memory for the cluster was refused, or a map was.
 abbrev pub IsRefused : FilePlan → List ℕ → Type 0
-IsRefused plan printed = IsLimit plan printed ⊎ IsWithin plan (λ config. IsNoRoom printed ⊎ IsMapLine plan printed config)
+IsRefused plan printed =
+    IsLimit plan printed ⊎ IsWithin plan (λ config. IsNoRoom printed ⊎ IsMapLine plan printed config)
 
 -- THE PRINTOUT OF A FILE'S TEXT, if memory suffices: the printout of its plan; or, if a line is
 -- malformed, the line that names the first such line, and nothing is done.
 abbrev pub IsPrintoutOf : Bool → Classes → Result FilePlan ℕ → List ℕ → ClusteringEnd → Type 0
-IsPrintoutOf is_shown classes (Ok plan) printed Done = IsWithin plan (λ config. IsMade is_shown classes plan printed config)
+IsPrintoutOf is_shown classes (Ok plan) printed Done =
+    IsWithin plan (λ config. IsMade is_shown classes plan printed config)
 IsPrintoutOf is_shown classes (Ok plan) printed Bad = ⊥
 IsPrintoutOf is_shown classes (Ok plan) printed Refused = IsRefused plan printed
 IsPrintoutOf is_shown classes (Ok plan) printed NoMemory = ⊥
@@ -75,14 +78,16 @@ IsPrintoutOf is_shown classes (Err line) printed NoMemory = ⊥
 IsPrintoutOf is_shown classes (Err line) printed Unprinted = ⊥
 
 -- all of the printout was printed, and no write or flush failed
-pub record IsShown (is_shown : Bool) (classes : Classes) (names : List (List ℕ)) (text : List ℕ) (old new : Option (List ℕ)) (failed fails : Bool) (ending : ClusteringEnd) : Type 0 where
+pub record IsShown (is_shown : Bool) (classes : Classes) (names : List (List ℕ)) (text : List ℕ)
+    (old new : Option (List ℕ)) (failed fails : Bool) (ending : ClusteringEnd) : Type 0 where
   pub printed : List ℕ
   pub comes : IsPrintoutOf is_shown classes (plan_of names text) printed ending
   pub grew : Appends old new printed
   pub well : fails ≡ failed
 
 -- a beginning of the printout was printed, and a write or a flush failed
-pub record IsBegun (is_shown : Bool) (classes : Classes) (names : List (List ℕ)) (text : List ℕ) (old new : Option (List ℕ)) (fails : Bool) : Type 0 where
+pub record IsBegun (is_shown : Bool) (classes : Classes) (names : List (List ℕ)) (text : List ℕ)
+    (old new : Option (List ℕ)) (fails : Bool) : Type 0 where
   pub printed : List ℕ
   pub ending : ClusteringEnd
   pub comes : IsPrintoutOf is_shown classes (plan_of names text) printed ending
@@ -93,20 +98,26 @@ pub record IsBegun (is_shown : Bool) (classes : Classes) (names : List (List ℕ
 -- write or a flush failed
 abbrev pub Prints : List ℕ → ClusteringEnd → Option (List ℕ) → Option (List ℕ) → Bool → Bool → ClusteringEnd → Type 0
 Prints printed ending old new failed fails result =
-    ((result ≡ ending) × Appends old new printed × (fails ≡ failed)) ⊎ ((result ≡ Unprinted) × Begins old new printed × (fails ≡ true))
+    ((result ≡ ending) × Appends old new printed × (fails ≡ failed)) ⊎
+    ((result ≡ Unprinted) × Begins old new printed × (fails ≡ true))
 
 -- the end of a file: its printout was printed; or memory was refused, and nothing was printed; or a
 -- write or a flush failed, and a beginning of the printout was printed
-abbrev pub EndsSo : Bool → Classes → List (List ℕ) → List ℕ → Option (List ℕ) → Option (List ℕ) → Bool → Bool → ClusteringEnd → Type 0
-EndsSo is_shown classes names text old new failed fails Done = IsShown is_shown classes names text old new failed fails Done
-EndsSo is_shown classes names text old new failed fails Bad = IsShown is_shown classes names text old new failed fails Bad
-EndsSo is_shown classes names text old new failed fails Refused = IsShown is_shown classes names text old new failed fails Refused
+abbrev pub EndsSo : Bool → Classes → List (List ℕ) → List ℕ → Option (List ℕ) → Option (List ℕ) → Bool → Bool →
+    ClusteringEnd → Type 0
+EndsSo is_shown classes names text old new failed fails Done =
+    IsShown is_shown classes names text old new failed fails Done
+EndsSo is_shown classes names text old new failed fails Bad =
+    IsShown is_shown classes names text old new failed fails Bad
+EndsSo is_shown classes names text old new failed fails Refused =
+    IsShown is_shown classes names text old new failed fails Refused
 EndsSo is_shown classes names text old new failed fails NoMemory = (new ≡ old) × (fails ≡ failed)
 EndsSo is_shown classes names text old new failed fails Unprinted = IsBegun is_shown classes names text old new fails
 
 -- A CLUSTER FILE IS PLAYED: the text that the file holds, with the built-in classes and those of
 -- the tenants' files.
-pub record Clusters (disk : Option Disk) (c : Clustering) (old new : Option (List ℕ)) (failed fails : Bool) (ending : ClusteringEnd) : Type 0 where
+pub record Clusters (disk : Option Disk) (c : Clustering) (old new : Option (List ℕ)) (failed fails : Bool)
+    (ending : ClusteringEnd) : Type 0 where
   pub classes : Classes
   pub loaded : AreClasses disk c.tenants.items classes
   pub text : List ℕ

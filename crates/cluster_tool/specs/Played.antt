@@ -39,7 +39,8 @@ pub record IsMapRefused (config : Config) (steps : List PlannedStep) (line : ℕ
   pub refused : WasRefused config nodes why
 
 -- each client's calls have their true ends, and each map was made
-pub record AreDone (classes : Classes) (config : Config) (steps : List PlannedStep) (all : List (List (Result PlacedReply ExecError))) : Type 0 where
+pub record AreDone (classes : Classes) (config : Config) (steps : List PlannedStep)
+    (all : List (List (Result PlacedReply ExecError))) : Type 0 where
   pub clients : length all ≡ clients_in 0 steps
   pub ends : AreAllEnds classes steps all
   pub maps : AreMapsMade config steps

@@ -12,7 +12,9 @@ use rados_client::{ExecError, Reply, session_crosses};
 /// A client may go from one thread to another, if threads may share the cluster's names and its
 /// runtime.
 pub(crate) fn caller_crosses<N: ClusterName + Send + Sync, R: Sync>()
-    ensures { (life : NamedLft) → IsSend (caller.the_row life N.row R.row (record { queues = N.queues; config = N.config }) (record { board = N.board }) (record { classes = N.classes })) }
+    ensures { (life : NamedLft) →
+        IsSend (caller.the_row life N.row R.row (record { queues = N.queues; config = N.config })
+        (record { board = N.board }) (record { classes = N.classes })) }
 {
     session_crosses::<N, R>();
     reply_crosses();

@@ -175,6 +175,10 @@ impl Gate for Figures {
             add(&self.requests, 1);
         }
     }
+
+    fn may_keep(&self) -> bool {
+        false
+    }
 }
 
 /// Counts what nodes send from the first call on, and lets all pass.

@@ -89,7 +89,8 @@ impl Form {
         call: &PlannedCall,
         end: &Result<Reply, ExecError>,
     ) -> Result<(), AllocError>
-        ensures { OnOk result (string_bytes text.new ≡ string_bytes text.old ++ (asked_if self.now.groups call.now ++ end_text (shown end.now))) }
+        ensures { OnOk result (string_bytes text.new ≡ string_bytes text.old ++
+            (asked_if self.now.groups call.now ++ end_text (shown end.now))) }
     {
         self.push_asked(text, call)?;
         push_end(self.alloc, text, end)
@@ -103,8 +104,11 @@ impl Form {
         client: &Client<'_>,
         place: usize,
     ) -> Result<(), AllocError>
-        ensures { OnOk result (string_bytes text.new ++ call_lines self.now.groups client.now.number (place + 1) (map (λ c. c.now) (drop (place + 1) client.now.calls.now)) (map shown (drop (place + 1) client.now.ends.now))
-            ≡ string_bytes text.old ++ call_lines self.now.groups client.now.number place (map (λ c. c.now) (drop place client.now.calls.now)) (map shown (drop place client.now.ends.now))) }
+        ensures { OnOk result (string_bytes text.new ++
+            call_lines self.now.groups client.now.number (place + 1) (map
+            (λ c. c.now) (drop (place + 1) client.now.calls.now)) (map shown (drop (place + 1) client.now.ends.now))
+            ≡ string_bytes text.old ++ call_lines self.now.groups client.now.number place
+            (map (λ c. c.now) (drop place client.now.calls.now)) (map shown (drop place client.now.ends.now))) }
     {
         let Some(call) = client.calls.get(place) else {
             return Ok(());
@@ -118,7 +122,9 @@ impl Form {
 
     /// The lines of a client's calls.
     fn push_client(&self, text: &mut String, client: &Client<'_>) -> Result<(), AllocError>
-        ensures { OnOk result (string_bytes text.new ≡ string_bytes text.old ++ call_lines self.now.groups client.now.number 0 (map (λ c. c.now) client.now.calls.now) (map shown client.now.ends.now)) }
+        ensures { OnOk result (string_bytes text.new ≡ string_bytes text.old ++
+            call_lines self.now.groups client.now.number 0 (map (λ c. c.now) client.now.calls.now)
+            (map shown client.now.ends.now)) }
     {
         for place in 0..client.ends.len() {
             self.push_line(text, client, place)?;
@@ -134,7 +140,8 @@ impl Form {
         steps: &[PlannedStep],
         ends: &[Result<Reply, ExecError>],
     ) -> Result<(), AllocError>
-        ensures { OnOk result (string_bytes text.new ≡ string_bytes text.old ++ call_lines self.now.groups number 0 (calls_of number steps.now) (map shown ends.now)) }
+        ensures { OnOk result (string_bytes text.new ≡ string_bytes text.old ++
+            call_lines self.now.groups number 0 (calls_of number steps.now) (map shown ends.now)) }
     {
         let calls = calls_of(self.alloc, number, steps)?;
         let client = Client {
@@ -155,7 +162,8 @@ pub(crate) fn lines_of(
     ends: &[Vec<Result<Reply, ExecError>>],
 ) -> Result<String, AllocError>
     requires { IfSome groups (λ n. IsTrue (is_group_count n)) }
-    ensures { IfOk result (λ t. string_bytes t ≡ all_lines groups steps.now 1 (map (map shown) (map (λ v. v.items) ends.now))) }
+    ensures { IfOk result (λ t. string_bytes t ≡
+        all_lines groups steps.now 1 (map (map shown) (map (λ v. v.items) ends.now))) }
 {
     let mut text = String::new(alloc);
     for (before, calls) in ends.iter().enumerate() {

@@ -76,7 +76,8 @@ pub fn cluster<
     meter: &mut Meter<'_, E>,
     out: &mut O,
 ) -> Result<ClusteringEnd, Failure>
-    ensures ends { IfOk result (Clusters (F.disk files.now) asked.now (O.printed out.old) (O.printed out.new) (O.failed out.old) (O.failed out.new)) }
+    ensures ends { IfOk result (Clusters (F.disk files.now) asked.now (O.printed out.old) (O.printed out.new)
+        (O.failed out.old) (O.failed out.new)) }
     ensures fails { IfErr result (ClusteringFails (F.disk files.now) asked.now) }
     ensures silent { OnErr result (out.new ≡ out.old) }
 {
@@ -96,7 +97,8 @@ pub fn cluster<
 
 /// Prints a file's outcome.
 fn print<O: Output>(printout: Printout, out: &mut O) -> ClusteringEnd
-    ensures { Prints (string_bytes printout.text) printout.ending (O.printed out.old) (O.printed out.new) (O.failed out.old) (O.failed out.new) result }
+    ensures { Prints (string_bytes printout.text) printout.ending (O.printed out.old) (O.printed out.new)
+        (O.failed out.old) (O.failed out.new) result }
 {
     let ending = printout.ending;
     match out.print(printout.text.as_str()) {
@@ -113,7 +115,8 @@ fn settle<R: AllocGlobal + Threads + Wait + Clock + Sync + Drop, E: io::Write>(
     text: &str,
     extras: Extras<'_, '_, E>,
 ) -> Result<Printout, AllocError>
-    ensures { IfOk result (λ o. IsPrintoutOf extras.entry.is_shown table (plan_of (map (λ n. n.now) names.now) text.now) (string_bytes o.text) o.ending) }
+    ensures { IfOk result (λ o. IsPrintoutOf extras.entry.is_shown table (plan_of (map (λ n. n.now) names.now) text.now)
+        (string_bytes o.text) o.ending) }
 {
     let alloc = rt.alloc();
     match read_plan(alloc, names, text)? {

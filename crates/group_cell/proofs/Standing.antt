@@ -1,9 +1,11 @@
 -- What is committed stands in the committed list as it does in the log.
 use Rattle.std.proofs.Common.{◌≡◌, ℕ, ◌<◌, ◌≤◌, List, take, drop, length, refl, ap, sym, ◌∙◌, subst, arith, Some}
 use Rattle.std.specs.Prelude.{slice_get}
+use Rattle.std.specs.List.{AllByRecursion}
 use Rattle.std.proofs.lemmas.List.{take-append-drop, length-take-le}
 use Rattle.pg_log.specs.Requests.{ClientRequest}
 use Rattle.pg_log.specs.Log.{Classes, Legal, Reply, reply_at}
+use Rattle.pg_log.specs.Within.{IsRequest}
 use Rattle.pg_log.specs.Laws.{BeginningsAreLegal, PairsStandOnce, RepliesStay}
 use Rattle.group_world.proofs.Leading.{slice_get_take}
 use Rattle.group_cell.specs.Posts.{Stands}
@@ -19,13 +21,14 @@ pub committed_request : (log : List ClientRequest) (c place : ℕ) (request : Cl
 committed_request log c place request within below there = slice_get_take c place log below within ∙ there
 
 pub committed_stands : (beginnings : BeginningsAreLegal) (once : PairsStandOnce) (classes : Classes) (log : List ClientRequest) (c place : ℕ) (request : ClientRequest) (answer : Reply) →
-    Legal classes log → c ≤ length log → place < c → slice_get log place ≡ Some request → reply_at classes (take c log) place ≡ Some answer → Stands classes (take c log) place request answer
-committed_stands beginnings once classes log c place request answer legal within below there gives =
+    Legal classes log → AllByRecursion IsRequest (take c log) → c ≤ length log → place < c → slice_get log place ≡ Some request → reply_at classes (take c log) place ≡ Some answer → Stands classes (take c log) place request answer
+committed_stands beginnings once classes log c place request answer legal requests within below there gives =
     let list = take c log in
     let begun : Legal classes list = beginnings classes list (drop c log) (subst (λ (w : List ClientRequest). Legal classes w) (sym (take-append-drop c log)) legal) in
     let stands = committed_request log c place request within below there in
     record {
       legal = begun;
+      requests = requests;
       there = stands;
       once = λ k at. once classes list begun k place request request at stands refl refl;
       gives = gives;

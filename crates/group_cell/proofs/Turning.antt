@@ -8,7 +8,6 @@ use Rattle.group_world.specs.Rules.{local_step}
 use Rattle.group_world.specs.World.{IsTrueOf}
 use Rattle.group_world.specs.declared.message.Packet.{Packet}
 use Rattle.group_world.specs.declared.event.Event.{Event}
-use Rattle.group_world.specs.declared.handle_error.HandleError.TheVariants as node
 use Rattle.group_world.specs.Told.{RepliesAreCommitted}
 
 -- the replies among the messages of a step that is done are true of what the node has committed

@@ -1,14 +1,19 @@
 -- What goes out to a client, and what is true of it.
 use Rattle.std.specs.Prelude.{◌≡◌, ℕ, List, Some, slice_get}
+use Rattle.std.specs.List.{AllByRecursion}
 use Rattle.pg_log.specs.Requests.{ClientRequest}
 use Rattle.pg_log.specs.Log.{Classes, Legal, Reply, reply_at}
+use Rattle.pg_log.specs.Within.{IsRequest}
 use Rattle.group_world.specs.declared.handle_error.HandleError.{HandleError}
 use Rattle.commit_board.specs.Lists.{list_at}
 use Rattle.group_cell.specs.Cell.{CellState}
 
--- In a legal list the request stands at the place, and at no other, and is answered so there.
-pub record Stands (classes : Classes) (list : List ClientRequest) (place : ℕ) (request : ClientRequest) (answer : Reply) : Type 0 where
+-- In a legal list of requests, which are within their type's ranges, the request stands at the
+-- place, and at no other, and is answered so there.
+pub record Stands (classes : Classes) (list : List ClientRequest) (place : ℕ) (request : ClientRequest)
+    (answer : Reply) : Type 0 where
   pub legal : Legal classes list
+  pub requests : AllByRecursion IsRequest list
   pub there : slice_get list place ≡ Some request
   pub once : (k : ℕ) → slice_get list k ≡ Some request → k ≡ place
   pub gives : reply_at classes list place ≡ Some answer

@@ -6,7 +6,9 @@ use Rattle.group_world.specs.Rules.{local_step}
 use Rattle.group_world.specs.declared.party.Party.{Party}
 use Rattle.group_world.specs.declared.party.Party.TheVariants.{Node as ANode, Monitor as TheMonitor, Client as AClient}
 use Rattle.group_world.specs.declared.message.MessageKind.{MessageKind}
-use Rattle.group_world.specs.declared.message.MessageKind.TheVariants.{Query, Log as LogOf, Install, Installed as InstalledIn, AskActivate, Activated, Rep, Ack, Reply as ReplyTo}
+use Rattle.group_world.specs.declared.message.MessageKind.TheVariants.{Query, Log as LogOf, Install}
+use Rattle.group_world.specs.declared.message.MessageKind.TheVariants.{Installed as InstalledIn, AskActivate, Activated}
+use Rattle.group_world.specs.declared.message.MessageKind.TheVariants.{Rep, Ack, Reply as ReplyTo}
 use Rattle.group_world.specs.declared.message.Packet.{Packet}
 use Rattle.group_world.specs.declared.event.Event.{Event}
 use Rattle.group_world.specs.declared.event.Event.TheVariants.{Request as ARequest, Map as AMap, Message as AMessage}
@@ -44,7 +46,8 @@ GivesReply cell (ReplyTo client number place answer) r = IsReplyTo cell client n
 abbrev pub GoesOutAs : {N : Type 0} → CellState → ℕ → Packet → Outgoing N → Type 0
 GoesOutAs cell reported p (ToNode n m) = packed_as cell.node.state.committed reported p ≡ (ANode n, m)
 GoesOutAs cell reported p (ToMonitor interval) = (p.receiver ≡ TheMonitor) × (p.message.kind ≡ AskActivate interval)
-GoesOutAs cell reported p (ToClient client (post.Reply r)) = (p.receiver ≡ AClient client) × GivesReply cell p.message.kind r
+GoesOutAs cell reported p (ToClient client (post.Reply r)) =
+    (p.receiver ≡ AClient client) × GivesReply cell p.message.kind r
 GoesOutAs cell reported p (ToClient client (post.Refused r)) = ⊥
 
 -- a message by which a node asks the monitor
@@ -70,8 +73,10 @@ abbrev pub GoOutAs : {N : Type 0} → CellState → ℕ → List Packet → List
 GoOutAs cell reported sent out = AllZip (MayGoOutAs cell reported) sent out
 
 -- A TURN. The node takes the event: its step is done, and its messages go out.
-pub record IsTaken {N : Type 0} (classes : Classes) (old new : CellState) (reported : ℕ) (event : Event) (went : List (Option (Outgoing N))) : Type 0 where
-  pub done : IsDone old.node new.node (local_step classes old.node.number old.node.state event).sent (local_step classes old.node.number old.node.state event)
+pub record IsTaken {N : Type 0} (classes : Classes) (old new : CellState) (reported : ℕ) (event : Event)
+    (went : List (Option (Outgoing N))) : Type 0 where
+  pub done : IsDone old.node new.node (local_step classes old.node.number old.node.state event).sent
+      (local_step classes old.node.number old.node.state event)
   pub row : new.row ≡ old.row
   pub out : GoOutAs new reported (local_step classes old.node.number old.node.state event).sent went
 
@@ -88,20 +93,24 @@ IsQuiet (AMap m) = Unit {0}
 IsQuiet (AMessage m) = Unit {0}
 
 -- or it refuses the event, and is as before
-pub record IsTurnedDown {N : Type 0} (classes : Classes) (old new : CellState) (event : Event) (went : List (Option (Outgoing N))) : Type 0 where
+pub record IsTurnedDown {N : Type 0} (classes : Classes) (old new : CellState) (event : Event)
+    (went : List (Option (Outgoing N))) : Type 0 where
   pub why : HandleError
   pub refusal : IsRefusal (local_step classes old.node.number old.node.state event) why
   pub same : new ≡ old
   pub out : went ≡ refusal_to event why
 
 -- if no event comes, nothing happens
-abbrev pub IsTurn : {N : Type 0} → Classes → CellState → CellState → ℕ → Option Event → List (Option (Outgoing N)) → Type 0
+abbrev pub IsTurn : {N : Type 0} → Classes → CellState → CellState → ℕ → Option Event → List (Option (Outgoing N)) →
+    Type 0
 IsTurn classes old new reported None out = (new ≡ old) × (out ≡ [])
-IsTurn classes old new reported (Some event) out = IsTaken classes old new reported event out ⊎ IsTurnedDown classes old new event out
+IsTurn classes old new reported (Some event) out =
+    IsTaken classes old new reported event out ⊎ IsTurnedDown classes old new event out
 
 -- If memory is refused before the event comes, nothing has happened; if it is refused after that,
 -- all messages of the event are lost.
 abbrev pub IsCutShort : Classes → CellState → CellState → Option Event → Type 0
 IsCutShort classes old new None = new ≡ old
 IsCutShort classes old new (Some event) = (new ≡ old) ⊎ ((new.row ≡ old.row)
-    × IsDone old.node new.node (local_step classes old.node.number old.node.state event).sent (local_step classes old.node.number old.node.state event))
+    × IsDone old.node new.node (local_step classes old.node.number old.node.state event).sent
+    (local_step classes old.node.number old.node.state event))

@@ -1,11 +1,14 @@
 //! A node of a group with its row on the board: what stands under one lock.
 
-ghost use Rattle.std.specs.Prelude.{◌≡◌, ◌≢◌, ℕ, ◌<◌, ◌≤◌, [], length, take, slice_get, Some, IfOk, IfErr, OnErr, MatchOption};
-ghost use Rattle.std.specs.List.{Contains};
+ghost use Rattle.std.specs.Prelude.{◌≡◌, ◌≢◌, ℕ, ◌<◌, ◌≤◌, [], length, take, slice_get, Some, IfOk, IfErr, OnErr};
+ghost use Rattle.std.specs.Prelude.{MatchOption};
+ghost use Rattle.std.specs.List.{AllByRecursion, Contains};
 ghost use mathlib.Core.List.{IsPrefix};
+ghost use Rattle.object_store.specs.Object.{AreBytes};
 ghost use Rattle.pg_log.specs.declared.group.TheConstants.{LOG_LIMIT};
 ghost use Rattle.pg_log.specs.Entries.{requests_of};
 ghost use Rattle.pg_log.specs.Log.{reply_at};
+ghost use Rattle.pg_log.specs.Within.{IsRequest};
 ghost use Rattle.group_world.specs.Node.{committed_list, fresh};
 ghost use Rattle.group_world.specs.Rules.{local_step};
 ghost use Rattle.group_world.specs.World.{IsTrueOf};
@@ -20,12 +23,13 @@ use crate::reply::Reply;
 use commit_board::{Board, Note, Writer};
 use group_world::{CallReply, Event, HandleError, Messages, Place, replies_are_committed};
 use peering::{GroupNode, nothing_is_cut};
-use pg_log::{ClassTable, Entry, NoMemory, legal_lists, pairs, replies};
+use pg_log::{ClassTable, Entry, NoMemory, Request, legal_lists, pairs, replies};
 use std::alloc::Global;
 use std::marker::{Model, PhantomData};
 
 /// A node of a group, and the writer of its row on the board. The row's list is the list that the
-/// node has committed. Contracts see the node, the row and its list.
+/// node has committed, and each of its requests is within its type's ranges. Contracts see the
+/// node, the row and its list.
 pub struct GroupCell<N: BoardName> {
     node: GroupNode<N>,
     writer: Writer,
@@ -48,6 +52,8 @@ impl<N: BoardName> Drop for GroupCell<N> {
 
 impl<N: BoardName> Model for GroupCell<N> {
     ghost use Rattle.std.specs.Prelude.{◌≡◌};
+    ghost use Rattle.std.specs.List.{AllByRecursion};
+    ghost use Rattle.pg_log.specs.Within.{IsRequest};
     ghost use Rattle.group_world.specs.Node.{committed_list};
     ghost use Rattle.group_cell.specs.Cell.{CellState};
 
@@ -59,7 +65,8 @@ impl<N: BoardName> Model for GroupCell<N> {
       written = c.writer.list;
     } };
 
-    ghost invariant = { λ c. (c.writer.board ≡ N.board) × (c.writer.list ≡ committed_list c.node.state) };
+    ghost invariant = { λ c. (c.writer.board ≡ N.board) × (c.writer.list ≡ committed_list c.node.state)
+        × AllByRecursion IsRequest c.writer.list };
 }
 
 impl<N: BoardName> GroupCell<N> {
@@ -102,10 +109,13 @@ impl<N: BoardName> GroupCell<N> {
     ) -> Result<Messages, HandleError>
         requires board { board.now ≡ N.board }
         requires table { table.now ≡ N.classes }
-        ensures done { IfOk result (λ sent. IsDone self.old.node self.new.node sent (local_step N.classes self.old.node.number self.old.node.state event)) }
-        ensures why { IfErr result (λ e. IsRefusal (local_step N.classes self.old.node.number self.old.node.state event) e) }
+        ensures done { IfOk result (λ sent. IsDone self.old.node self.new.node sent
+            (local_step N.classes self.old.node.number self.old.node.state event)) }
+        ensures why { IfErr result
+            (λ e. IsRefusal (local_step N.classes self.old.node.number self.old.node.state event) e) }
         ensures refused { OnErr result (self.new ≡ self.old) }
-        ensures replies { IfOk result (λ sent. (p : Packet) → Contains sent p → IsTrueOf N.classes self.new.written p.message.kind) }
+        ensures replies { IfOk result (λ sent. (p : Packet) → Contains sent p →
+            IsTrueOf N.classes self.new.written p.message.kind) }
         ensures written { self.new.written ≡ committed_list self.new.node.state }
         ensures grew { IsPrefix self.old.written self.new.written }
         ensures row { self.new.row ≡ self.old.row }
@@ -203,9 +213,30 @@ fn commit_all(board: &Board, writer: &mut Writer, entries: &[Entry], from: usize
     requires board { writer.old.board ≡ board.now }
     requires places { (from ≤ to) × (to ≤ length entries.now) × (length entries.now ≤ LOG_LIMIT) }
     requires begun { writer.old.list ≡ take from (requests_of entries.now) }
-    ensures { writer.new ≡ writer_of writer.old.board writer.old.row (take to (requests_of entries.now)) }
+    requires requests { AllByRecursion IsRequest writer.old.list }
+    ensures written { writer.new ≡ writer_of writer.old.board writer.old.row (take to (requests_of entries.now)) }
+    ensures requests { AllByRecursion IsRequest writer.new.list }
 {
     for place in from..to {
-        board.commit(writer, &entries[place].request);
+        let request = &entries[place].request;
+        is_request(request);
+        board.commit(writer, request);
     }
+}
+
+/// A request is within its type's ranges. It does nothing.
+fn is_request(request: &Request)
+    ensures { IsRequest request.now }
+{
+    // For the proof: a client's number has 32 bits.
+    let _client = request.client().get();
+    are_bytes(request.input());
+}
+
+/// Bytes are below 256. It does nothing.
+fn are_bytes(bytes: &[u8])
+    ensures { AreBytes bytes.now }
+{
+    // For the proof: each item of a slice of `u8` is below 256.
+    let _len = bytes.len();
 }

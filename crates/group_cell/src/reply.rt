@@ -55,7 +55,8 @@ impl<N: BoardName> Model for Reply<N> {
       lists = r.note.lists;
     } };
 
-    ghost invariant = { λ r. (r.note.board ≡ N.board) × Stands N.classes (list_at r.note.lists r.row) r.place r.request r.answer };
+    ghost invariant = { λ r. (r.note.board ≡ N.board) ×
+        Stands N.classes (list_at r.note.lists r.row) r.place r.request r.answer };
 }
 
 impl<N: BoardName> Reply<N> {

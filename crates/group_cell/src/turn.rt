@@ -47,8 +47,10 @@ impl<N: BoardName> GroupCell<N> {
     ) -> Result<Vec<Option<Outgoing<N>>>, NoMemory>
         requires board { board.now ≡ N.board }
         requires table { table.now ≡ N.classes }
-        ensures turn { IfOk result (λ v. IsTurn N.classes self.old self.new (reported_of carried) (unpacked_as self.old.node.state.log carried) v.items) }
-        ensures lost { OnErr result (IsCutShort N.classes self.old self.new (unpacked_as self.old.node.state.log carried)) }
+        ensures turn { IfOk result (λ v. IsTurn N.classes self.old self.new (reported_of carried)
+            (unpacked_as self.old.node.state.log carried) v.items) }
+        ensures lost { OnErr result (IsCutShort N.classes self.old self.new
+            (unpacked_as self.old.node.state.log carried)) }
     {
         // An item for each message, also for one that memory was refused to: then a proof refuses a
         // worker that drops another, and no test has to.
@@ -72,7 +74,8 @@ impl<N: BoardName> GroupCell<N> {
     ) -> Result<Vec<Option<Outgoing<N>>>, NoMemory>
         requires { board.now ≡ N.board }
         ensures same { self.new ≡ self.old }
-        ensures out { IfOk result (λ v. GoOutAs self.old 0 (unanswered self.old.node.number self.old.node.state) v.items) }
+        ensures out { IfOk result
+            (λ v. GoOutAs self.old 0 (unanswered self.old.node.number self.old.node.state) v.items) }
     {
         let Ok(sent) = self.node().resend() else {
             return Err(NoMemory);
@@ -90,7 +93,8 @@ impl<N: BoardName> GroupCell<N> {
     ) -> Result<Vec<Option<Outgoing<N>>>, NoMemory>
         requires board { shared.board.now ≡ N.board }
         requires table { shared.table.now ≡ N.classes }
-        ensures turn { IfOk result (λ v. IsTurn N.classes self.old self.new reported (Some (Event.Request request)) v.items) }
+        ensures turn { IfOk result
+            (λ v. IsTurn N.classes self.old self.new reported (Some (Event.Request request)) v.items) }
         ensures lost { OnErr result (IsCutShort N.classes self.old self.new (Some (Event.Request request))) }
     {
         refusals_are_deserved();

@@ -1,5 +1,6 @@
 -- The monitor of a group: it makes maps and activates intervals. Its state has a constant size.
-use Rattle.std.specs.Prelude.{◌≡◌, ℕ, suc, ◌-◌, ◌^◌, List, Bool, true, not, ◌&&◌, ◌==◌, nat_lt, nat_le, if◌then◌else◌, Option, Some, None}
+use Rattle.std.specs.Prelude.{◌≡◌, ℕ, suc, ◌-◌, ◌^◌, List, Bool, true, not, ◌&&◌, ◌==◌, nat_lt, nat_le, if◌then◌else◌}
+use Rattle.std.specs.Prelude.{Option, Some, None}
 use Rattle.placement.specs.Placement.{is_acting}
 use Rattle.group_world.specs.Maps.{GroupMap, ActingInterval, no_map, no_interval, interval_of, is_same_list}
 use Rattle.group_world.specs.declared.monitor_error.MonitorError.{MonitorError}
@@ -26,8 +27,20 @@ map_refusal m acting = if not (is_acting acting) then Some BadActing else
 -- the one activated last.
 abbrev pub next_map : MonitorState → List ℕ → GroupMap
 next_map m acting = if is_same_list m.newest.acting acting
-    then record { epoch = suc m.newest.epoch; interval = m.newest.interval; acting = acting; prev = m.newest.prev; prev_acting = m.newest.prev_acting }
-    else record { epoch = suc m.newest.epoch; interval = suc m.newest.epoch; acting = acting; prev = m.activated.interval; prev_acting = m.activated.acting }
+    then record {
+      epoch = suc m.newest.epoch;
+      interval = m.newest.interval;
+      acting = acting;
+      prev = m.newest.prev;
+      prev_acting = m.newest.prev_acting;
+    }
+    else record {
+      epoch = suc m.newest.epoch;
+      interval = suc m.newest.epoch;
+      acting = acting;
+      prev = m.activated.interval;
+      prev_acting = m.activated.acting;
+    }
 
 -- the monitor after its next map
 abbrev pub with_map : MonitorState → List ℕ → MonitorState

@@ -1,5 +1,6 @@
 -- What a node does at an event, one definition for each rule. A node has a number and a state.
-use Rattle.std.specs.Prelude.{ℕ, suc, List, [], ◌∷◌, ◌++◌, length, take, drop, min, max, Bool, true, false, not, ◌&&◌, ◌||◌, ◌==◌, nat_lt, if◌then◌else◌, Option, Some, None, is_none}
+use Rattle.std.specs.Prelude.{ℕ, suc, List, [], ◌∷◌, ◌++◌, length, take, drop, min, max, Bool, true, false, not, ◌&&◌}
+use Rattle.std.specs.Prelude.{◌||◌, ◌==◌, nat_lt, if◌then◌else◌, Option, Some, None, is_none}
 use Rattle.placement.specs.Placement.{has}
 use Rattle.pg_log.specs.Requests.{ClientRequest}
 use Rattle.pg_log.specs.Log.{Classes, Reply, reply_at}
@@ -7,13 +8,16 @@ use Rattle.pg_log.specs.Refusals.{place_of, refusal, first_refusal}
 use Rattle.pg_log.specs.declared.log_error.LogError.{LogError}
 use Rattle.group_world.specs.Maps.{GroupMap, is_primary, all_among, is_same_list}
 use Rattle.group_world.specs.Refusal.{of_log}
-use Rattle.group_world.specs.Node.{NodeState, Outcome, committed_list, nothing, refused, and_sends, packet, to_all, to_others, is_waiting, is_installed, is_asking, is_installing, is_active}
+use Rattle.group_world.specs.Node.{NodeState, Outcome, committed_list, nothing, refused, and_sends, packet, to_all}
+use Rattle.group_world.specs.Node.{to_others, is_waiting, is_installed, is_asking, is_installing, is_active}
 use Rattle.group_world.specs.declared.status.Status.{Status}
 use Rattle.group_world.specs.declared.status.Status.TheVariants.{Out, Waiting, Installed, Asking, Installing, Active}
 use Rattle.group_world.specs.declared.party.Party.{Party}
 use Rattle.group_world.specs.declared.party.Party.TheVariants.{Node as ANode, Monitor as TheMonitor, Client as AClient}
 use Rattle.group_world.specs.declared.message.MessageKind.{MessageKind}
-use Rattle.group_world.specs.declared.message.MessageKind.TheVariants.{Query, Log as LogOf, Install, Installed as InstalledIn, AskActivate, Activated, Rep, Ack, Reply as ReplyTo}
+use Rattle.group_world.specs.declared.message.MessageKind.TheVariants.{Query, Log as LogOf, Install}
+use Rattle.group_world.specs.declared.message.MessageKind.TheVariants.{Installed as InstalledIn, AskActivate, Activated}
+use Rattle.group_world.specs.declared.message.MessageKind.TheVariants.{Rep, Ack, Reply as ReplyTo}
 use Rattle.group_world.specs.declared.message.Packet.{Packet}
 use Rattle.group_world.specs.declared.event.Event.{Event}
 use Rattle.group_world.specs.declared.event.Event.TheVariants.{Request as ARequest, Map as AMap, Message as AMessage}
@@ -54,7 +58,15 @@ adopt n s list = record {
 -- their lists; if there is no previous interval it adopts the empty list. A node that has committed
 -- something ignores a map by which it would adopt the empty list. Other maps change nothing.
 abbrev pub at_map : NodeState → GroupMap → Status → NodeState
-at_map s m status = record { interval = m.interval; members = m; status = status; log = s.log; committed = s.committed; joined = []; acked = [] }
+at_map s m status = record {
+  interval = m.interval;
+  members = m;
+  status = status;
+  log = s.log;
+  committed = s.committed;
+  joined = [];
+  acked = [];
+}
 
 -- the primary at a new map: it adopts the empty list if no interval was activated before, else it
 -- asks
@@ -103,7 +115,8 @@ says_installed n receiver s = packet n receiver (InstalledIn s.interval)
 abbrev pub install_after : ℕ → Party → List ClientRequest → Outcome → Outcome
 install_after n sender list o =
     if is_waiting o.node.status
-    then and_sends (record { node = record (o.node) { status = Installed; log = list }; sent = o.sent; refusal = None }) (says_installed n sender o.node)
+    then and_sends (record { node = record (o.node) { status = Installed; log = list }; sent = o.sent; refusal = None })
+    (says_installed n sender o.node)
     else if is_installed o.node.status then and_sends o (says_installed n sender o.node) else o
 
 -- the node takes a list that it is to install
@@ -116,7 +129,11 @@ install classes n s sender m list = if ignores n s m then nothing s else
 abbrev pub note_installed : ℕ → NodeState → Party → ℕ → Outcome
 note_installed n s (ANode m) interval =
     if (interval == s.interval) && (is_installing s.status && (has m s.members.acting && not (has m s.joined)))
-    then record { node = record s { joined = s.joined ++ m ∷ [] }; sent = ask_if n s (all_among s.members.acting (s.joined ++ m ∷ [])); refusal = None }
+    then record {
+      node = record s { joined = s.joined ++ m ∷ [] };
+      sent = ask_if n s (all_among s.members.acting (s.joined ++ m ∷ []));
+      refusal = None;
+    }
     else nothing s
 note_installed n s _ interval = nothing s
 
@@ -129,7 +146,11 @@ each_at (n ∷ ns) k = k ∷ each_at ns k
 -- the node takes the activation of an interval
 abbrev pub activate : NodeState → ℕ → Outcome
 activate s interval = if (interval == s.interval) && is_installing s.status
-    then nothing (record s { status = Active; committed = length s.log; acked = each_at s.members.acting (length s.log) })
+    then nothing (record s {
+      status = Active;
+      committed = length s.log;
+      acked = each_at s.members.acting (length s.log);
+    })
     else nothing s
 
 -- COMMIT. The commit point rises to the least acknowledged length, the primary's own included, and
@@ -145,12 +166,14 @@ or_empty (Some reply) = reply
 
 -- the reply of the request at a place of the log, to its client
 abbrev pub reply_packet : Classes → ℕ → List ClientRequest → ℕ → ClientRequest → Packet
-reply_packet classes n log place r = packet n (AClient r.client) (ReplyTo r.client r.number place (or_empty (reply_at classes log place)))
+reply_packet classes n log place r =
+    packet n (AClient r.client) (ReplyTo r.client r.number place (or_empty (reply_at classes log place)))
 
 -- the replies to these requests, which are in the log from a place on
 abbrev pub replies_from : Classes → ℕ → List ClientRequest → ℕ → List ClientRequest → List Packet
 replies_from classes n log place [] = []
-replies_from classes n log place (r ∷ rs) = reply_packet classes n log place r ∷ replies_from classes n log (suc place) rs
+replies_from classes n log place (r ∷ rs) =
+    reply_packet classes n log place r ∷ replies_from classes n log (suc place) rs
 
 -- the commit point rises, and newly committed requests are answered
 abbrev pub commit : Classes → ℕ → NodeState → Outcome
@@ -171,8 +194,15 @@ raised m k (n ∷ ns) (a ∷ acked) = (if n == m then max a k else a) ∷ raised
 -- members; if the primary acts alone it is committed at once. Any other request is refused.
 abbrev pub append_new : Classes → ℕ → NodeState → ClientRequest → Outcome
 append_new classes n s r =
-    let o = commit classes n (record s { log = s.log ++ r ∷ []; acked = raised n (length (s.log ++ r ∷ [])) s.members.acting s.acked }) in
-    record { node = o.node; sent = to_others n s.members.acting (Rep s.interval (length s.log) r) ++ o.sent; refusal = None }
+    let o = commit classes n (record s {
+      log = s.log ++ r ∷ [];
+      acked = raised n (length (s.log ++ r ∷ [])) s.members.acting s.acked;
+    }) in
+    record {
+      node = o.node;
+      sent = to_others n s.members.acting (Rep s.interval (length s.log) r) ++ o.sent;
+      refusal = None;
+    }
 
 -- a new request is appended, or refused for the log's reason
 abbrev pub append_unless : Classes → ℕ → NodeState → ClientRequest → Option LogError → Outcome
@@ -204,7 +234,8 @@ abbrev pub replicate : Classes → ℕ → NodeState → Party → ℕ → ℕ �
 replicate classes n s sender interval place r =
     if (interval == s.interval) && is_installed s.status then
     (if nat_lt place (length s.log) then and_acks n sender s else
-    if (place == length s.log) && is_none (refusal classes s.log r) then and_acks n sender (record s { log = s.log ++ r ∷ [] }) else nothing s)
+    if (place == length s.log) && is_none (refusal classes s.log r)
+    then and_acks n sender (record s { log = s.log ++ r ∷ [] }) else nothing s)
     else nothing s
 
 -- ACKNOWLEDGE. An active primary raises the member's length, and then the commit point.

@@ -12,7 +12,9 @@ use Rattle.group_world.specs.declared.status.Status.TheVariants.{Installed, Aski
 use Rattle.group_world.specs.declared.party.Party.{Party}
 use Rattle.group_world.specs.declared.party.Party.TheVariants.{Node as ANode, Monitor as TheMonitor, Client as AClient}
 use Rattle.group_world.specs.declared.message.MessageKind.{MessageKind}
-use Rattle.group_world.specs.declared.message.MessageKind.TheVariants.{Query, Log as LogOf, Install, Installed as InstalledIn, AskActivate, Activated, Rep, Ack, Reply as ReplyTo}
+use Rattle.group_world.specs.declared.message.MessageKind.TheVariants.{Query, Log as LogOf, Install}
+use Rattle.group_world.specs.declared.message.MessageKind.TheVariants.{Installed as InstalledIn, AskActivate, Activated}
+use Rattle.group_world.specs.declared.message.MessageKind.TheVariants.{Rep, Ack, Reply as ReplyTo}
 use Rattle.group_world.specs.declared.message.Packet.{Packet}
 
 -- A message in short: sender, receiver, kind, its interval (a reply has the request's number
@@ -46,7 +48,8 @@ locks = (method (codes "lock") ∷ method (codes "unlock") ∷ []) ∷ []
 
 -- a call of the class on the object `a`
 abbrev pub call : ℕ → ℕ → List ℕ → ClientRequest
-call client number name = record { client = client; number = number; object = codes "a"; class = 0; method = name; input = [] }
+call client number name =
+    record { client = client; number = number; object = codes "a"; class = 0; method = name; input = [] }
 
 -- the world after these events
 abbrev pub after : List WorldEvent → World
@@ -88,19 +91,23 @@ reply n client number place = (ANode n, AClient client, codes "Reply", number, p
 -- ONE NODE ALONE adopts the empty list, is activated, and answers at once.
 abbrev pub one_node : List WorldEvent
 one_node = MapMade (1 ∷ []) ∷ sees 1 1 ∷ delivers 1 ∷ delivers 2
-    ∷ RequestAt 1 (call 1 1 (codes "lock")) ∷ RequestAt 1 (call 2 1 (codes "lock")) ∷ RequestAt 1 (call 1 2 (codes "unlock")) ∷ RequestAt 1 (call 2 2 (codes "lock")) ∷ []
+    ∷ RequestAt 1 (call 1 1 (codes "lock")) ∷ RequestAt 1 (call 2 1 (codes "lock")) ∷
+    RequestAt 1 (call 1 2 (codes "unlock")) ∷ RequestAt 1 (call 2 2 (codes "lock")) ∷ []
 
 -- each event's messages, in order
 abbrev pub OneNode : Type 0
-OneNode = lines one_node ≡ to_monitor 1 1 ∷ from_monitor 1 1 ∷ reply 1 1 1 0 ∷ reply 1 2 1 1 ∷ reply 1 1 2 2 ∷ reply 1 2 2 3 ∷ []
+OneNode = lines one_node ≡ to_monitor 1 1 ∷ from_monitor 1 1 ∷ reply 1 1 1 0 ∷ reply 1 2 1 1 ∷ reply 1 1 2 2 ∷
+    reply 1 2 2 3 ∷ []
 
 -- THREE NODES become a group.
 abbrev pub three_nodes : List WorldEvent
-three_nodes = MapMade (1 ∷ 2 ∷ 3 ∷ []) ∷ sees 1 1 ∷ delivers 1 ∷ delivers 2 ∷ delivers 3 ∷ delivers 4 ∷ delivers 5 ∷ delivers 6 ∷ []
+three_nodes = MapMade (1 ∷ 2 ∷ 3 ∷ []) ∷ sees 1 1 ∷ delivers 1 ∷ delivers 2 ∷ delivers 3 ∷ delivers 4 ∷ delivers 5 ∷
+    delivers 6 ∷ []
 
 -- the messages of that, in order
 abbrev pub three_lines : List Line
-three_lines = from_to 1 2 (codes "Install") 1 0 ∷ from_to 1 3 (codes "Install") 1 0 ∷ from_to 2 1 (codes "Installed") 1 0
+three_lines =
+    from_to 1 2 (codes "Install") 1 0 ∷ from_to 1 3 (codes "Install") 1 0 ∷ from_to 2 1 (codes "Installed") 1 0
     ∷ from_to 3 1 (codes "Installed") 1 0 ∷ to_monitor 1 1 ∷ from_monitor 1 1 ∷ []
 
 -- A request goes to both, and both have it.
@@ -109,7 +116,8 @@ both_have = three_nodes ++ RequestAt 1 (call 1 7 (codes "lock")) ∷ delivers 7 
 
 -- the messages of that, in order
 abbrev pub both_lines : List Line
-both_lines = three_lines ++ from_to 1 2 (codes "Rep") 1 0 ∷ from_to 1 3 (codes "Rep") 1 0 ∷ from_to 2 1 (codes "Ack") 1 1 ∷ from_to 3 1 (codes "Ack") 1 1 ∷ []
+both_lines = three_lines ++ from_to 1 2 (codes "Rep") 1 0 ∷ from_to 1 3 (codes "Rep") 1 0 ∷
+    from_to 2 1 (codes "Ack") 1 1 ∷ from_to 3 1 (codes "Ack") 1 1 ∷ []
 
 -- A REPEATED REQUEST gets the same reply, and is in the log once.
 abbrev pub request_repeated : List WorldEvent
@@ -117,57 +125,74 @@ request_repeated = both_have ++ delivers 9 ∷ delivers 10 ∷ RequestAt 1 (call
 
 -- the second reply is the first one again, and the log has one request
 abbrev pub RepeatedRequest : Type 0
-RepeatedRequest = (lines request_repeated ≡ both_lines ++ reply 1 1 7 0 ∷ reply 1 1 7 0 ∷ []) × (standing request_repeated 1 ≡ (1, Active, 1, 1))
+RepeatedRequest = (lines request_repeated ≡ both_lines ++ reply 1 1 7 0 ∷ reply 1 1 7 0 ∷ []) ×
+    (standing request_repeated 1 ≡ (1, Active, 1, 1))
 
 -- LOST ACKNOWLEDGEMENTS: the primary stops before it receives them. The next primary has the
 -- request, and both give the same answer.
 abbrev pub lost_acknowledgements : List WorldEvent
-lost_acknowledgements = both_have ++ MapMade (2 ∷ 3 ∷ []) ∷ sees 2 2 ∷ delivers 13 ∷ delivers 14 ∷ delivers 15 ∷ delivers 16 ∷ delivers 17 ∷ delivers 18
+lost_acknowledgements = both_have ++ MapMade (2 ∷ 3 ∷ []) ∷ sees 2 2 ∷ delivers 13 ∷ delivers 14 ∷ delivers 15 ∷
+    delivers 16 ∷ delivers 17 ∷ delivers 18
     ∷ RequestAt 2 (call 1 7 (codes "lock")) ∷ delivers 9 ∷ delivers 10 ∷ []
 
 -- both primaries reply with the same place
 abbrev pub LostAcknowledgements : Type 0
-LostAcknowledgements = lines lost_acknowledgements ≡ both_lines ++ from_to 2 1 (codes "Query") 2 0 ∷ from_to 2 2 (codes "Query") 2 0 ∷ from_to 2 3 (codes "Query") 2 0
-    ∷ from_to 3 2 (codes "Log") 2 1 ∷ from_to 2 3 (codes "Install") 2 1 ∷ from_to 3 2 (codes "Installed") 2 0 ∷ to_monitor 2 2 ∷ from_monitor 2 2
+LostAcknowledgements = lines lost_acknowledgements ≡ both_lines ++
+    from_to 2 1 (codes "Query") 2 0 ∷ from_to 2 2 (codes "Query") 2 0 ∷ from_to 2 3 (codes "Query") 2 0
+    ∷ from_to 3 2 (codes "Log") 2 1 ∷ from_to 2 3 (codes "Install") 2 1 ∷ from_to 3 2 (codes "Installed") 2 0 ∷
+    to_monitor 2 2 ∷ from_monitor 2 2
     ∷ reply 2 1 7 0 ∷ reply 1 1 7 0 ∷ []
 
 -- A PLACE TOO EARLY is ignored, and A REPEATED INSTALL leaves the list as it is.
 abbrev pub repeated_install : List WorldEvent
-repeated_install = three_nodes ++ RequestAt 1 (call 1 1 (codes "lock")) ∷ RequestAt 1 (call 1 2 (codes "unlock")) ∷ delivers 9 ∷ delivers 7 ∷ delivers 1 ∷ []
+repeated_install = three_nodes ++ RequestAt 1 (call 1 1 (codes "lock")) ∷ RequestAt 1 (call 1 2 (codes "unlock")) ∷
+    delivers 9 ∷ delivers 7 ∷ delivers 1 ∷ []
 
 -- place 1 is taken after place 0, and after the second Install the log is as it was
 abbrev pub RepeatedInstall : Type 0
-RepeatedInstall = (lines (repeated_install ++ delivers 9 ∷ []) ≡ three_lines ++ from_to 1 2 (codes "Rep") 1 0 ∷ from_to 1 3 (codes "Rep") 1 0 ∷ from_to 1 2 (codes "Rep") 1 1
-    ∷ from_to 1 3 (codes "Rep") 1 1 ∷ from_to 2 1 (codes "Ack") 1 1 ∷ from_to 2 1 (codes "Installed") 1 0 ∷ from_to 2 1 (codes "Ack") 1 2 ∷ [])
+RepeatedInstall = (lines (repeated_install ++ delivers 9 ∷ []) ≡ three_lines ++
+    from_to 1 2 (codes "Rep") 1 0 ∷ from_to 1 3 (codes "Rep") 1 0 ∷ from_to 1 2 (codes "Rep") 1 1
+    ∷ from_to 1 3 (codes "Rep") 1 1 ∷ from_to 2 1 (codes "Ack") 1 1 ∷ from_to 2 1 (codes "Installed") 1 0 ∷
+    from_to 2 1 (codes "Ack") 1 2 ∷ [])
     × (standing repeated_install 2 ≡ (1, Installed, 1, 0))
 
 -- ALL MEMBERS STOPPED: the next primary asks them, and keeps asking.
 abbrev pub all_stopped : List WorldEvent
-all_stopped = three_nodes ++ MapMade (4 ∷ 5 ∷ []) ∷ sees 4 2 ∷ RequestAt 4 (call 1 8 (codes "lock")) ∷ RequestAt 5 (call 1 8 (codes "lock")) ∷ []
+all_stopped = three_nodes ++ MapMade (4 ∷ 5 ∷ []) ∷ sees 4 2 ∷ RequestAt 4 (call 1 8 (codes "lock")) ∷
+    RequestAt 5 (call 1 8 (codes "lock")) ∷ []
 
 -- three questions, and nothing after them
 abbrev pub AllStopped : Type 0
-AllStopped = (lines all_stopped ≡ three_lines ++ from_to 4 1 (codes "Query") 2 0 ∷ from_to 4 2 (codes "Query") 2 0 ∷ from_to 4 3 (codes "Query") 2 0 ∷ [])
+AllStopped = (lines all_stopped ≡ three_lines ++
+    from_to 4 1 (codes "Query") 2 0 ∷ from_to 4 2 (codes "Query") 2 0 ∷ from_to 4 3 (codes "Query") 2 0 ∷ [])
     × (standing all_stopped 4 ≡ (2, Asking, 0, 0))
 
 -- A DIVERGENT END: the old primary has a request that no other node has, and drops it for the list
 -- that the others chose.
 abbrev pub divergent_end : List WorldEvent
-divergent_end = both_have ++ delivers 9 ∷ delivers 10 ∷ RequestAt 1 (call 1 8 (codes "unlock")) ∷ MapMade (2 ∷ 3 ∷ []) ∷ sees 2 2 ∷ delivers 16 ∷ delivers 17 ∷ delivers 18 ∷ delivers 19
-    ∷ delivers 20 ∷ delivers 21 ∷ RequestAt 2 (call 2 1 (codes "lock")) ∷ delivers 22 ∷ delivers 23 ∷ MapMade (1 ∷ 2 ∷ []) ∷ sees 1 3 ∷ delivers 26 ∷ delivers 27 ∷ []
+divergent_end = both_have ++ delivers 9 ∷ delivers 10 ∷ RequestAt 1 (call 1 8 (codes "unlock")) ∷ MapMade (2 ∷ 3 ∷ []) ∷
+    sees 2 2 ∷ delivers 16 ∷ delivers 17 ∷ delivers 18 ∷ delivers 19
+    ∷ delivers 20 ∷ delivers 21 ∷ RequestAt 2 (call 2 1 (codes "lock")) ∷ delivers 22 ∷ delivers 23 ∷
+    MapMade (1 ∷ 2 ∷ []) ∷ sees 1 3 ∷ delivers 26 ∷ delivers 27 ∷ []
 
 -- that list is installed and activated, and the dropped request comes again
 abbrev pub divergent_rest : List WorldEvent
-divergent_rest = delivers 28 ∷ delivers 29 ∷ delivers 30 ∷ delivers 31 ∷ delivers 13 ∷ RequestAt 1 (call 1 8 (codes "unlock")) ∷ delivers 32 ∷ delivers 33 ∷ []
+divergent_rest = delivers 28 ∷ delivers 29 ∷ delivers 30 ∷ delivers 31 ∷ delivers 13 ∷
+    RequestAt 1 (call 1 8 (codes "unlock")) ∷ delivers 32 ∷ delivers 33 ∷ []
 
 -- it leads by that list, and the dropped request gets a new place
 abbrev pub DivergentEnd : Type 0
 DivergentEnd = (standing divergent_end 1 ≡ (3, Installing, 2, 1))
-    × (lines (divergent_end ++ divergent_rest) ≡ both_lines ++ reply 1 1 7 0 ∷ from_to 1 2 (codes "Rep") 1 1 ∷ from_to 1 3 (codes "Rep") 1 1
-    ∷ from_to 2 1 (codes "Query") 2 0 ∷ from_to 2 2 (codes "Query") 2 0 ∷ from_to 2 3 (codes "Query") 2 0 ∷ from_to 3 2 (codes "Log") 2 1 ∷ from_to 2 3 (codes "Install") 2 1
-    ∷ from_to 3 2 (codes "Installed") 2 0 ∷ to_monitor 2 2 ∷ from_monitor 2 2 ∷ from_to 2 3 (codes "Rep") 2 1 ∷ from_to 3 2 (codes "Ack") 2 2 ∷ reply 2 2 1 1
-    ∷ from_to 1 2 (codes "Query") 3 0 ∷ from_to 1 3 (codes "Query") 3 0 ∷ from_to 3 1 (codes "Log") 3 2 ∷ from_to 1 2 (codes "Install") 3 2
-    ∷ from_to 2 1 (codes "Installed") 3 0 ∷ to_monitor 1 3 ∷ from_monitor 1 3 ∷ from_to 1 2 (codes "Rep") 3 2 ∷ from_to 2 1 (codes "Ack") 3 3 ∷ reply 1 1 8 2 ∷ [])
+    × (lines (divergent_end ++ divergent_rest) ≡ both_lines ++
+    reply 1 1 7 0 ∷ from_to 1 2 (codes "Rep") 1 1 ∷ from_to 1 3 (codes "Rep") 1 1
+    ∷ from_to 2 1 (codes "Query") 2 0 ∷ from_to 2 2 (codes "Query") 2 0 ∷ from_to 2 3 (codes "Query") 2 0 ∷
+    from_to 3 2 (codes "Log") 2 1 ∷ from_to 2 3 (codes "Install") 2 1
+    ∷ from_to 3 2 (codes "Installed") 2 0 ∷ to_monitor 2 2 ∷ from_monitor 2 2 ∷ from_to 2 3 (codes "Rep") 2 1 ∷
+    from_to 3 2 (codes "Ack") 2 2 ∷ reply 2 2 1 1
+    ∷ from_to 1 2 (codes "Query") 3 0 ∷ from_to 1 3 (codes "Query") 3 0 ∷ from_to 3 1 (codes "Log") 3 2 ∷
+    from_to 1 2 (codes "Install") 3 2
+    ∷ from_to 2 1 (codes "Installed") 3 0 ∷ to_monitor 1 3 ∷ from_monitor 1 3 ∷ from_to 1 2 (codes "Rep") 3 2 ∷
+    from_to 2 1 (codes "Ack") 3 3 ∷ reply 1 1 8 2 ∷ [])
 
 -- UNANSWERED MESSAGES are what the primary sends again: first to both members, then to the one that
 -- hasn't answered.
@@ -176,13 +201,17 @@ one_silent = three_nodes ++ RequestAt 1 (call 1 7 (codes "lock")) ∷ []
 
 -- to nodes 2 and 3, then to node 3
 abbrev pub OneSilent : Type 0
-OneSilent = (map line (unanswered 1 ((after one_silent).nodes 1)) ≡ from_to 1 2 (codes "Rep") 1 0 ∷ from_to 1 3 (codes "Rep") 1 0 ∷ [])
-    × (map line (unanswered 1 ((after (one_silent ++ delivers 7 ∷ delivers 9 ∷ [])).nodes 1)) ≡ from_to 1 3 (codes "Rep") 1 0 ∷ [])
+OneSilent =
+    (map line (unanswered 1 ((after one_silent).nodes 1)) ≡ from_to 1 2 (codes "Rep") 1 0 ∷
+    from_to 1 3 (codes "Rep") 1 0 ∷ [])
+    × (map line (unanswered 1 ((after (one_silent ++ delivers 7 ∷ delivers 9 ∷ [])).nodes 1)) ≡
+    from_to 1 3 (codes "Rep") 1 0 ∷ [])
 
 -- A KEPT INTERVAL: a map of the same acting list changes nothing at a node, and only the newest map
 -- is compared.
 abbrev pub kept_interval : List WorldEvent
-kept_interval = three_nodes ++ MapMade (1 ∷ 2 ∷ 3 ∷ []) ∷ sees 2 2 ∷ RequestAt 1 (call 1 1 (codes "lock")) ∷ delivers 7 ∷ delivers 8 ∷ delivers 9 ∷ delivers 10
+kept_interval = three_nodes ++ MapMade (1 ∷ 2 ∷ 3 ∷ []) ∷ sees 2 2 ∷ RequestAt 1 (call 1 1 (codes "lock")) ∷
+    delivers 7 ∷ delivers 8 ∷ delivers 9 ∷ delivers 10
     ∷ MapMade (1 ∷ 2 ∷ []) ∷ MapMade (1 ∷ 2 ∷ 3 ∷ []) ∷ sees 1 4 ∷ []
 
 -- epoch, interval, and the interval before
@@ -191,5 +220,7 @@ intervals m = (m.epoch, m.interval, m.prev)
 
 -- the second map keeps the first's interval; the fourth begins one, though it has the first's list
 abbrev pub KeptInterval : Type 0
-KeptInterval = (lines kept_interval ≡ both_lines ++ reply 1 1 1 0 ∷ from_to 1 1 (codes "Query") 4 0 ∷ from_to 1 2 (codes "Query") 4 0 ∷ from_to 1 3 (codes "Query") 4 0 ∷ [])
+KeptInterval =
+    (lines kept_interval ≡ both_lines ++ reply 1 1 1 0 ∷ from_to 1 1 (codes "Query") 4 0 ∷
+    from_to 1 2 (codes "Query") 4 0 ∷ from_to 1 3 (codes "Query") 4 0 ∷ [])
     × (map intervals (after kept_interval).maps ≡ (1, 1, 0) ∷ (2, 1, 0) ∷ (3, 3, 1) ∷ (4, 4, 1) ∷ [])

@@ -17,14 +17,16 @@ use Rattle.group_world.specs.declared.handle_error.HandleError.TheVariants as no
 -- Each Reply that a step sends is true of the node's committed list after it.
 abbrev pub RepliesAreCommitted : Type 0
 RepliesAreCommitted = (classes : Classes) (n : ℕ) (s : NodeState) (event : Event) → s.committed ≤ length s.log →
-    (p : Packet) → Contains (local_step classes n s event).sent p → IsTrueOf classes (committed_list (local_step classes n s event).node) p.message.kind
+    (p : Packet) → Contains (local_step classes n s event).sent p →
+    IsTrueOf classes (committed_list (local_step classes n s event).node) p.message.kind
 
 -- What a refusal by class, method or input says about the request is true of the loaded classes.
 -- Nothing is said about other refusals.
 pub record IsDeserved (classes : Classes) (request : ClientRequest) (why : HandleError) : Type 0 where
   pub class : why ≡ node.NoClass → refusal_of_class (slice_get classes request.class) request ≡ Some log.NoClass
   pub method : why ≡ node.NoMethod → refusal_of_class (slice_get classes request.class) request ≡ Some log.NoMethod
-  pub input : why ≡ node.InputTooLong → refusal_of_class (slice_get classes request.class) request ≡ Some log.InputTooLong
+  pub input : why ≡ node.InputTooLong →
+      refusal_of_class (slice_get classes request.class) request ≡ Some log.InputTooLong
 
 -- Each refusal of a step is deserved.
 abbrev pub RefusalsAreDeserved : Type 0

@@ -15,12 +15,14 @@ use Rattle.group_world.specs.declared.message.Packet.{Packet}
 -- the same message to each of these nodes that isn't the sender and hasn't joined
 abbrev pub to_missing : ℕ → List ℕ → List ℕ → MessageKind → List Packet
 to_missing n joined [] kind = []
-to_missing n joined (m ∷ ms) kind = if has m joined || m == n then to_missing n joined ms kind else packet n (ANode m) kind ∷ to_missing n joined ms kind
+to_missing n joined (m ∷ ms) kind = if has m joined ||
+    m == n then to_missing n joined ms kind else packet n (ANode m) kind ∷ to_missing n joined ms kind
 
 -- a Rep to one member of each of these requests, which are in the log from a place on
 abbrev pub reps_from : ℕ → ℕ → ℕ → ℕ → List ClientRequest → List Packet
 reps_from n m interval place [] = []
-reps_from n m interval place (r ∷ rs) = packet n (ANode m) (Rep interval place r) ∷ reps_from n m interval (suc place) rs
+reps_from n m interval place (r ∷ rs) =
+    packet n (ANode m) (Rep interval place r) ∷ reps_from n m interval (suc place) rs
 
 -- a Rep to each of these members except the sender, of each place past its acknowledged length
 abbrev pub reps_unacked : ℕ → NodeState → List ℕ → List ℕ → List Packet
@@ -35,7 +37,8 @@ unanswered_in n s Out = []
 unanswered_in n s Waiting = []
 unanswered_in n s Installed = []
 unanswered_in n s Asking = to_all n s.members.prev_acting (Query s.members)
-unanswered_in n s Installing = to_missing n s.joined s.members.acting (Install s.members s.log) ++ ask_if n s (all_among s.members.acting s.joined)
+unanswered_in n s Installing =
+    to_missing n s.joined s.members.acting (Install s.members s.log) ++ ask_if n s (all_among s.members.acting s.joined)
 unanswered_in n s Active = reps_unacked n s s.members.acting s.acked
 
 -- The unanswered messages of a node: members in acting order (for a Query that of the previous

@@ -1,6 +1,7 @@
 -- From the world of one group to the agreed world. Rules has what a node does at an event, Monitor
 -- what the monitor does.
-use Rattle.std.specs.Prelude.{◌≡◌, ℕ, List, [], ◌∷◌, ◌++◌, ◌≤◌, length, ◌==◌, if◌then◌else◌, is_none, Option, Some, None, slice_get}
+use Rattle.std.specs.Prelude.{◌≡◌, ℕ, List, [], ◌∷◌, ◌++◌, ◌≤◌, length, ◌==◌, if◌then◌else◌, is_none, Option, Some}
+use Rattle.std.specs.Prelude.{None, slice_get}
 use Rattle.std.specs.List.{Contains, AllByRecursion}
 use mathlib.Core.List.{IsPrefix}
 use Rattle.pg_log.specs.Requests.{ClientRequest}
@@ -9,12 +10,14 @@ use Rattle.group_world.specs.Maps.{GroupMap}
 use Rattle.group_world.specs.Node.{NodeState, fresh, committed_list}
 use Rattle.group_world.specs.Rules.{local_step}
 use Rattle.group_world.specs.Unanswered.{unanswered}
-use Rattle.group_world.specs.Monitor.{MonitorState, no_maps, map_refusal, next_map, with_map, activation_refusal, with_activated}
+use Rattle.group_world.specs.Monitor.{MonitorState, no_maps, map_refusal, next_map, with_map, activation_refusal}
+use Rattle.group_world.specs.Monitor.{with_activated}
 use Rattle.group_world.specs.declared.status.Status.TheVariants.{Waiting, Asking}
 use Rattle.group_world.specs.declared.party.Party.{Party}
 use Rattle.group_world.specs.declared.party.Party.TheVariants.{Node as ANode, Monitor as TheMonitor, Client as AClient}
 use Rattle.group_world.specs.declared.message.MessageKind.{MessageKind}
-use Rattle.group_world.specs.declared.message.MessageKind.TheVariants.{Log as LogOf, Install, AskActivate, Activated, Reply as ReplyTo}
+use Rattle.group_world.specs.declared.message.MessageKind.TheVariants.{Log as LogOf, Install, AskActivate, Activated}
+use Rattle.group_world.specs.declared.message.MessageKind.TheVariants.{Reply as ReplyTo}
 use Rattle.group_world.specs.declared.message.Message.{Message}
 use Rattle.group_world.specs.declared.message.Packet.{Packet}
 use Rattle.group_world.specs.declared.event.Event.{Event}
@@ -53,22 +56,41 @@ with_node nodes n s m = if m == n then s else nodes m
 -- node n takes an event
 abbrev pub at_node : World → ℕ → Event → World
 at_node w n event = let o = local_step w.classes n (w.nodes n) event in
-    record { classes = w.classes; maps = w.maps; monitor = w.monitor; nodes = with_node w.nodes n o.node; sent = w.sent ++ o.sent }
+    record {
+      classes = w.classes;
+      maps = w.maps;
+      monitor = w.monitor;
+      nodes = with_node w.nodes n o.node;
+      sent = w.sent ++ o.sent;
+    }
 
 -- the monitor makes a map, unless it refuses
 abbrev pub make_map : World → List ℕ → World
 make_map w acting = if is_none (map_refusal w.monitor acting)
-    then record { classes = w.classes; maps = w.maps ++ next_map w.monitor acting ∷ []; monitor = with_map w.monitor acting; nodes = w.nodes; sent = w.sent }
+    then record {
+      classes = w.classes;
+      maps = w.maps ++ next_map w.monitor acting ∷ [];
+      monitor = with_map w.monitor acting;
+      nodes = w.nodes;
+      sent = w.sent;
+    }
     else w
 
 -- the monitor activates an interval and says so to the sender, each time, unless it refuses
 abbrev pub activated_for : Party → ℕ → Packet
-activated_for asker interval = record { receiver = asker; message = record { sender = TheMonitor; kind = Activated interval } }
+activated_for asker interval =
+    record { receiver = asker; message = record { sender = TheMonitor; kind = Activated interval } }
 
 -- the monitor activates an interval for a node that asks, unless it refuses
 abbrev pub activate_for : World → Party → ℕ → World
 activate_for w asker interval = if is_none (activation_refusal w.monitor interval)
-    then record { classes = w.classes; maps = w.maps; monitor = with_activated w.monitor; nodes = w.nodes; sent = w.sent ++ activated_for asker interval ∷ [] }
+    then record {
+      classes = w.classes;
+      maps = w.maps;
+      monitor = with_activated w.monitor;
+      nodes = w.nodes;
+      sent = w.sent ++ activated_for asker interval ∷ [];
+    }
     else w
 
 -- the monitor takes a message

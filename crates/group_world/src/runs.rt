@@ -1,5 +1,6 @@
 //! The worked runs of `specs/Runs.antt`: the definitions give what each says.
-ghost use Rattle.group_world.specs.Runs.{OneNode, RepeatedRequest, LostAcknowledgements, RepeatedInstall, AllStopped, DivergentEnd, OneSilent, KeptInterval};
+ghost use Rattle.group_world.specs.Runs.{OneNode, RepeatedRequest, LostAcknowledgements, RepeatedInstall, AllStopped};
+ghost use Rattle.group_world.specs.Runs.{DivergentEnd, OneSilent, KeptInterval};
 
 /// Runs of the rules, worked out by hand, message by message. The function does nothing.
 pub fn worked_runs()

@@ -9,12 +9,14 @@ use Rattle.op_shards.specs.declared.rule.PassState.{PassState}
 
 -- the position of a shard's queue among all shards, with the numbers of senders and takers
 abbrev pub queue_position : ℕ → ℕ → ℕ → ℕ → QueuePosition
-queue_position shard shards senders takers = record { shard = shard; shards = shards; senders = senders; takers = takers }
+queue_position shard shards senders takers =
+    record { shard = shard; shards = shards; senders = senders; takers = takers }
 
 module _ {T : Type 0} where
   -- a pass by its parts
   abbrev pub pass_state : QueuePosition → ℕ → ℕ → ℕ → List (Ranked T) → List (Ranked T) → PassState T
-  pass_state place first end parts put got = record { place = place; first = first; end = end; parts = parts; put = put; got = got }
+  pass_state place first end parts put got =
+      record { place = place; first = first; end = end; parts = parts; put = put; got = got }
 
   -- the pass of a new queue whose position isn't known yet
   abbrev pub unopened : PassState T
@@ -104,7 +106,8 @@ module _ {T : Type 0} where
   -- The pass with this number is of this queue, unless it is spent. It knows all operations that
   -- the queue accepted from its own senders. Each operation that it took has a rank below the
   -- number of its sender's operations that were taken. A pass without a part took nothing.
-  pub record Fits (place : QueuePosition) (taken : List (Ranked T)) (sent : ℕ → List (Ranked T)) (seat : ℕ → ℕ) (by : ℕ) (v : PassState T) : Type 0 where
+  pub record Fits (place : QueuePosition) (taken : List (Ranked T)) (sent : ℕ → List (Ranked T)) (seat : ℕ →
+      ℕ) (by : ℕ) (v : PassState T) : Type 0 where
     pub opened : 0 < v.place.shard → 0 < v.place.shards
     pub placed : 0 < v.place.shards → v.place ≡ place
     pub senders : (p : ℕ) → v.first ≤ p → p < v.end → (p < place.senders) × (seat p ≡ by) × (v.put ≡ sent p)
@@ -161,4 +164,5 @@ module _ {T : Type 0} where
   -- A sender's pass that took others in learns that the queue accepted each of the sender's
   -- operations that they took. If it has all parts, these operations are the first ones accepted.
   abbrev pub Accounts : PassState T → List (Ranked T) → Type 0
-  Accounts v items = IsPartOf (of v.first v.got) v.put × (v.parts ≡ v.place.takers → AreFirstOf (of v.first v.got) v.put)
+  Accounts v items =
+      IsPartOf (of v.first v.got) v.put × (v.parts ≡ v.place.takers → AreFirstOf (of v.first v.got) v.put)

@@ -1,5 +1,6 @@
 -- All queues and the passes, as callers see them.
-use Rattle.std.specs.Prelude.{◌≡◌, ℕ, suc, ◌+◌, ◌≤◌, List, [], ◌∷◌, ◌++◌, length, map, Some, slice_get, slice_set, slice_index_or}
+use Rattle.std.specs.Prelude.{◌≡◌, ℕ, suc, ◌+◌, ◌≤◌, List, [], ◌∷◌, ◌++◌, length, map, Some, slice_get, slice_set}
+use Rattle.std.specs.Prelude.{slice_index_or}
 use mathlib.Core.List.{IsPrefix}
 use Rattle.crossbeam_queue.specs.Fifo.{Held}
 use Rattle.crossbeam_queue.specs.declared.array_queue.Slotted.{Slotted}
@@ -38,7 +39,8 @@ queues_of names senders takers = record { names = names; senders = senders; take
 -- the spots of these queues, the first at shard k of all shards
 abbrev pub spots_from : ℕ → ℕ → ℕ → ℕ → List TableId → List Spot
 spots_from k shards senders takers [] = []
-spots_from k shards senders takers (q ∷ qs) = spot_of q (queue_position k shards senders takers) ∷ spots_from (suc k) shards senders takers qs
+spots_from k shards senders takers (q ∷ qs) =
+    spot_of q (queue_position k shards senders takers) ∷ spots_from (suc k) shards senders takers qs
 
 -- all of them
 abbrev pub spots : Queues → List Spot
@@ -136,7 +138,11 @@ module _ {T : Type 0} where
 
   -- a sender after an accepted operation, and a taker after one that it took
   abbrev pub after_submit : Sender T → ℕ → T → Sender T
-  after_submit s shard op = record { queues = s.queues; sender = s.sender; accepted = pushed_at s.accepted shard (ranked s.sender (next_rank s shard) op) }
+  after_submit s shard op = record {
+    queues = s.queues;
+    sender = s.sender;
+    accepted = pushed_at s.accepted shard (ranked s.sender (next_rank s shard) op);
+  }
 
   abbrev pub after_take : Taker T → ℕ → Ranked T → Taker T
   after_take t shard x = record { queues = t.queues; takers = t.takers; taken = pushed_at t.taken shard x }
@@ -163,11 +169,13 @@ module _ {T : Type 0} where
 
   -- the same, at a moment at which the queue held n operations
   abbrev pub SenderWasKeptAt : (T → ℕ) → ℕ → Sender T → ℕ → Type 0
-  SenderWasKeptAt group n s shard = Held n (KeptWith group (sender (shard_of s.queues shard) s.sender (at_shard s.accepted shard)))
+  SenderWasKeptAt group n s shard =
+      Held n (KeptWith group (sender (shard_of s.queues shard) s.sender (at_shard s.accepted shard)))
 
   -- the same of a taker's pass
   abbrev pub TakerWasKeptAt : (T → ℕ) → ℕ → Taker T → ℕ → Type 0
-  TakerWasKeptAt group n t shard = Held n (KeptWith group (taker (shard_of t.queues shard) t.takers (at_shard t.taken shard)))
+  TakerWasKeptAt group n t shard =
+      Held n (KeptWith group (taker (shard_of t.queues shard) t.takers (at_shard t.taken shard)))
 
   -- For each shard, the operations accepted earlier are the beginning of those accepted later.
   pub record Grew (s t : Sender T) : Type 0 where

@@ -1,10 +1,13 @@
 //! The pass of one sender or one taker: an end of each queue.
 
-ghost use Rattle.std.specs.Prelude.{◌≡◌, ◌<◌, ◌≤◌, ◌+◌, ◌-◌, ◌%◌, length, map, slice_get, Some, IsTrue, MatchOption, MatchResult, IfOk, OnOk};
+ghost use Rattle.std.specs.Prelude.{◌≡◌, ◌<◌, ◌≤◌, ◌+◌, ◌-◌, ◌%◌, length, map, slice_get, Some, IsTrue, MatchOption};
+ghost use Rattle.std.specs.Prelude.{MatchResult, IfOk, OnOk};
 ghost use Rattle.std.specs.List.{range_with_len};
 ghost use Rattle.crossbeam_queue.specs.Passes.{ruled_capacity};
 ghost use Rattle.op_shards.specs.Order.{of, IsPartOf, AreFirstOf, IsHere, IsNextAfter};
-ghost use Rattle.op_shards.specs.Passes.{at_shard, name, names, queues_of, spots, shard_of, free_end_state, new_sender, new_taker, after_submit, after_take, after_gather, join_ends, SenderWasKept, SenderWasKeptAt, TakerWasKept, TakerWasKeptAt};
+ghost use Rattle.op_shards.specs.Passes.{at_shard, name, names, queues_of, spots, shard_of, free_end_state, new_sender};
+ghost use Rattle.op_shards.specs.Passes.{new_taker, after_submit, after_take, after_gather, join_ends, SenderWasKept};
+ghost use Rattle.op_shards.specs.Passes.{SenderWasKeptAt, TakerWasKept, TakerWasKeptAt};
 
 use crate::op::Op;
 use crate::queue_end::{FreeEnd, SendEnd, TakeEnd};
@@ -40,9 +43,15 @@ impl<T> Model for SendPass<T> {
 
     ghost Value = { Sender T };
 
-    ghost view = { λ s. record { queues = queues_of (map (λ l. l.spot.queue) s.ends.items) s.senders s.takers; sender = s.sender; accepted = map (λ l. l.accepted) s.ends.items } };
+    ghost view = { λ s. record {
+      queues = queues_of (map (λ l. l.spot.queue) s.ends.items) s.senders s.takers;
+      sender = s.sender;
+      accepted = map (λ l. l.accepted) s.ends.items;
+    } };
 
-    ghost invariant = { λ s. (map (λ l. l.spot) s.ends.items ≡ spots (queues_of (map (λ l. l.spot.queue) s.ends.items) s.senders s.takers)) × All (λ l. l.sender ≡ s.sender) s.ends.items };
+    ghost invariant = { λ s. (map (λ l. l.spot) s.ends.items ≡
+        spots (queues_of (map (λ l. l.spot.queue) s.ends.items) s.senders s.takers)) ×
+        All (λ l. l.sender ≡ s.sender) s.ends.items };
 }
 
 /// A taker's right to take, or that of several whose passes were put together, and the record of
@@ -71,9 +80,15 @@ impl<T> Model for TakePass<T> {
 
     ghost Value = { Taker T };
 
-    ghost view = { λ s. record { queues = queues_of (map (λ l. l.spot.queue) s.ends.items) s.senders s.takers; takers = parts_of s.ends.items; taken = map (λ l. l.taken) s.ends.items } };
+    ghost view = { λ s. record {
+      queues = queues_of (map (λ l. l.spot.queue) s.ends.items) s.senders s.takers;
+      takers = parts_of s.ends.items;
+      taken = map (λ l. l.taken) s.ends.items;
+    } };
 
-    ghost invariant = { λ s. (map (λ l. l.spot) s.ends.items ≡ spots (queues_of (map (λ l. l.spot.queue) s.ends.items) s.senders s.takers)) × (0 < parts_of s.ends.items) × All (λ l. l.parts ≡ parts_of s.ends.items) s.ends.items };
+    ghost invariant = { λ s. (map (λ l. l.spot) s.ends.items ≡
+        spots (queues_of (map (λ l. l.spot.queue) s.ends.items) s.senders s.takers)) × (0 < parts_of s.ends.items) ×
+        All (λ l. l.parts ≡ parts_of s.ends.items) s.ends.items };
 }
 
 impl<T: Op> SendPass<T> {
@@ -115,8 +130,10 @@ impl<T: Op> SendPass<T> {
         requires queue { slice_get self.old.queues.names shard ≡ Some (name queue.now) }
         requires same { other.old.queues ≡ self.old.queues }
         ensures same { (self.new ≡ self.old) × (other.new ≡ other.old) }
-        ensures accepted { IsPartOf (of self.old.sender (at_shard other.old.taken shard)) (at_shard self.old.accepted shard) }
-        ensures first { other.old.takers ≡ other.old.queues.takers → AreFirstOf (of self.old.sender (at_shard other.old.taken shard)) (at_shard self.old.accepted shard) }
+        ensures accepted { IsPartOf (of self.old.sender (at_shard other.old.taken shard))
+            (at_shard self.old.accepted shard) }
+        ensures first { other.old.takers ≡ other.old.queues.takers →
+            AreFirstOf (of self.old.sender (at_shard other.old.taken shard)) (at_shard self.old.accepted shard) }
     {
         let mine = &mut self.ends[shard];
         let theirs = &mut other.ends[shard];
@@ -201,9 +218,12 @@ fn next_send_pass<T: Op>(
     sender: u64,
 ) -> Result<SendPass<T>, AllocError>
     requires room { sender < members.senders }
-    requires free_ends { free_ends.old.items ≡ map (free_end_state sender members.takers) (spots (queues_of (names queues.now.items) members.senders members.takers)) }
-    ensures free_ends { OnOk result (free_ends.new.items ≡ map (free_end_state (sender + 1) members.takers) (spots (queues_of (names queues.now.items) members.senders members.takers))) }
-    ensures pass { IfOk result (λ p. p ≡ new_sender (queues_of (names queues.now.items) members.senders members.takers) sender) }
+    requires free_ends { free_ends.old.items ≡ map (free_end_state sender members.takers)
+        (spots (queues_of (names queues.now.items) members.senders members.takers)) }
+    ensures free_ends { OnOk result (free_ends.new.items ≡ map (free_end_state (sender + 1) members.takers)
+        (spots (queues_of (names queues.now.items) members.senders members.takers))) }
+    ensures pass { IfOk result
+        (λ p. p ≡ new_sender (queues_of (names queues.now.items) members.senders members.takers) sender) }
 {
     let mut ends = Vec::new(alloc);
     for i in 0..queues.len() {
@@ -229,9 +249,12 @@ fn next_take_pass<T: Op>(
 ) -> Result<TakePass<T>, AllocError>
     requires some { 0 < length queues.now.items }
     requires room { 0 < left }
-    requires free_ends { free_ends.old.items ≡ map (free_end_state members.senders left) (spots (queues_of (names queues.now.items) members.senders members.takers)) }
-    ensures free_ends { OnOk result (free_ends.new.items ≡ map (free_end_state members.senders (left - 1)) (spots (queues_of (names queues.now.items) members.senders members.takers))) }
-    ensures pass { IfOk result (λ p. p ≡ new_taker (queues_of (names queues.now.items) members.senders members.takers)) }
+    requires free_ends { free_ends.old.items ≡ map (free_end_state members.senders left)
+        (spots (queues_of (names queues.now.items) members.senders members.takers)) }
+    ensures free_ends { OnOk result (free_ends.new.items ≡ map (free_end_state members.senders (left - 1))
+        (spots (queues_of (names queues.now.items) members.senders members.takers))) }
+    ensures pass { IfOk result
+        (λ p. p ≡ new_taker (queues_of (names queues.now.items) members.senders members.takers)) }
 {
     let mut ends = Vec::new(alloc);
     for i in 0..queues.len() {
@@ -253,9 +276,13 @@ pub(crate) fn new_send_passes<T: Op>(
     free_ends: &mut Vec<FreeEnd<T>>,
     members: Members,
 ) -> Result<Vec<SendPass<T>>, AllocError>
-    requires free_ends { free_ends.old.items ≡ map (free_end_state 0 members.takers) (spots (queues_of (names queues.now.items) members.senders members.takers)) }
-    ensures free_ends { OnOk result (free_ends.new.items ≡ map (free_end_state members.senders members.takers) (spots (queues_of (names queues.now.items) members.senders members.takers))) }
-    ensures passes { IfOk result (λ v. v.items ≡ map (new_sender (queues_of (names queues.now.items) members.senders members.takers)) (range_with_len 0 members.senders)) }
+    requires free_ends { free_ends.old.items ≡ map (free_end_state 0 members.takers)
+        (spots (queues_of (names queues.now.items) members.senders members.takers)) }
+    ensures free_ends { OnOk result (free_ends.new.items ≡ map (free_end_state members.senders members.takers)
+        (spots (queues_of (names queues.now.items) members.senders members.takers))) }
+    ensures passes { IfOk result (λ v. v.items ≡
+        map (new_sender (queues_of (names queues.now.items) members.senders members.takers))
+        (range_with_len 0 members.senders)) }
 {
     let mut passes = Vec::new(alloc);
     for sender in 0..members.senders {
@@ -273,8 +300,11 @@ pub(crate) fn new_take_passes<T: Op>(
     members: Members,
 ) -> Result<Vec<TakePass<T>>, AllocError>
     requires some { 0 < length queues.now.items }
-    requires free_ends { free_ends.old.items ≡ map (free_end_state members.senders members.takers) (spots (queues_of (names queues.now.items) members.senders members.takers)) }
-    ensures passes { IfOk result (λ v. v.items ≡ map (λ _. new_taker (queues_of (names queues.now.items) members.senders members.takers)) (range_with_len 0 members.takers)) }
+    requires free_ends { free_ends.old.items ≡ map (free_end_state members.senders members.takers)
+        (spots (queues_of (names queues.now.items) members.senders members.takers)) }
+    ensures passes { IfOk result (λ v. v.items ≡ map
+        (λ _. new_taker (queues_of (names queues.now.items) members.senders members.takers))
+        (range_with_len 0 members.takers)) }
 {
     let mut passes = Vec::new(alloc);
     for taker in 0..members.takers {

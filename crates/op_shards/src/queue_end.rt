@@ -1,9 +1,11 @@
 //! The ends of one queue: of senders, of takers, and the end that both come from.
 
-ghost use Rattle.std.specs.Prelude.{◌≡◌, ◌<◌, ◌≤◌, ◌+◌, ◌-◌, ◌%◌, [], ◌∷◌, ◌++◌, length, IsTrue, MatchOption, MatchResult};
+ghost use Rattle.std.specs.Prelude.{◌≡◌, ◌<◌, ◌≤◌, ◌+◌, ◌-◌, ◌%◌, [], ◌∷◌, ◌++◌, length, IsTrue, MatchOption};
+ghost use Rattle.std.specs.Prelude.{MatchResult};
 ghost use Rattle.crossbeam_queue.specs.Fifo.{Held};
 ghost use Rattle.crossbeam_queue.specs.Passes.{view, IsPassOf, ruled_capacity};
-ghost use Rattle.op_shards.specs.Order.{sender, taker, free_end, unopened, of, IsPartOf, AreFirstOf, IsHere, IsNextAfter, KeptWith, WasKept};
+ghost use Rattle.op_shards.specs.Order.{sender, taker, free_end, unopened, of, IsPartOf, AreFirstOf, IsHere};
+ghost use Rattle.op_shards.specs.Order.{IsNextAfter, KeptWith, WasKept};
 ghost use Rattle.op_shards.specs.Passes.{name, ranked, spot_of};
 
 use crate::op::Op;
@@ -27,9 +29,15 @@ impl<T> Model for FreeEnd<T> {
 
     ghost Value = { FreeEndState };
 
-    ghost view = { λ s. record { spot = spot_of s.pass.table_id s.pass.me.0.client.place; next = s.pass.me.0.client.first; parts = s.pass.me.0.client.parts } };
+    ghost view = { λ s. record {
+      spot = spot_of s.pass.table_id s.pass.me.0.client.place;
+      next = s.pass.me.0.client.first;
+      parts = s.pass.me.0.client.parts;
+    } };
 
-    ghost invariant = { λ s. (s.pass.me.0.client ≡ free_end s.pass.me.0.client.place s.pass.me.0.client.first s.pass.me.0.client.parts) × (0 < s.pass.me.0.client.place.shards) × (s.pass.me.1 ≡ []) };
+    ghost invariant = { λ s. (s.pass.me.0.client ≡
+        free_end s.pass.me.0.client.place s.pass.me.0.client.first s.pass.me.0.client.parts) ×
+        (0 < s.pass.me.0.client.place.shards) × (s.pass.me.1 ≡ []) };
 }
 
 /// A sender's end.
@@ -46,9 +54,15 @@ impl<T> Model for SendEnd<T> {
 
     ghost Value = { Sent T };
 
-    ghost view = { λ s. record { spot = spot_of s.pass.table_id s.pass.me.0.client.place; sender = s.pass.me.0.client.first; accepted = s.pass.me.0.client.put } };
+    ghost view = { λ s. record {
+      spot = spot_of s.pass.table_id s.pass.me.0.client.place;
+      sender = s.pass.me.0.client.first;
+      accepted = s.pass.me.0.client.put;
+    } };
 
-    ghost invariant = { λ s. (s.pass.me.0.client ≡ sender s.pass.me.0.client.place s.pass.me.0.client.first s.pass.me.0.client.put) × (0 < s.pass.me.0.client.place.shards) × (s.rank ≡ length s.pass.me.0.client.put) × (s.pass.me.1 ≡ []) };
+    ghost invariant = { λ s. (s.pass.me.0.client ≡
+        sender s.pass.me.0.client.place s.pass.me.0.client.first s.pass.me.0.client.put) ×
+        (0 < s.pass.me.0.client.place.shards) × (s.rank ≡ length s.pass.me.0.client.put) × (s.pass.me.1 ≡ []) };
 }
 
 /// A taker's end.
@@ -64,9 +78,15 @@ impl<T> Model for TakeEnd<T> {
 
     ghost Value = { Got T };
 
-    ghost view = { λ s. record { spot = spot_of s.pass.table_id s.pass.me.0.client.place; parts = s.pass.me.0.client.parts; taken = s.pass.me.0.client.got } };
+    ghost view = { λ s. record {
+      spot = spot_of s.pass.table_id s.pass.me.0.client.place;
+      parts = s.pass.me.0.client.parts;
+      taken = s.pass.me.0.client.got;
+    } };
 
-    ghost invariant = { λ s. (s.pass.me.0.client ≡ taker s.pass.me.0.client.place s.pass.me.0.client.parts s.pass.me.0.client.got) × (0 < s.pass.me.0.client.place.shards) × (s.pass.me.1 ≡ []) };
+    ghost invariant = { λ s. (s.pass.me.0.client ≡
+        taker s.pass.me.0.client.place s.pass.me.0.client.parts s.pass.me.0.client.got) ×
+        (0 < s.pass.me.0.client.place.shards) × (s.pass.me.1 ≡ []) };
 }
 
 impl<T: Op> FreeEnd<T> {
@@ -158,7 +178,8 @@ impl<T: Op> SendEnd<T> {
         requires other { other.old.spot ≡ self.old.spot }
         ensures same { (self.new ≡ self.old) × (other.new ≡ other.old) }
         ensures accepted { IsPartOf (of self.old.sender other.old.taken) self.old.accepted }
-        ensures first { other.old.parts ≡ self.old.spot.place.takers → AreFirstOf (of self.old.sender other.old.taken) self.old.accepted }
+        ensures first { other.old.parts ≡ self.old.spot.place.takers →
+            AreFirstOf (of self.old.sender other.old.taken) self.old.accepted }
     {
         let took = queue.another::<Part>(&mut other.pass);
         queue.absorb::<Meet>(&mut self.pass, took);
@@ -187,7 +208,8 @@ impl<T: Op> TakeEnd<T> {
     pub fn is_empty(&mut self, queue: &Queue<T>) -> bool
         requires { self.old.spot.queue ≡ name queue.now }
         ensures same { self.new ≡ self.old }
-        ensures held { IsTrue result → Held 0 (KeptWith T.group (taker self.old.spot.place self.old.parts self.old.taken)) }
+        ensures held { IsTrue result →
+            Held 0 (KeptWith T.group (taker self.old.spot.place self.old.parts self.old.taken)) }
     {
         queue.is_empty_as::<Take>(&mut self.pass)
     }
@@ -196,7 +218,11 @@ impl<T: Op> TakeEnd<T> {
     pub fn gather(&mut self, queue: &Queue<T>, other: &mut TakeEnd<T>)
         requires queue { self.old.spot.queue ≡ name queue.now }
         requires other { other.old.spot ≡ self.old.spot }
-        ensures mine { self.new ≡ record { spot = self.old.spot; parts = self.old.parts + other.old.parts; taken = self.old.taken ++ other.old.taken } }
+        ensures mine { self.new ≡ record {
+          spot = self.old.spot;
+          parts = self.old.parts + other.old.parts;
+          taken = self.old.taken ++ other.old.taken;
+        } }
         ensures other { other.new ≡ record { spot = other.old.spot; parts = 0; taken = [] } }
     {
         let took = queue.another::<Part>(&mut other.pass);

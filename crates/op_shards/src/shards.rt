@@ -1,11 +1,14 @@
 //! The queues of all shards, as senders and takers use them.
 
-ghost use Rattle.std.specs.Prelude.{◌≡◌, ◌<◌, ◌≤◌, ◌-◌, ◌%◌, length, map, All, IfOk, OnOk, IsTrue, MatchOption, MatchResult};
+ghost use Rattle.std.specs.Prelude.{◌≡◌, ◌<◌, ◌≤◌, ◌-◌, ◌%◌, length, map, All, IfOk, OnOk, IsTrue, MatchOption};
+ghost use Rattle.std.specs.Prelude.{MatchResult};
 ghost use Rattle.crossbeam_queue.specs.Passes.{ruled_capacity};
 ghost use Rattle.std.specs.List.{range_with_len};
 ghost use Rattle.op_shards.specs.declared.rule.Ranked.{Ranked};
 ghost use Rattle.op_shards.specs.Order.{queue_position, of, IsPartOf, AreFirstOf, IsHere, IsNextAfter};
-ghost use Rattle.op_shards.specs.Passes.{name, names, queues_of, spots, spot_of, shard_of, at_shard, free_end_state, new_sender, new_taker, after_submit, after_take, after_gather, Grew, WasSent, SenderWasKept, SenderWasKeptAt, TakerWasKept, TakerWasKeptAt};
+ghost use Rattle.op_shards.specs.Passes.{name, names, queues_of, spots, spot_of, shard_of, at_shard, free_end_state};
+ghost use Rattle.op_shards.specs.Passes.{new_sender, new_taker, after_submit, after_take, after_gather, Grew, WasSent};
+ghost use Rattle.op_shards.specs.Passes.{SenderWasKept, SenderWasKeptAt, TakerWasKept, TakerWasKeptAt};
 
 use crate::op::Op;
 use crate::pass::{Members, SendPass, TakePass, new_send_passes, new_take_passes};
@@ -67,7 +70,8 @@ impl<T: Op> OpShards<T> {
     ) -> Result<(OpShards<T>, Vec<SendPass<T>>, Vec<TakePass<T>>), NoMemory>
         requires shards { 0 < shards }
         requires places { 0 < places }
-        ensures shards { IfOk result (λ r. (length r.0.queues.names ≡ shards) × (r.0.queues.senders ≡ senders) × (r.0.queues.takers ≡ takers) × (r.0.places ≡ places)) }
+        ensures shards { IfOk result (λ r. (length r.0.queues.names ≡ shards) × (r.0.queues.senders ≡ senders) ×
+            (r.0.queues.takers ≡ takers) × (r.0.places ≡ places)) }
         ensures senders { IfOk result (λ r. r.1.items ≡ map (new_sender r.0.queues) (range_with_len 0 senders)) }
         ensures takers { IfOk result (λ r. r.2.items ≡ map (λ _. new_taker r.0.queues) (range_with_len 0 takers)) }
     {
@@ -176,8 +180,10 @@ impl<T: Op> OpShards<T> {
         requires takes { takes.old.queues ≡ self.now.queues }
         requires shard { shard < length self.now.queues.names }
         ensures same { (sends.new ≡ sends.old) × (takes.new ≡ takes.old) }
-        ensures accepted { IsPartOf (of sends.old.sender (at_shard takes.old.taken shard)) (at_shard sends.old.accepted shard) }
-        ensures first { takes.old.takers ≡ self.now.queues.takers → AreFirstOf (of sends.old.sender (at_shard takes.old.taken shard)) (at_shard sends.old.accepted shard) }
+        ensures accepted { IsPartOf (of sends.old.sender (at_shard takes.old.taken shard))
+            (at_shard sends.old.accepted shard) }
+        ensures first { takes.old.takers ≡ self.now.queues.takers →
+            AreFirstOf (of sends.old.sender (at_shard takes.old.taken shard)) (at_shard sends.old.accepted shard) }
     {
         let queue = &self.queues[shard];
         sends.compare(queue, takes, shard);
@@ -194,7 +200,8 @@ fn open_all<T: Op>(
     requires shards { 0 < shards }
     requires places { 0 < places }
     ensures queues { IfOk result (λ r. (length r.0.items ≡ shards) × All (λ q. ruled_capacity q ≡ places) r.0.items) }
-    ensures free_ends { IfOk result (λ r. r.1.items ≡ map (free_end_state 0 members.takers) (spots (queues_of (names r.0.items) members.senders members.takers))) }
+    ensures free_ends { IfOk result (λ r. r.1.items ≡
+        map (free_end_state 0 members.takers) (spots (queues_of (names r.0.items) members.senders members.takers))) }
 {
     let mut queues = Vec::new(alloc);
     let mut free_ends = Vec::new(alloc);
@@ -218,7 +225,8 @@ fn open<T: Op, J: Placed>(
     requires places { 0 < places }
     requires place { J.place ≡ queue_position shard shards members.senders members.takers }
     ensures queue { IfOk result (λ r. ruled_capacity r.0 ≡ places) }
-    ensures free_end { IfOk result (λ r. r.1 ≡ free_end_state 0 members.takers (spot_of (name r.0) (queue_position shard shards members.senders members.takers))) }
+    ensures free_end { IfOk result (λ r. r.1 ≡ free_end_state 0 members.takers
+        (spot_of (name r.0) (queue_position shard shards members.senders members.takers))) }
 {
     let (queue, pass) = RuledArrayQueue::ruled(alloc, places)?;
     let free_end = FreeEnd::open::<J>(&queue, pass);

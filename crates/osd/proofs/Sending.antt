@@ -66,3 +66,7 @@ only_submitted P s t shard op X Y (Err x) p h = only_same P s t h.1
 -- what holds of an operation holds of each that equals it
 pub only_that : (P : Operation → Type 0) (s t : Sender Operation) (this : Operation) → P this → OnlySent s t (IsThat this) → OnlySent s t P
 only_that P s t this p g = only_weaker (IsThat this) P s t (λ op e. subst P (sym e) p) g
+
+-- what was sent up to a state of the pass that is the same
+pub only_until : (P : Operation → Type 0) (s t u : Sender Operation) → u ≡ t → OnlySent s t P → OnlySent s u P
+only_until P s t u e g = subst (λ (w : Sender Operation). OnlySent s w P) (sym e) g

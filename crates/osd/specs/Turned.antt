@@ -8,7 +8,8 @@ use Rattle.group_cell.specs.Turns.{IsTurn}
 use Rattle.group_cell.specs.declared.outgoing.Outgoing.{Outgoing}
 
 -- These went out by a turn of a cell: what was carried came to the cell's node as an event.
-pub record WasTurn {N : Type 0} (classes : Classes) (carried : Carried) (out : List (Option (Outgoing N))) : Type 0 where
+pub record WasTurn {N : Type 0} (classes : Classes) (carried : Carried)
+    (out : List (Option (Outgoing N))) : Type 0 where
   pub old : CellState
   pub new : CellState
   pub turn : IsTurn classes old new (reported_of carried) (unpacked_as old.node.state.log carried) out

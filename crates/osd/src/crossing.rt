@@ -33,9 +33,12 @@ use pg_log::table_crosses;
 /// Threads may share a running cluster whose names and runtime they may share, and what a session
 /// holds may go from one thread to another.
 pub fn running_crosses<N: ClusterName + Send + Sync, R: Sync>()
-    ensures shared { IsSync (running.the_row N.row R.row (record { queues = N.queues; config = N.config }) (record { board = N.board }) (record { classes = N.classes })) }
-    ensures opened { IsSend (opened.the_row N.row (record { queues = N.queues; config = N.config }) (record { board = N.board }) (record { classes = N.classes })) }
-    ensures sends { IsSend (sends.the_row N.row (record { queues = N.queues; config = N.config }) (record { board = N.board }) (record { classes = N.classes })) }
+    ensures shared { IsSync (running.the_row N.row R.row (record { queues = N.queues; config = N.config })
+        (record { board = N.board }) (record { classes = N.classes })) }
+    ensures opened { IsSend (opened.the_row N.row (record { queues = N.queues; config = N.config })
+        (record { board = N.board }) (record { classes = N.classes })) }
+    ensures sends { IsSend (sends.the_row N.row (record { queues = N.queues; config = N.config })
+        (record { board = N.board }) (record { classes = N.classes })) }
 {
     queued_crosses();
     queues_cross::<Queued>();
@@ -55,8 +58,10 @@ fn queued_crosses()
 }
 
 fn passes_cross<N: ClusterName + Send>()
-    ensures sends { IsSend (sends.the_row N.row (record { queues = N.queues; config = N.config }) (record { board = N.board }) (record { classes = N.classes })) }
-    ensures takes { IsSend (takes.the_row N.row (record { queues = N.queues; config = N.config }) (record { board = N.board }) (record { classes = N.classes })) }
+    ensures sends { IsSend (sends.the_row N.row (record { queues = N.queues; config = N.config })
+        (record { board = N.board }) (record { classes = N.classes })) }
+    ensures takes { IsSend (takes.the_row N.row (record { queues = N.queues; config = N.config })
+        (record { board = N.board }) (record { classes = N.classes })) }
 {
     queued_crosses();
     queues_cross::<Queued>();
@@ -66,10 +71,14 @@ fn passes_cross<N: ClusterName + Send>()
 
 /// The values under the locks may cross threads; those of a worker's lock stand below.
 fn locked_crosses<N: ClusterName + Send + Sync>()
-    ensures node { IsSync (node.the_row N.row (record { queues = N.queues; config = N.config }) (record { board = N.board }) (record { classes = N.classes })) }
-    ensures desk { IsSend (desk.the_row N.row (record { queues = N.queues; config = N.config }) (record { board = N.board }) (record { classes = N.classes })) }
-    ensures monitors { IsSend (monitors.the_row N.row (record { queues = N.queues; config = N.config }) (record { board = N.board }) (record { classes = N.classes })) }
-    ensures newest { IsSend (newest.the_row N.row (record { queues = N.queues; config = N.config }) (record { board = N.board }) (record { classes = N.classes })) }
+    ensures node { IsSync (node.the_row N.row (record { queues = N.queues; config = N.config })
+        (record { board = N.board }) (record { classes = N.classes })) }
+    ensures desk { IsSend (desk.the_row N.row (record { queues = N.queues; config = N.config })
+        (record { board = N.board }) (record { classes = N.classes })) }
+    ensures monitors { IsSend (monitors.the_row N.row (record { queues = N.queues; config = N.config })
+        (record { board = N.board }) (record { classes = N.classes })) }
+    ensures newest { IsSend (newest.the_row N.row (record { queues = N.queues; config = N.config })
+        (record { board = N.board }) (record { classes = N.classes })) }
 {
     board_crosses();
     book_crosses();
@@ -82,7 +91,8 @@ fn locked_crosses<N: ClusterName + Send + Sync>()
 }
 
 fn worker_crosses<N: ClusterName + Send>()
-    ensures { IsSend (worker.the_row N.row (record { queues = N.queues; config = N.config }) (record { board = N.board }) (record { classes = N.classes })) }
+    ensures { IsSend (worker.the_row N.row (record { queues = N.queues; config = N.config })
+        (record { board = N.board }) (record { classes = N.classes })) }
 {
     operation_crosses();
     post_crosses::<N>();
@@ -93,7 +103,8 @@ fn worker_crosses<N: ClusterName + Send>()
 /// Threads may share mailboxes and workers' places, each of which is one lock.
 fn places_cross<N: ClusterName + Send>()
     ensures mailbox { IsSync (mailbox.the_row N.row (record { board = N.board }) (record { classes = N.classes })) }
-    ensures worker { IsSync (place.the_row N.row (record { queues = N.queues; config = N.config }) (record { board = N.board }) (record { classes = N.classes })) }
+    ensures worker { IsSync (place.the_row N.row (record { queues = N.queues; config = N.config })
+        (record { board = N.board }) (record { classes = N.classes })) }
 {
     post_crosses::<N>();
     worker_crosses::<N>();

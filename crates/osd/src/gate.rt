@@ -5,6 +5,12 @@ pub trait Gate {
     /// Comes before an operation is handled: for a client's request its client's number times 2^32
     /// and its own number, else 0.
     fn before(&self, number: u64);
+
+    /// False if it never keeps a worker: then other workers needn't be given the shard while it is
+    /// asked.
+    fn may_keep(&self) -> bool {
+        true
+    }
 }
 
 /// A gate at which nobody is kept.
@@ -13,4 +19,8 @@ pub struct Open;
 
 impl Gate for Open {
     fn before(&self, _number: u64) {}
+
+    fn may_keep(&self) -> bool {
+        false
+    }
 }

@@ -6,13 +6,12 @@
 //!   (`ClusterName`).
 //! - A worker takes operations (`Running::serve`), and does with each what `GroupCell::turn` does
 //!   under the group's lock.
-//! - A client asks by `Running::ask`, and finds the newest answer by `Running::mail`.
+//! - A client asks by `Running::ask`, and finds the answer that came last by `Running::mail`.
 //! - A pass only grows: `ask` says that the whole request was submitted, `nudge` that only
 //!   operations of its group were.
 #![tactic(auto)]
 
 mod ask_error;
-mod bell;
 mod cause;
 mod config;
 mod crossing;
@@ -33,7 +32,6 @@ mod parts;
 mod queued;
 mod running;
 mod scenario;
-mod schedule;
 mod sends;
 mod worker;
 

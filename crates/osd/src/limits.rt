@@ -1,6 +1,6 @@
 //! The limits of a cluster in threads. Those of nodes, replicas and groups are the placement's.
 
-/// The most queues. A word has a bit for each (`Schedule`).
+/// The most queues, as many as a schedule has.
 pub(crate) const SHARD_LIMIT: usize = 64;
 
 /// The most workers.

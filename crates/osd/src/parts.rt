@@ -107,10 +107,13 @@ impl ClusterParts {
     pub(crate) fn into_pieces(self) -> (Config, Rows, AllQueues, Maps)
         ensures config { (result.0 ≡ self.config) × IsTrue (is_within_limits result.0) }
         ensures board { (result.1.board ≡ self.board) × (result.1.seen.board ≡ result.1.board) }
-        ensures writers { (vec_len result.1.writers ≡ result.0.nodes * result.0.groups) × All (IsUnused result.1.board) result.1.writers.items }
+        ensures writers { (vec_len result.1.writers ≡ result.0.nodes * result.0.groups) ×
+            All (IsUnused result.1.board) result.1.writers.items }
         ensures queues { result.2.shards.queues ≡ self.queues }
-        ensures sends { (vec_len result.2.sends ≡ 65 + result.0.workers) × All (λ s. s.queues ≡ result.2.shards.queues) result.2.sends.items }
-        ensures takes { (vec_len result.2.takes ≡ result.0.workers) × All (λ t. t.queues ≡ result.2.shards.queues) result.2.takes.items }
+        ensures sends { (vec_len result.2.sends ≡ 65 + result.0.workers) ×
+            All (λ s. s.queues ≡ result.2.shards.queues) result.2.sends.items }
+        ensures takes { (vec_len result.2.takes ≡ result.0.workers) ×
+            All (λ t. t.queues ≡ result.2.shards.queues) result.2.takes.items }
         ensures book { IsBookOf result.0 result.3.book }
         ensures newest { (length result.3.newest.items ≡ result.0.groups) × All HasPrimary result.3.newest.items }
     {
@@ -127,7 +130,8 @@ impl ClusterParts {
 /// The board and its tokens.
 fn rows_of(alloc: Global, config: &Config) -> Result<Rows, NoMemory>
     requires { IsTrue (is_within_limits config.now) }
-    ensures { IfOk result (λ r. (vec_len r.writers ≡ config.now.nodes * config.now.groups) × All (IsUnused r.board) r.writers.items × (r.seen.board ≡ r.board)) }
+    ensures { IfOk result (λ r. (vec_len r.writers ≡ config.now.nodes * config.now.groups) ×
+        All (IsUnused r.board) r.writers.items × (r.seen.board ≡ r.board)) }
 {
     let rows = (config.nodes * config.groups) as usize;
     let (board, writers, seen) = Board::new(alloc, rows)?;
@@ -141,8 +145,10 @@ fn rows_of(alloc: Global, config: &Config) -> Result<Rows, NoMemory>
 /// The queues and their passes.
 fn queues_of(alloc: Global, config: &Config) -> Result<AllQueues, NoMemory>
     requires { IsTrue (is_within_limits config.now) }
-    ensures sends { IfOk result (λ q. (vec_len q.sends ≡ 65 + config.now.workers) × All (λ s. s.queues ≡ q.shards.queues) q.sends.items) }
-    ensures takes { IfOk result (λ q. (vec_len q.takes ≡ config.now.workers) × All (λ t. t.queues ≡ q.shards.queues) q.takes.items) }
+    ensures sends { IfOk result (λ q. (vec_len q.sends ≡ 65 + config.now.workers) ×
+        All (λ s. s.queues ≡ q.shards.queues) q.sends.items) }
+    ensures takes { IfOk result (λ q. (vec_len q.takes ≡ config.now.workers) ×
+        All (λ t. t.queues ≡ q.shards.queues) q.takes.items) }
 {
     let senders = OTHER_SENDERS + config.workers;
     let made = OpShards::new(alloc, config.shards, QUEUE_PLACES, senders, config.workers);

@@ -11,7 +11,6 @@ mod nudging;
 mod reading;
 mod serving;
 
-use crate::bell::Bell;
 use crate::config::Config;
 use crate::desk::{Desk, OpenedSession};
 use crate::mailbox::Mailbox;
@@ -21,23 +20,23 @@ use crate::newest::Newest;
 use crate::node::Node;
 use crate::nudges::Nudges;
 use crate::queued::Queued;
-use crate::schedule::Schedule;
 use crate::worker::WorkerPlace;
 use commit_board::Board;
 use group_cell::{GroupCell, Post};
 use object_store::ObjectName;
-use op_shards::OpShards;
+use op_shards::{Bell, OpShards, Schedule, Sleepers};
 use pg_log::{ClassTable, ClientId};
 use placement::{NodeId, group_of};
 use std::alloc::Global;
 use std::marker::Model;
+use std::sync::atomic::AtomicU64;
 use std::sync::{Mutex, MutexGuard, Wait};
 
 /// A cluster that any number of threads play on, by shared references to it. Contracts see what it
 /// is made of.
 ///
-/// A thread holds at most one lock at a time; only `new_map` holds two, the monitors' and then the
-/// newest maps'.
+/// A thread holds at most one lock at a time. Only `new_map` takes others, one at a time, while it
+/// holds the monitors': the newest maps' and that of the workers who wait.
 pub struct Running<N: ClusterName, R> {
     alloc: Global,
     rt: R,
@@ -51,8 +50,8 @@ pub struct Running<N: ClusterName, R> {
     monitors: Mutex<Monitors<N>>,
     newest: Mutex<Newest<N>>,
     workers: Vec<WorkerPlace<N>>,
-    schedule: Schedule,
-    bell: Bell,
+    schedule: Schedule<AtomicU64>,
+    bell: Bell<AtomicU64, Sleepers>,
     nudges: Nudges,
 }
 
@@ -140,7 +139,8 @@ impl<N: ClusterName, R: Wait> Running<N, R> {
         group_of(object.text().as_bytes(), self.config.groups) as usize
     }
 
-    /// Opens a session: the first is client 1, the next 2, and so on. None after 64.
+    /// Opens a session: the first is client 1, the next 2, and so on. None after 64. No clause says
+    /// the order, nor when there is none.
     pub fn open(&self) -> Option<OpenedSession<N>>
         ensures { IfSome result (λ o. (o.client ≤ 64) × (o.seen ≡ knows N.board [])) }
     {
@@ -150,7 +150,7 @@ impl<N: ClusterName, R: Wait> Running<N, R> {
         Some(opened)
     }
 
-    /// Takes the newest answer out of the client's mailbox.
+    /// Takes out of the client's mailbox the answer that was put in last.
     pub fn mail(&self, client: ClientId) -> Option<Post<N>> {
         let place = (client.get() - 1) as usize;
         self.mail.get(place)?.take(&self.rt)

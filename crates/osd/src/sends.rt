@@ -11,12 +11,18 @@ use std::sync::Wait;
 /// A sender: a pass of the cluster's queues. Contracts see the pass.
 pub struct Sends<N: ClusterName> {
     pass: SendPass<Queued>,
+    /// The shard that the worker has claimed who sends by it.
+    claimed: Option<usize>,
     of: PhantomData<N>,
 }
 
 impl<N: ClusterName> Drop for Sends<N> {
     fn drop(self) {
-        let Sends { pass, of: _ } = self;
+        let Sends {
+            pass,
+            claimed: _,
+            of: _,
+        } = self;
         drop(pass);
     }
 }
@@ -41,8 +47,22 @@ impl<N: ClusterName> Sends<N> {
     {
         Sends {
             pass,
+            claimed: None,
             of: PhantomData,
         }
+    }
+
+    /// Notes which shard the worker has claimed who sends by it.
+    pub(crate) fn set_claimed(&mut self, shard: Option<usize>)
+        ensures { self.new ≡ self.old }
+    {
+        self.claimed = shard;
+    }
+
+    /// True if the worker who sends by it has claimed that shard: what it puts there it takes
+    /// itself, or rings for when it releases the shard.
+    pub(crate) fn has_claimed(&self, shard: usize) -> bool {
+        self.claimed == Some(shard)
     }
 
     /// Puts the operation at the end of its group's queue. If that is full it gives the operation

@@ -34,8 +34,8 @@ are_safe : (classes : Classes) (list : List ClientRequest) → AllByRecursion Is
 are_safe classes list all = λ i r at m e. safe_in classes r.class r.method m all e
 
 pub answers_have_run : RepliesRun → AnswersHaveRun
-answers_have_run law classes lists r reply all answer requests =
+answers_have_run law classes lists r reply all answer =
     let ran : RanAt classes answer.begun reply.place r =
-    law classes answer.begun (are_classes classes all) requests answer.stands.legal (are_safe classes answer.begun all) reply.place r answer.stands.there in
+    law classes answer.begun (are_classes classes all) answer.stands.requests answer.stands.legal (are_safe classes answer.begun all) reply.place r answer.stands.there in
     let made : Reply = record { code = ran.outcome.code; output = ran.outcome.output } in
     record { ran = ran; answered = same_Some reply.answer made (sym answer.stands.gives ∙ ran.reply) }

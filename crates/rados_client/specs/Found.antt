@@ -18,6 +18,7 @@ IsFound classes lists r (found.Reply reply) = IsAnswered classes lists r reply
 
 -- The answer that a look found is true of the request, by the lists that are known then. A node's
 -- refusal never says that the tries are used up.
-pub record IsAnswer (classes : Classes) (lists : List (List ClientRequest)) (r : ClientRequest) (result : Result PlacedReply ExecError) : Type 0 where
+pub record IsAnswer (classes : Classes) (lists : List (List ClientRequest)) (r : ClientRequest)
+    (result : Result PlacedReply ExecError) : Type 0 where
   pub ok : IfOk result (IsAnswered classes lists r)
   pub err : IfErr result (Says classes r ⊥ ⊥)

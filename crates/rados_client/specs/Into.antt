@@ -1,5 +1,6 @@
 -- The answer of a call that puts its output into a buffer.
-use Rattle.std.specs.Prelude.{◌≡◌, ℕ, ◌++◌, ◌^◌, List, length, drop, nat_lt, nat_le, ◌==◌, if◌then◌else◌, Result, Ok, Err, ℤ, pos, negsuc}
+use Rattle.std.specs.Prelude.{◌≡◌, ℕ, ◌++◌, ◌^◌, List, length, drop, nat_lt, nat_le, ◌==◌, if◌then◌else◌, Result, Ok}
+use Rattle.std.specs.Prelude.{Err, ℤ, pos, negsuc}
 use Rattle.std.specs.Int.{w64, cast_signed}
 use Rattle.pg_log.specs.Requests.{ClientRequest}
 use Rattle.pg_log.specs.Log.{Classes, Reply as Answer}
@@ -34,7 +35,8 @@ into_buffer buffer (Err e) = buffer
 
 -- The call has an answer, which keeps the call's promise. Result and buffer are made from that
 -- answer.
-pub record IsInto (classes : Classes) (old new : SessionState) (r : ClientRequest) (before after : List ℕ) (result : Result ℤ ExecError) : Type 0 where
+pub record IsInto (classes : Classes) (old new : SessionState) (r : ClientRequest) (before after : List ℕ)
+    (result : Result ℤ ExecError) : Type 0 where
   pub answer : Result PlacedReply ExecError
   pub call : IsCall classes old new r answer
   pub result_is : result ≡ into_answer before answer

@@ -1,5 +1,6 @@
 -- The classes of a cluster that hasn't run, and the reason why a class isn't loaded.
-use Rattle.std.specs.Prelude.{◌≡◌, ℕ, suc, List, [], ◌∷◌, ◌++◌, length, ◌==◌, Option, Some, None, Result, Ok, Err, Bool, true, false}
+use Rattle.std.specs.Prelude.{◌≡◌, ℕ, suc, List, [], ◌∷◌, ◌++◌, length, ◌==◌, Option, Some, None, Result, Ok, Err, Bool}
+use Rattle.std.specs.Prelude.{true, false}
 use Rattle.bpf_decode.specs.Class.{ClassMethod, Class}
 use Rattle.bpf_decode.specs.ImageReading.{image_of}
 use Rattle.bpf_decode.specs.declared.image_error.ImageError.{ImageError}
@@ -80,4 +81,5 @@ first_of (Some e) later = Some e
 -- The reason why a class isn't loaded, except want of memory: its image, else want of room, else
 -- that the cluster has run.
 abbrev pub load_refusal : List ℕ → ClusterState → Option LoadError
-load_refusal image s = first_of (class_refusal image) (refusal_of_room (s.count == CLASS_LIMIT) (refusal_of_start s.classes))
+load_refusal image s =
+    first_of (class_refusal image) (refusal_of_room (s.count == CLASS_LIMIT) (refusal_of_start s.classes))

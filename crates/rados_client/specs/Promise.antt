@@ -1,12 +1,12 @@
 -- The promises of a call about its reply or its refusal.
-use Rattle.std.specs.Prelude.{◌≡◌, ◌⊎◌, ◌↔◌, ⊤, ℕ, suc, ◌-◌, ◌^◌, List, Option, Some, None, Result, Err, IfOk, IfErr, slice_get}
+use Rattle.std.specs.Prelude.{◌≡◌, ◌⊎◌, ◌↔◌, ⊤, ℕ, suc, ◌-◌, ◌^◌, List, Option, Some, None, Result, Err, IfOk, IfErr}
+use Rattle.std.specs.Prelude.{slice_get}
 use Rattle.std.specs.List.{AllByRecursion}
 use mathlib.Core.List.{IsPrefix}
 use Rattle.verifier.specs.Verified.{IsVerifiedClass}
 use Rattle.pg_log.specs.Requests.{ClientRequest}
 use Rattle.pg_log.specs.Log.{Classes}
 use Rattle.pg_log.specs.Runs.{RanAt}
-use Rattle.pg_log.specs.Within.{IsRequest}
 use Rattle.pg_log.specs.Refusals.{refusal_of_class}
 use Rattle.pg_log.specs.declared.log_error.LogError.TheVariants as log
 use Rattle.commit_board.specs.Lists.{list_at}
@@ -20,7 +20,8 @@ use Rattle.rados_client.specs.Session.{Contact, SessionState, PlacedReply, Knows
 
 -- One of the known lists, the list of some row, has a legal beginning that has the whole request
 -- once, at the reply's place, with the reply's answer.
-pub record IsAnswered (classes : Classes) (lists : List (List ClientRequest)) (r : ClientRequest) (reply : PlacedReply) : Type 0 where
+pub record IsAnswered (classes : Classes) (lists : List (List ClientRequest)) (r : ClientRequest)
+    (reply : PlacedReply) : Type 0 where
   pub row : ℕ
   pub begun : List ClientRequest
   pub begins : IsPrefix begun (list_at lists row)
@@ -35,16 +36,17 @@ pub record IsAnswerIn (classes : Classes) (r : ClientRequest) (reply : PlacedRep
 -- The whole request ran at the reply's place of a list: in every memory layout its method's bytes
 -- ran on the object that the requests before it left, in at most as many steps as the method has
 -- instructions. Code and output are the answer's.
-pub record HasRun (classes : Classes) (list : List ClientRequest) (r : ClientRequest) (reply : PlacedReply) : Type 0 where
+pub record HasRun (classes : Classes) (list : List ClientRequest) (r : ClientRequest)
+    (reply : PlacedReply) : Type 0 where
   pub ran : RanAt classes list reply.place r
   pub answered : reply.answer ≡ record { code = ran.outcome.code; output = ran.outcome.output }
 
--- With verified classes an answered request has run, if the requests of the answer's list are
--- within their type's ranges.
+-- With verified classes an answered request has run.
 abbrev pub AnswersHaveRun : Type 0
 AnswersHaveRun =
-    (classes : Classes) (lists : List (List ClientRequest)) (r : ClientRequest) (reply : PlacedReply) → AllByRecursion IsVerifiedClass classes → (answer : IsAnswered classes lists r reply) →
-    AllByRecursion IsRequest answer.begun → HasRun classes answer.begun r reply
+    (classes : Classes) (lists : List (List ClientRequest)) (r : ClientRequest) (reply : PlacedReply) →
+    AllByRecursion IsVerifiedClass classes → (answer : IsAnswered classes lists r reply) →
+    HasRun classes answer.begun r reply
 
 -- between the two states of a pass a queue took the whole request
 abbrev pub WasAsked : Sender Operation → Sender Operation → ClientRequest → Type 0
@@ -71,7 +73,8 @@ Says classes r Taken Untaken exec.NumbersUsedUp = ⊥
 Says classes r Taken Untaken exec.NotTaken = Untaken
 
 -- The whole promise of asking for a request, about the session's contact with the cluster.
-pub record IsAsked (classes : Classes) (old new : Contact) (r : ClientRequest) (result : Result PlacedReply ExecError) : Type 0 where
+pub record IsAsked (classes : Classes) (old new : Contact) (r : ClientRequest)
+    (result : Result PlacedReply ExecError) : Type 0 where
   pub seen : KnowsMore old.seen new.seen
   pub grew : Grew old.sends new.sends
   pub ok : IfOk result (IsAnswered classes new.seen r)
@@ -104,7 +107,8 @@ SaysNew classes old new r e =
     ⊎ Says classes r (WasAsked old.contact.sends new.contact.sends r) (NotAsked old.contact.sends new.contact.sends r) e
 
 -- The promise of a call with a new request.
-pub record IsCall (classes : Classes) (old new : SessionState) (r : ClientRequest) (result : Result PlacedReply ExecError) : Type 0 where
+pub record IsCall (classes : Classes) (old new : SessionState) (r : ClientRequest)
+    (result : Result PlacedReply ExecError) : Type 0 where
   -- the client stays
   pub client : new.client ≡ old.client
   -- each list that was known before is a beginning of the one known after
@@ -120,7 +124,8 @@ pub record IsCall (classes : Classes) (old new : SessionState) (r : ClientReques
   pub used_up : (result ≡ Err exec.NumbersUsedUp) ↔ (old.used ≡ 2 ^ 32 - 1)
 
 -- the promise of asking again for the request that was sent last, if there is one
-abbrev pub IsAskedAgain : Classes → SessionState → SessionState → Option ClientRequest → Result PlacedReply ExecError → Type 0
+abbrev pub IsAskedAgain : Classes → SessionState → SessionState → Option ClientRequest → Result PlacedReply ExecError →
+    Type 0
 IsAskedAgain classes old new None result = (result ≡ Err exec.NothingSent) × (new ≡ old)
 IsAskedAgain classes old new (Some r) result = IsAsked classes old.contact new.contact r result
 

@@ -1,6 +1,8 @@
-ghost use Rattle.std.specs.Prelude.{◌≡◌, ◌==◌, ◌⊎◌, ◌↔◌, true, false, Some, None, Err, IfOk, IfErr, IfSome, MatchOption, OnErr};
+ghost use Rattle.std.specs.Prelude.{◌≡◌, ◌==◌, ◌⊎◌, ◌↔◌, true, false, Some, None, Err, IfOk, IfErr, IfSome};
+ghost use Rattle.std.specs.Prelude.{MatchOption, OnErr};
 ghost use Rattle.osd.specs.Limits.{is_within_limits};
-ghost use Rattle.rados_client.specs.Loading.{HasBuiltIn, IsAdded, IsBuiltIn, IsVerified, class_refusal, load_refusal, refusal_of_room, refusal_of_start};
+ghost use Rattle.rados_client.specs.Loading.{HasBuiltIn, IsAdded, IsBuiltIn, IsVerified, class_refusal, load_refusal};
+ghost use Rattle.rados_client.specs.Loading.{refusal_of_room, refusal_of_start};
 ghost use Rattle.rados_client.specs.declared.run_error.RunError.TheVariants.{Started};
 
 use crate::class_id::ClassId;
@@ -106,7 +108,8 @@ impl Cluster {
     /// threads: a scenario of `run` can start none. From then on the cluster has started. None
     /// exactly if it had started before.
     pub fn start(&mut self) -> Option<(ClusterParts, ClassTable)>
-        ensures given { MatchOption result (self.old.classes ≡ None) (λ p. (self.old.config ≡ Some p.0.config) × (self.old.classes ≡ Some p.1)) }
+        ensures given { MatchOption result (self.old.classes ≡ None)
+            (λ p. (self.old.config ≡ Some p.0.config) × (self.old.classes ≡ Some p.1)) }
         ensures spent { self.new ≡ record {
           count = self.old.count;
           config = None;

@@ -135,8 +135,10 @@ impl<'a, N: ClusterName, R: Wait> Connection<'a, N, R> {
     ) -> Option<Result<Reply, ExecError>>
         ensures seen { KnowsMore self.old.seen self.new.seen }
         ensures grew { Grew self.old.sends self.new.sends }
-        ensures taken { IsTrue patience.new.taken → IsTrue patience.old.taken ⊎ WasAsked self.old.sends self.new.sends request.now }
-        ensures untaken { IsFalse patience.new.taken → IsFalse patience.old.taken × NotAsked self.old.sends self.new.sends request.now }
+        ensures taken { IsTrue patience.new.taken →
+            IsTrue patience.old.taken ⊎ WasAsked self.old.sends self.new.sends request.now }
+        ensures untaken { IsFalse patience.new.taken →
+            IsFalse patience.old.taken × NotAsked self.old.sends self.new.sends request.now }
         ensures some { IfSome result (IsAnswer N.classes self.new.seen request.now) }
     {
         if patience.is_over() {
@@ -174,8 +176,10 @@ impl<'a, N: ClusterName, R: Wait> Connection<'a, N, R> {
     fn submit_again(&mut self, request: &Request, patience: &mut Patience)
         ensures seen { self.new.seen ≡ self.old.seen }
         ensures grew { Grew self.old.sends self.new.sends }
-        ensures taken { IsTrue patience.new.taken → IsTrue patience.old.taken ⊎ WasAsked self.old.sends self.new.sends request.now }
-        ensures untaken { IsFalse patience.new.taken → IsFalse patience.old.taken × NotAsked self.old.sends self.new.sends request.now }
+        ensures taken { IsTrue patience.new.taken →
+            IsTrue patience.old.taken ⊎ WasAsked self.old.sends self.new.sends request.now }
+        ensures untaken { IsFalse patience.new.taken →
+            IsFalse patience.old.taken × NotAsked self.old.sends self.new.sends request.now }
     {
         self.nudge(request);
         match self.submit(request) {
@@ -193,7 +197,8 @@ impl<'a, N: ClusterName, R: Wait> Connection<'a, N, R> {
         ensures seen { self.new.seen ≡ self.old.seen }
         ensures grew { Grew self.old.sends self.new.sends }
         ensures untaken { NotAsked self.old.sends self.new.sends request.now }
-        ensures placed { OnlySent self.old.sends self.new.sends (IsInternalTo (group_of request.now.object N.config.groups)) }
+        ensures placed { OnlySent self.old.sends self.new.sends
+            (IsInternalTo (group_of request.now.object N.config.groups)) }
         ensures counted { self.new.nudges ≡ min (self.old.nudges + 1) (2 ^ 64 - 1) }
     {
         let group = self.running.group_of(request.object());

@@ -11,7 +11,9 @@ use pg_log::request_crosses;
 /// A session may go from one thread to another, if threads may share the cluster's names and its
 /// runtime.
 pub fn session_crosses<N: ClusterName + Send + Sync, R: Sync>()
-    ensures { (life : NamedLft) → IsSend (session.the_row life N.row R.row (record { queues = N.queues; config = N.config }) (record { board = N.board }) (record { classes = N.classes })) }
+    ensures { (life : NamedLft) →
+        IsSend (session.the_row life N.row R.row (record { queues = N.queues; config = N.config })
+        (record { board = N.board }) (record { classes = N.classes })) }
 {
     board_crosses();
     request_crosses();

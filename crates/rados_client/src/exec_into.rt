@@ -31,7 +31,8 @@ impl<N: ClusterName, R: Wait> Session<'_, N, R> {
         input: &[u8],
         buffer: &mut [u8],
     ) -> Result<i64, ExecError>
-        ensures { IsInto N.classes self.old self.new (next_request self.old object.now class method.now input.now) buffer.old buffer.new result }
+        ensures { IsInto N.classes self.old self.new
+            (next_request self.old object.now class method.now input.now) buffer.old buffer.new result }
     {
         let reply = self.exec(alloc, object, class, method, input)?;
         Ok(fill(&reply, buffer))

@@ -30,7 +30,8 @@ impl<N: ClusterName, R: Wait> Session<'_, N, R> {
         offset: u64,
         length: u64,
     ) -> Result<Reply, ExecError>
-        ensures { IsCall N.classes self.old self.new (next_request self.old object.now 1 (codes "read") (to_le_bytes w64 offset ++ to_le_bytes w64 length)) result }
+        ensures { IsCall N.classes self.old self.new (next_request self.old object.now 1 (codes "read")
+            (to_le_bytes w64 offset ++ to_le_bytes w64 length)) result }
     {
         let call = Call {
             object,
@@ -54,7 +55,8 @@ impl<N: ClusterName, R: Wait> Session<'_, N, R> {
         offset: u64,
         bytes: &[u8],
     ) -> Result<Reply, ExecError>
-        ensures { IsCall N.classes self.old self.new (next_request self.old object.now 1 (codes "write") (to_le_bytes w64 offset ++ bytes.now)) result }
+        ensures { IsCall N.classes self.old self.new
+            (next_request self.old object.now 1 (codes "write") (to_le_bytes w64 offset ++ bytes.now)) result }
     {
         let call = Call {
             object,
@@ -84,7 +86,8 @@ impl<N: ClusterName, R: Wait> Session<'_, N, R> {
         object: &ObjectName,
         name: &str,
     ) -> Result<Reply, ExecError>
-        ensures { IsCall N.classes self.old self.new (next_request self.old object.now 1 (codes "getxattr") name.now) result }
+        ensures { IsCall N.classes self.old self.new
+            (next_request self.old object.now 1 (codes "getxattr") name.now) result }
     {
         self.exec(
             alloc,
@@ -105,7 +108,8 @@ impl<N: ClusterName, R: Wait> Session<'_, N, R> {
         name: &str,
         value: &[u8],
     ) -> Result<Reply, ExecError>
-        ensures { IsCall N.classes self.old self.new (next_request self.old object.now 1 (codes "setxattr") (attr_input name.now value.now)) result }
+        ensures { IsCall N.classes self.old self.new
+            (next_request self.old object.now 1 (codes "setxattr") (attr_input name.now value.now)) result }
     {
         // No name has more than 64 bytes, and the class refuses a longer one by the first byte
         // alone.

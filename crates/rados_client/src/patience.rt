@@ -8,6 +8,9 @@ const LOOKS: u32 = 1_000;
 /// The most turns that a look gives the other threads.
 const TURNS: u32 = 64;
 
+/// The most turns that the looks before a repeat give them together.
+const ALL_TURNS: u32 = 4_000;
+
 /// The time that a session goes on looking before it submits the request again, and the fact that a
 /// queue has taken the request. At least one look comes before each repeat, so that a session sees
 /// its answer also while its queue is full.
@@ -15,7 +18,8 @@ const TURNS: u32 = 64;
 pub(crate) struct Patience {
     looks_left: u32,
     /// The number of looks that follow the call's next refusal: 1 after the first, and twice as
-    /// many after each further one, up to `LOOKS`. A group that is in peering refuses at once, and
+    /// many after each further one, up to `LOOKS`, if they give no more turns than `ALL_TURNS`. A group that is in
+    /// peering refuses at once, and
     /// would be nudged by each session all the time.
     looks_when_refused: u32,
     /// The number of turns that each look gives the other threads: 1, and twice as many after each
@@ -71,7 +75,7 @@ impl Patience {
     pub fn wait_when_refused(&mut self)
         ensures { self.new.taken ≡ self.old.taken }
     {
-        self.looks_left = self.looks_when_refused;
+        self.looks_left = self.looks_when_refused.min(self.most_looks());
         self.looks_when_refused = self.looks_when_refused.saturating_mul(2).min(LOOKS);
     }
 
@@ -79,8 +83,7 @@ impl Patience {
     pub fn begin(&mut self)
         ensures { self.new.taken ≡ true }
     {
-        self.looks_left = LOOKS;
-        self.turns = self.turns.saturating_mul(2).min(TURNS);
+        self.go_on();
         self.taken = true;
     }
 
@@ -95,8 +98,13 @@ impl Patience {
     pub fn go_on(&mut self)
         ensures { self.new.taken ≡ self.old.taken }
     {
-        self.looks_left = LOOKS;
         self.turns = self.turns.saturating_mul(2).min(TURNS);
+        self.looks_left = self.most_looks();
+    }
+
+    /// The most looks before the request is submitted again.
+    fn most_looks(&self) -> u32 {
+        LOOKS.min(ALL_TURNS / self.turns.max(1))
     }
 
     /// The refusal of a call whose tries are used up.

@@ -53,11 +53,12 @@ impl<'a, N: ClusterName, R> Model for Session<'a, N, R> {
 }
 
 impl<'a, N: ClusterName, R: Wait> Session<'a, N, R> {
-    /// Opens a session; the first has client 1, the next 2, and so on. It has sent nothing and
-    /// knows nothing. Refused: `TooMany` exactly if 64 were opened before. What a session needs
-    /// was made with the cluster, so `NoMemory` never comes.
+    /// Opens a session; the first has client 1, the next 2, and so on, which no clause says. It has
+    /// sent nothing and knows nothing. Refused: `TooMany`, after 64; no clause says that it comes
+    /// then alone. What a session needs was made with the cluster, so `NoMemory` never comes.
     pub fn open(running: &'a Running<N, R>) -> Result<Session<'a, N, R>, OpenError>
-        ensures new { IfOk result (λ s. (s.client ≤ 64) × (s.used ≡ 0) × (s.last ≡ None) × (s.contact.seen ≡ []) × (s.contact.nudges ≡ 0)) }
+        ensures new { IfOk result (λ s. (s.client ≤ 64) × (s.used ≡ 0) × (s.last ≡ None) × (s.contact.seen ≡ []) ×
+            (s.contact.nudges ≡ 0)) }
         ensures refused { IfErr result (λ e. e ≡ OpenError.TooMany) }
     {
         match running.open() {
@@ -93,9 +94,8 @@ impl<'a, N: ClusterName, R: Wait> Session<'a, N, R> {
     /// next. A reply is true: among the lists that the session knows then is one, of some row of
     /// the board, with a legal beginning in which the whole request stands once, at the reply's
     /// place, and is answered there by its method as the reply says; wherever its memory lies, if
-    /// the classes are verified and the list's requests are as their type holds them
-    /// (`answers_have_run`). That list begins with all that the session had seen or been told of
-    /// the row.
+    /// the classes are verified (`answers_have_run`). That list begins with all that the session
+    /// had seen or been told of the row.
     ///
     /// Refused, the first that applies: `NumbersUsedUp` if the client has sent number 2^32 - 1,
     /// and `NoMemory` if memory for the request is refused; then the session is as it was. After
@@ -110,7 +110,8 @@ impl<'a, N: ClusterName, R: Wait> Session<'a, N, R> {
         method: &str,
         input: &[u8],
     ) -> Result<Reply, ExecError>
-        ensures { IsCall N.classes self.old self.new (next_request self.old object.now class method.now input.now) result }
+        ensures { IsCall N.classes self.old self.new
+            (next_request self.old object.now class method.now input.now) result }
     {
         let call = Call {
             object,
@@ -158,14 +159,17 @@ impl<'a, N: ClusterName, R: Wait> Session<'a, N, R> {
         requires { note.board ≡ N.board }
         ensures known { KnowsMore self.old.contact.seen self.new.contact.seen }
         ensures heard { KnowsMore note.lists self.new.contact.seen }
-        ensures same { (self.new.client ≡ self.old.client) × (self.new.used ≡ self.old.used) × (self.new.last ≡ self.old.last) }
+        ensures same { (self.new.client ≡ self.old.client) × (self.new.used ≡ self.old.used) ×
+            (self.new.last ≡ self.old.last) }
     {
         self.connection.hear(note);
     }
 
     /// Makes a call.
     pub(crate) fn call(&mut self, alloc: Global, call: &Call<'_>) -> Result<Reply, ExecError>
-        ensures { IsCall N.classes self.old self.new (next_request self.old call.now.object.now call.now.class call.now.method.now ((call.now.head.now ++ call.now.body.now) ++ call.now.tail.now)) result }
+        ensures { IsCall N.classes self.old self.new
+            (next_request self.old call.now.object.now call.now.class call.now.method.now
+            ((call.now.head.now ++ call.now.body.now) ++ call.now.tail.now)) result }
     {
         let Some(number) = self.next_number() else {
             return Err(ExecError::NumbersUsedUp);

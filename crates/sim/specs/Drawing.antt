@@ -1,6 +1,7 @@
 -- The run of a file as it is drawn: the event of each line, and every message. `step` says what a
 -- line does, for a printed run too; sim_trace's `drawn` says how steps and messages look.
-use Rattle.std.specs.Prelude.{◌≡◌, ℕ, suc, min, Bool, true, List, [], ◌∷◌, ◌++◌, map, Option, Some, None, is_some, if◌then◌else◌, codes, string_bytes}
+use Rattle.std.specs.Prelude.{◌≡◌, ℕ, suc, min, Bool, true, List, [], ◌∷◌, ◌++◌, map, Option, Some, None, is_some}
+use Rattle.std.specs.Prelude.{if◌then◌else◌, codes, string_bytes}
 use Rattle.std.specs.Fmt.{decimal}
 use Rattle.class_tool.specs.Output.{Begins}
 use Rattle.escaped_text.specs.Escaped.{escaped}
@@ -158,7 +159,8 @@ follow names line number rest h = if is_bad h.taken then record { steps = []; pl
 -- from a played world, after this number of lines
 abbrev pub course_from : List (List ℕ) → ℕ → Played → List (List ℕ) → Course
 course_from names number p [] = record { steps = []; played = p; bad = None }
-course_from names number p (line ∷ lines) = follow names line (suc number) (λ q. course_from names (suc number) q lines) (step p (line_of names line))
+course_from names number p (line ∷ lines) =
+    follow names line (suc number) (λ q. course_from names (suc number) q lines) (step p (line_of names line))
 
 -- from the beginning on
 abbrev pub course : Classes → List (List ℕ) → List (List ℕ) → Course
@@ -197,21 +199,26 @@ abbrev pub DrawnIsPlayed : Classes → List (List ℕ) → List (List ℕ) → T
 DrawnIsPlayed classes names lines = (course classes names lines).played ≡ (run_lines classes names lines).played
 
 -- FOR THE CODE ALONE: a line was done, and its steps were added
-pub record IsNoted (classes : Classes) (names : List (List ℕ)) (line : List ℕ) (h : Happened) (new : Parts) (before after : List Noted) (bad : Bool) : Type 0 where
+pub record IsNoted (classes : Classes) (names : List (List ℕ)) (line : List ℕ) (h : Happened) (new : Parts)
+    (before after : List Noted) (bad : Bool) : Type 0 where
   pub held : Holds classes new h.played
   pub steps : after ≡ (if is_bad h.taken then before else before ++ noted names line h.taken)
   pub is : bad ≡ is_bad h.taken
 
 -- so from each played world that the parts hold
 abbrev pub Notes : Classes → List (List ℕ) → List ℕ → Parts → Parts → List Noted → List Noted → Bool → Type 0
-Notes classes names line old new before after bad = (p : Played) → Holds classes old p → IsNoted classes names line (step p (line_of names line)) new before after bad
+Notes classes names line old new before after bad =
+    (p : Played) → Holds classes old p → IsNoted classes names line (step p (line_of names line)) new before after bad
 
 -- lines were done from a played world on, up to the first bad one, and their steps were added
-pub record IsCourse (classes : Classes) (new : Parts) (before after : List Noted) (bad : Option ℕ) (run : Course) : Type 0 where
+pub record IsCourse (classes : Classes) (new : Parts) (before after : List Noted) (bad : Option ℕ)
+    (run : Course) : Type 0 where
   pub played : Played
   pub held : Holds classes new played
   pub same : record { steps = after; played = played; bad = bad } ≡ ahead before run
 
 -- so from each played world that the parts hold
-abbrev pub Courses : Classes → List (List ℕ) → List (List ℕ) → Parts → Parts → List Noted → List Noted → Option ℕ → Type 0
-Courses classes names lines old new before after bad = (p : Played) → Holds classes old p → IsCourse classes new before after bad (course_from names 0 p lines)
+abbrev pub Courses : Classes → List (List ℕ) → List (List ℕ) → Parts → Parts → List Noted → List Noted → Option ℕ →
+    Type 0
+Courses classes names lines old new before after bad =
+    (p : Played) → Holds classes old p → IsCourse classes new before after bad (course_from names 0 p lines)

@@ -9,7 +9,8 @@ use Rattle.group_world.specs.declared.message.MessageKind.TheVariants.{Reply as 
 -- The list has a request of that client and number at that place, and it ran there: wherever its
 -- memory lies, its method's bytes end with this answer on the object that the requests before it
 -- left, in at most as many steps as the method has instructions.
-pub record HasRun (classes : Classes) (list : List ClientRequest) (client number place : ℕ) (answer : Reply) : Type 0 where
+pub record HasRun (classes : Classes) (list : List ClientRequest) (client number place : ℕ)
+    (answer : Reply) : Type 0 where
   pub request : ClientRequest
   pub of_client : request.client ≡ client
   pub of_number : request.number ≡ number

@@ -1,6 +1,7 @@
 -- The lines of a file are done one after another up to the first bad one, in the group's world: the
 -- text that is printed.
-use Rattle.std.specs.Prelude.{◌≡◌, ℕ, suc, ◌≤◌, List, [], ◌∷◌, ◌++◌, length, take, Bool, true, false, Option, if◌then◌else◌, codes}
+use Rattle.std.specs.Prelude.{◌≡◌, ℕ, suc, ◌≤◌, List, [], ◌∷◌, ◌++◌, length, take, Bool, true, false, Option}
+use Rattle.std.specs.Prelude.{if◌then◌else◌, codes}
 use Rattle.std.specs.Fmt.{decimal}
 use Rattle.std.specs.Io.KnownBytes.{Appends}
 use Rattle.std.specs.List.{AllByRecursion, Contains}
@@ -49,7 +50,8 @@ go_on number rest h = let text = line_text number h.played.world.sent h.taken in
 -- from a played world, after this number of lines
 abbrev pub run_from : List (List ℕ) → ℕ → Played → List (List ℕ) → Printed
 run_from names number p [] = record { text = []; bad = false; played = p }
-run_from names number p (line ∷ lines) = go_on (suc number) (λ q. run_from names (suc number) q lines) (step p (line_of names line))
+run_from names number p (line ∷ lines) =
+    go_on (suc number) (λ q. run_from names (suc number) q lines) (step p (line_of names line))
 
 -- THE LINES OF A FILE, with these classes and their names.
 abbrev pub run_lines : Classes → List (List ℕ) → List (List ℕ) → Printed
@@ -75,10 +77,14 @@ asked names (line ∷ lines) = asked_in (line_of names line) ++ asked names line
 -- sent is its method's run in every layout.
 pub record IsAgreedRun (classes : Classes) (names lines : List (List ℕ)) : Type 0 where
   pub agreed : (above : ℕ) → IsAgreedPlayed classes (played_after classes names lines above)
-  pub brought : (above : ℕ) (r : ClientRequest) → Contains (brought (played_after classes names lines above).events) r → Contains (asked names (take above lines)) r
-  pub events : (above : ℕ) → EventsGrew (played_after classes names lines above).events (played_after classes names lines (suc above)).events
-  pub uncut : (above : ℕ) → IsUncut (played_after classes names lines above).world (played_after classes names lines (suc above)).world
-  pub replies : AllByRecursion IsVerifiedClass classes → (above : ℕ) (q : Packet) → Contains (played_after classes names lines above).world.sent q
+  pub brought : (above : ℕ) (r : ClientRequest) → Contains (brought (played_after classes names lines above).events) r →
+      Contains (asked names (take above lines)) r
+  pub events : (above : ℕ) →
+      EventsGrew (played_after classes names lines above).events (played_after classes names lines (suc above)).events
+  pub uncut : (above : ℕ) →
+      IsUncut (played_after classes names lines above).world (played_after classes names lines (suc above)).world
+  pub replies : AllByRecursion IsVerifiedClass classes → (above : ℕ) (q : Packet) →
+      Contains (played_after classes names lines above).world.sent q
       → ReplyHasRun classes (agreed above).agreed.list q.message.kind
 
 -- the printed text, if it is known, grew by that text, and no write or flush failed
@@ -92,7 +98,8 @@ pub record Prints (printed : Printed) (bad : Bool) (old new : Option (List ℕ))
   pub is : printed.bad ≡ bad
 
 -- Memory was refused at a line: the lines above it were done and printed, and none of them is bad.
-pub record Stops (classes : Classes) (names lines : List (List ℕ)) (old new : Option (List ℕ)) (failed fails : Bool) : Type 0 where
+pub record Stops (classes : Classes) (names lines : List (List ℕ)) (old new : Option (List ℕ))
+    (failed fails : Bool) : Type 0 where
   pub above : ℕ
   pub within : above ≤ length lines
   pub printed : Prints (run_lines classes names (take above lines)) false old new failed fails
@@ -103,22 +110,26 @@ pub record BreaksOff (printed : Printed) (old new : Option (List ℕ)) (fails : 
   pub failed : fails ≡ true
 
 -- The end of a run.
-abbrev pub EndsBy : Classes → List (List ℕ) → List (List ℕ) → Option (List ℕ) → Option (List ℕ) → Bool → Bool → SimulationEnd → Type 0
+abbrev pub EndsBy : Classes → List (List ℕ) → List (List ℕ) → Option (List ℕ) → Option (List ℕ) → Bool → Bool →
+    SimulationEnd → Type 0
 EndsBy classes names lines old new failed fails Done = Prints (run_lines classes names lines) false old new failed fails
 EndsBy classes names lines old new failed fails Bad = Prints (run_lines classes names lines) true old new failed fails
 EndsBy classes names lines old new failed fails NoMemory = Stops classes names lines old new failed fails
 EndsBy classes names lines old new failed fails Unprinted = BreaksOff (run_lines classes names lines) old new fails
 
 -- a line was done: the world that is held after it, its text, and whether it is bad
-pub record IsLine (classes : Classes) (h : Happened) (number : ℕ) (new : Parts) (text : List ℕ) (bad : Bool) : Type 0 where
+pub record IsLine (classes : Classes) (h : Happened) (number : ℕ) (new : Parts) (text : List ℕ)
+    (bad : Bool) : Type 0 where
   pub held : Holds classes new h.played
   pub says : text ≡ line_text number h.played.world.sent h.taken
   pub is : bad ≡ is_bad h.taken
 
 -- so from each played world that the parts hold
 abbrev pub Takes : Classes → List (List ℕ) → List ℕ → ℕ → Parts → Parts → List ℕ → Bool → Type 0
-Takes classes names line number old new text bad = (p : Played) → Holds classes old p → IsLine classes (step p (line_of names line)) number new text bad
+Takes classes names line number old new text bad =
+    (p : Played) → Holds classes old p → IsLine classes (step p (line_of names line)) number new text bad
 
 -- the text is that of the line, by the messages of the played world
 abbrev pub SaysOf : Classes → Parts → ℕ → Taken → List ℕ → Type 0
-SaysOf classes parts number taken text = (p : Played) → Holds classes parts p → text ≡ line_text number p.world.sent taken
+SaysOf classes parts number taken text =
+    (p : Played) → Holds classes parts p → text ≡ line_text number p.world.sent taken

@@ -23,9 +23,12 @@ IsDrawn run old new failed fails NoMemory = (new ≡ old) × (fails ≡ failed)
 IsDrawn run old new failed fails Unprinted = BreaksDrawing run old new fails
 
 -- A text was played: the text of its lines was printed as defined, or their run was drawn.
-abbrev pub Plays : Bool → Classes → List (List ℕ) → List ℕ → Option (List ℕ) → Option (List ℕ) → Bool → Bool → SimulationEnd → Type 0
-Plays true classes names text old new failed fails ending = IsDrawn (course classes names (lines_of text)) old new failed fails ending
-Plays false classes names text old new failed fails ending = EndsBy classes names (lines_of text) old new failed fails ending
+abbrev pub Plays : Bool → Classes → List (List ℕ) → List ℕ → Option (List ℕ) → Option (List ℕ) → Bool → Bool →
+    SimulationEnd → Type 0
+Plays true classes names text old new failed fails ending =
+    IsDrawn (course classes names (lines_of text)) old new failed fails ending
+Plays false classes names text old new failed fails ending =
+    EndsBy classes names (lines_of text) old new failed fails ending
 
 -- WHAT IS KNOWN OF THE WORLDS of lines: each world on the way is an agreed one, and drawn lines
 -- lead to the same world as printed ones.
@@ -39,7 +42,8 @@ AllWorldsKnown = (classes : Classes) (names lines : List (List ℕ)) → AreWorl
 
 -- A SIMULATION: the text of the file of events was played with the built-in classes and those of
 -- the tenants' files, in agreed worlds.
-pub record Simulates (disk : Option Disk) (s : Simulation) (old new : Option (List ℕ)) (failed fails : Bool) (ending : SimulationEnd) : Type 0 where
+pub record Simulates (disk : Option Disk) (s : Simulation) (old new : Option (List ℕ)) (failed fails : Bool)
+    (ending : SimulationEnd) : Type 0 where
   pub classes : Classes
   pub loaded : AreClasses disk s.tenants.items classes
   pub verified : AllByRecursion IsVerifiedClass classes

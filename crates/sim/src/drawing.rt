@@ -56,7 +56,8 @@ fn take_line<C: Classes>(
     steps: &mut Vec<DrawnStep>,
 ) -> Result<bool, AllocError>
     requires { setup.now.table.now ≡ C.classes }
-    ensures { IfOk result (λ bad. Notes C.classes (map (λ n. n.now) setup.now.names.now) text.now world.old world.new (map noted_as steps.old.items) (map noted_as steps.new.items) bad) }
+    ensures { IfOk result (λ bad. Notes C.classes (map (λ n. n.now) setup.now.names.now) text.now world.old world.new
+        (map noted_as steps.old.items) (map noted_as steps.new.items) bad) }
 {
     let line = read_line(setup.alloc, setup.names, text)?;
     let meant = meant(&line);
@@ -77,7 +78,8 @@ fn take_lines<C: Classes>(
     steps: &mut Vec<DrawnStep>,
 ) -> Result<Option<usize>, AllocError>
     requires { setup.now.table.now ≡ C.classes }
-    ensures { IfOk result (λ bad. Courses C.classes (map (λ n. n.now) setup.now.names.now) (map (λ l. l.now) lines.now) world.old world.new (map noted_as steps.old.items) (map noted_as steps.new.items) bad) }
+    ensures { IfOk result (λ bad. Courses C.classes (map (λ n. n.now) setup.now.names.now) (map (λ l. l.now) lines.now)
+        world.old world.new (map noted_as steps.old.items) (map noted_as steps.new.items) bad) }
 {
     let mut number = 0;
     for line in lines {
@@ -96,7 +98,8 @@ fn drawn(
     steps: &[DrawnStep],
     bad: Option<usize>,
 ) -> Result<Traced, AllocError>
-    ensures { IfOk result (λ t. (string_bytes t.text ≡ drawn messages.now steps.now ++ bad_of bad) × (t.bad ≡ is_some bad)) }
+    ensures { IfOk result (λ t. (string_bytes t.text ≡ drawn messages.now steps.now ++ bad_of bad) ×
+        (t.bad ≡ is_some bad)) }
 {
     let mut text = draw(alloc, messages, steps)?;
     if let Some(number) = bad {
@@ -124,7 +127,9 @@ fn trace_from<C: Classes>(
 ) -> Result<Traced, AllocError>
     requires classes { setup.now.table.now ≡ C.classes }
     requires first { Holds C.classes world.old (beginning C.classes) }
-    ensures { IfOk result (λ t. Draws (course C.classes (map (λ n. n.now) setup.now.names.now) (map (λ l. l.now) lines.now)) (string_bytes t.text) t.bad) }
+    ensures { IfOk result
+        (λ t. Draws (course C.classes (map (λ n. n.now) setup.now.names.now) (map (λ l. l.now) lines.now))
+        (string_bytes t.text) t.bad) }
 {
     let mut steps = Vec::new(setup.alloc);
     let bad = take_lines(setup, lines, world, &mut steps)?;
@@ -135,7 +140,9 @@ fn trace_from<C: Classes>(
 /// Does lines from the first world on, and draws what happened.
 fn trace_lines<C: Classes>(setup: &Setup<'_>, lines: &[&str]) -> Result<Traced, AllocError>
     requires { setup.now.table.now ≡ C.classes }
-    ensures { IfOk result (λ t. Draws (course setup.now.table.now (map (λ n. n.now) setup.now.names.now) (map (λ l. l.now) lines.now)) (string_bytes t.text) t.bad) }
+    ensures { IfOk result
+        (λ t. Draws (course setup.now.table.now (map (λ n. n.now) setup.now.names.now) (map (λ l. l.now) lines.now))
+        (string_bytes t.text) t.bad) }
 {
     let mut world = World::<C>::new(setup.alloc)?;
     trace_from(setup, lines, &mut world)
@@ -144,7 +151,9 @@ fn trace_lines<C: Classes>(setup: &Setup<'_>, lines: &[&str]) -> Result<Traced, 
 /// Does the lines of a text as `run` does, and draws what happened, once all are done or one is
 /// bad. It fails for want of memory alone.
 pub(crate) fn trace(setup: &Setup<'_>, text: &str) -> Result<Traced, AllocError>
-    ensures { IfOk result (λ t. Draws (course setup.now.table.now (map (λ n. n.now) setup.now.names.now) (lines_of text.now)) (string_bytes t.text) t.bad) }
+    ensures { IfOk result
+        (λ t. Draws (course setup.now.table.now (map (λ n. n.now) setup.now.names.now) (lines_of text.now))
+        (string_bytes t.text) t.bad) }
 {
     let lines = lines(setup.alloc, text)?;
     // The call picks the classes: they are the table's.

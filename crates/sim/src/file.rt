@@ -60,7 +60,8 @@ fn take_line<C: Classes>(
     line: &str,
 ) -> Result<PrintedLine, AllocError>
     requires { setup.now.table.now ≡ C.classes }
-    ensures { IfOk result (λ p. Takes C.classes (map (λ n. n.now) setup.now.names.now) line.now number world.old world.new (string_bytes p.text) p.is_bad) }
+    ensures { IfOk result (λ p. Takes C.classes
+        (map (λ n. n.now) setup.now.names.now) line.now number world.old world.new (string_bytes p.text) p.is_bad) }
 {
     let line = read_line(setup.alloc, setup.names, line)?;
     let taken = world.take(setup.table, line)?;
@@ -78,7 +79,8 @@ fn run_from<C: Classes, O: Output>(
 ) -> SimulationEnd
     requires classes { setup.now.table.now ≡ C.classes }
     requires first { Holds C.classes world.old (beginning C.classes) }
-    ensures { EndsBy setup.now.table.now (map (λ n. n.now) setup.now.names.now) (map (λ l. l.now) lines.now) (O.printed out.old) (O.printed out.new) (O.failed out.old) (O.failed out.new) result }
+    ensures { EndsBy setup.now.table.now (map (λ n. n.now) setup.now.names.now) (map (λ l. l.now) lines.now)
+        (O.printed out.old) (O.printed out.new) (O.failed out.old) (O.failed out.new) result }
 {
     let mut number = 0;
     for line in lines {
@@ -102,7 +104,8 @@ fn run_from<C: Classes, O: Output>(
 /// Does lines, one after the other.
 fn run_lines<C: Classes, O: Output>(setup: &Setup<'_>, lines: &[&str], out: &mut O) -> SimulationEnd
     requires { setup.now.table.now ≡ C.classes }
-    ensures { EndsBy setup.now.table.now (map (λ n. n.now) setup.now.names.now) (map (λ l. l.now) lines.now) (O.printed out.old) (O.printed out.new) (O.failed out.old) (O.failed out.new) result }
+    ensures { EndsBy setup.now.table.now (map (λ n. n.now) setup.now.names.now) (map (λ l. l.now) lines.now)
+        (O.printed out.old) (O.printed out.new) (O.failed out.old) (O.failed out.new) result }
 {
     match World::<C>::new(setup.alloc) {
         Ok(mut world) => run_from(setup, lines, &mut world, out),
@@ -116,7 +119,8 @@ fn run_lines<C: Classes, O: Output>(setup: &Setup<'_>, lines: &[&str], out: &mut
 /// It ends with `Bad` at the first bad line, whose number is printed; with `NoMemory` if memory
 /// is refused, and then prints nothing of that line; and if a write or a flush fails.
 pub(crate) fn run<O: Output>(setup: &Setup<'_>, text: &str, out: &mut O) -> SimulationEnd
-    ensures { EndsBy setup.now.table.now (map (λ n. n.now) setup.now.names.now) (lines_of text.now) (O.printed out.old) (O.printed out.new) (O.failed out.old) (O.failed out.new) result }
+    ensures { EndsBy setup.now.table.now (map (λ n. n.now) setup.now.names.now) (lines_of text.now) (O.printed out.old)
+        (O.printed out.new) (O.failed out.old) (O.failed out.new) result }
 {
     match lines(setup.alloc, text) {
         // The call picks the classes: they are the table's.

@@ -1,6 +1,7 @@
 //! Notes the step of a line for a drawing.
 ghost use Rattle.std.specs.Prelude.{◌≡◌, ◌++◌, IfOk, OnOk, codes, map, string_bytes};
-ghost use Rattle.sim.specs.Drawing.{after_colon, again_after, column_of, column_of_node, delivery_of, done_if, done_of, line_of_step, meant_by, noted_as, noted_if, said, said_after, sent_by};
+ghost use Rattle.sim.specs.Drawing.{after_colon, again_after, column_of, column_of_node, delivery_of, done_if, done_of};
+ghost use Rattle.sim.specs.Drawing.{line_of_step, meant_by, noted_as, noted_if, said, said_after, sent_by};
 ghost use Rattle.sim_text.specs.Texts.{said_text};
 
 use escaped_text::push_escaped;
@@ -154,7 +155,8 @@ pub(crate) fn note(
     taken: &Taken,
     steps: &mut Vec<DrawnStep>,
 ) -> Result<(), AllocError>
-    ensures { OnOk result (map noted_as steps.new.items ≡ map noted_as steps.old.items ++ noted_if text.now taken.now (done_if meant taken.now)) }
+    ensures { OnOk result (map noted_as steps.new.items ≡ map noted_as steps.old.items ++
+        noted_if text.now taken.now (done_if meant taken.now)) }
 {
     if let Some(meant) = meant {
         let what = done(meant, taken);

@@ -12,7 +12,8 @@ use class_tool::Output;
 
 /// Draws the run of a text, and prints the drawing once all lines are done or one is bad.
 fn draw<O: Output>(setup: &Setup<'_>, text: &str, out: &mut O) -> SimulationEnd
-    ensures { IsDrawn (course setup.now.table.now (map (λ n. n.now) setup.now.names.now) (lines_of text.now)) (O.printed out.old) (O.printed out.new) (O.failed out.old) (O.failed out.new) result }
+    ensures { IsDrawn (course setup.now.table.now (map (λ n. n.now) setup.now.names.now) (lines_of text.now))
+        (O.printed out.old) (O.printed out.new) (O.failed out.old) (O.failed out.new) result }
 {
     let Ok(traced) = trace(setup, text) else {
         return SimulationEnd::NoMemory;
@@ -32,7 +33,8 @@ pub(crate) fn play<O: Output>(
     is_drawn: bool,
     out: &mut O,
 ) -> SimulationEnd
-    ensures { Plays is_drawn setup.now.table.now (map (λ n. n.now) setup.now.names.now) text.now (O.printed out.old) (O.printed out.new) (O.failed out.old) (O.failed out.new) result }
+    ensures { Plays is_drawn setup.now.table.now (map (λ n. n.now) setup.now.names.now) text.now (O.printed out.old)
+        (O.printed out.new) (O.failed out.old) (O.failed out.new) result }
 {
     if is_drawn {
         draw(setup, text, out)

@@ -26,7 +26,8 @@ pub fn simulate<F: Reads, O: Output>(
     simulation: &Simulation<'_>,
     out: &mut O,
 ) -> Result<SimulationEnd, Failure>
-    ensures ends { IfOk result (Simulates (F.disk files.now) simulation.now (O.printed out.old) (O.printed out.new) (O.failed out.old) (O.failed out.new)) }
+    ensures ends { IfOk result (Simulates (F.disk files.now) simulation.now (O.printed out.old) (O.printed out.new)
+        (O.failed out.old) (O.failed out.new)) }
     ensures fails { IfErr result (SimulationFails (F.disk files.now) simulation.now) }
     ensures silent { OnErr result (out.new ≡ out.old) }
 {

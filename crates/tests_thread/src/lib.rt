@@ -7,6 +7,8 @@ mod boards;
 #[cfg(test)]
 mod locks;
 #[cfg(test)]
+mod memory;
+#[cfg(test)]
 mod queues;
 #[cfg(test)]
 mod schedule_steps;

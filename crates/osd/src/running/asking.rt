@@ -24,7 +24,8 @@ impl<N: ClusterName, R: Wait> Running<N, R> {
     pub fn ask(&self, sends: &mut Sends<N>, request: &Request) -> Result<(), AskError>
         ensures grew { Grew sends.old sends.new }
         ensures sent { OnOk result (WasSent sends.old sends.new (λ op. op.carried ≡ ARequest request.now)) }
-        ensures placed { OnOk result (WasSent sends.old sends.new (λ op. (op.group ≡ group_of request.now.object N.config.groups) × (op.carried ≡ ARequest request.now))) }
+        ensures placed { OnOk result (WasSent sends.old sends.new
+            (λ op. (op.group ≡ group_of request.now.object N.config.groups) × (op.carried ≡ ARequest request.now))) }
         ensures kept { OnErr result (sends.new ≡ sends.old) }
     {
         let group = self.group_of(request.object());
@@ -55,8 +56,8 @@ impl<N: ClusterName, R: Wait> Running<N, R> {
         sends.free_places(&self.rt, &self.shards, shard) >= KEPT_PLACES
     }
 
-    /// Submits an operation, and wakes the workers if its queue took it. One that isn't taken is
-    /// dropped.
+    /// Submits an operation, and wakes the workers if its queue took it and the sender hasn't
+    /// claimed the shard. One that isn't taken is dropped.
     pub(crate) fn submit(
         &self,
         sends: &mut Sends<N>,
@@ -74,7 +75,9 @@ impl<N: ClusterName, R: Wait> Running<N, R> {
         self.nudges.add(group, cause);
         match sends.submit(&self.rt, &self.shards, Queued::new(boxed, cause)) {
             Ok(()) => {
-                self.bell.ring(&self.rt);
+                if !sends.has_claimed(group % self.shards.count()) {
+                    self.bell.ring(&self.rt);
+                }
                 Ok(())
             }
             Err(queued) => {

@@ -3,7 +3,6 @@
 ghost use Rattle.std.specs.Prelude.{◌≡◌, ◌*◌, ◌+◌, ◌<◌, ◌≤◌, IfOk, OnOk, All, vec_len};
 ghost use Rattle.osd.specs.Unnamed.{IsUnused};
 
-use crate::bell::Bell;
 use crate::config::Config;
 use crate::desk::Desk;
 use crate::limits::SESSION_LIMIT;
@@ -16,16 +15,16 @@ use crate::nudges::Nudges;
 use crate::parts::{AllQueues, ClusterParts, Maps, Rows};
 use crate::queued::Queued;
 use crate::running::Running;
-use crate::schedule::Schedule;
 use crate::sends::{Sends, Takes};
 use crate::worker::{Worker, WorkerPlace};
 use commit_board::{NoMemory, Writer};
 use group_cell::GroupCell;
-use op_shards::{SendPass, TakePass};
+use op_shards::{Bell, Schedule, SendPass, Sleepers, TakePass};
 use peering::GroupNode;
 use pg_log::ClassTable;
 use placement::NodeId;
 use std::alloc::{AllocError, Global};
+use std::sync::atomic::AtomicU64;
 use std::sync::{Mutex, Wait};
 
 impl<N: ClusterName, R: Wait + Drop> Running<N, R> {
@@ -69,8 +68,8 @@ impl<N: ClusterName, R: Wait + Drop> Running<N, R> {
             monitors: Mutex::new(Monitors::new(book, of_monitors)),
             newest: Mutex::new(Newest::new(newest)),
             workers,
-            schedule: Schedule::new(),
-            bell: Bell::new(),
+            schedule: Schedule::of(AtomicU64::new(0), AtomicU64::new(0)),
+            bell: Bell::of(AtomicU64::new(0), AtomicU64::new(0), Sleepers::new()),
             nudges,
         };
         running.tell_first();

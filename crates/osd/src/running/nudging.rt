@@ -22,7 +22,7 @@ impl<N: ClusterName, R: Wait> Running<N, R> {
     /// It does nothing if there is no such group, if another nudge of the group is under way,
     /// and if an operation isn't served yet that goes back to the last one: what that submitted,
     /// what nodes sent on it, and so on. What goes to a node isn't submitted if fewer than 256
-    /// places of the queue are free.
+    /// places of the queue are free, nor what comes after it.
     pub fn nudge(&self, sends: &mut Sends<N>, group: usize)
         ensures grew { Grew sends.old sends.new }
         ensures only { OnlySent sends.old sends.new (IsInternalTo group) }
@@ -107,13 +107,16 @@ impl<N: ClusterName, R: Wait> Running<N, R> {
         self.resend(sends, group, node);
     }
 
-    /// Submits what a node sends again.
+    /// Submits what a node sends again, up to the first message that finds no room: for those after
+    /// it there is none either.
     fn resend(&self, sends: &mut Sends<N>, group: usize, node: NodeId)
         requires { group < N.config.groups }
         ensures { OnlySent sends.old sends.new (IsInternalTo group) }
     {
         for outgoing in self.unanswered(group, node) {
-            self.deliver_some(sends, group, node, outgoing);
+            if !self.deliver_some(sends, group, node, outgoing) {
+                return;
+            }
         }
     }
 
@@ -142,21 +145,21 @@ impl<N: ClusterName, R: Wait> Running<N, R> {
     }
 
     /// Brings what a node sends to whom it is for, if memory for it was there. What goes to a node
-    /// leaves the last places of the queue free.
+    /// leaves the last places of the queue free. False if it found no room.
     fn deliver_some(
         &self,
         sends: &mut Sends<N>,
         group: usize,
         sender: NodeId,
         outgoing: Option<Outgoing<N>>,
-    )
+    ) -> bool
         ensures { OnlySent sends.old sends.new (IsInternalTo group) }
     {
         let Some(outgoing) = outgoing else {
-            return;
+            return true;
         };
         if !self.may_go_out(sends, group, &outgoing) {
-            return;
+            return false;
         }
         let origin = Origin {
             cause: Cause::Nudge,
@@ -164,5 +167,6 @@ impl<N: ClusterName, R: Wait> Running<N, R> {
             sender,
         };
         self.deliver(sends, Delivery { origin, outgoing });
+        true
     }
 }

@@ -15,12 +15,14 @@ use std::alloc::{AllocError, Global};
 use std::sync::Wait;
 
 impl<N: ClusterName, R: Wait> Running<N, R> {
-    /// The entries of a node's log of a group. It refuses by `NoSuch` exactly if there is no
-    /// such node or group, and else by `NoMemory`.
+    /// The entries of a node's log of a group: by the clause of some legal log, which may be an
+    /// empty one. It refuses by `NoSuch` exactly if there is no such node or group, and else by
+    /// `NoMemory`.
     pub fn logged(&self, node: NodeId, group: usize) -> Result<Vec<LoggedEntry>, LoggedError>
         ensures log { IfOk result (λ v. IsLogOf N.classes v.items) }
         ensures there { OnOk result (IsThere N.config node group) }
-        ensures refused { IfErr result (λ e. ((e ≡ NoSuch) × IsMissing N.config node group) ⊎ ((e ≡ NoMemory) × IsThere N.config node group)) }
+        ensures refused { IfErr result (λ e. ((e ≡ NoSuch) × IsMissing N.config node group) ⊎
+            ((e ≡ NoMemory) × IsThere N.config node group)) }
     {
         let Some(cell) = self.cell(node, group) else {
             return Err(LoggedError::NoSuch);

@@ -24,6 +24,19 @@ use std::sync::Wait;
 /// again and again comes meanwhile.
 const SPINS: usize = 128;
 
+/// The most operations of a shard that a worker serves in a row. A call on three replicas is five,
+/// of one shard.
+const ROW: usize = 64;
+
+/// A worker's operations of a shard, one after another.
+#[derive(Clone, Copy)]
+struct Row {
+    /// It has served one.
+    has_begun: bool,
+    /// The queue was empty at the end.
+    is_empty: bool,
+}
+
 /// The number by which a gate knows an operation: for a client's request the client's number times
 /// 2^32 and the request's number, else 0.
 fn gate_number(carried: &Carried) -> u64
@@ -61,7 +74,7 @@ impl<N: ClusterName, R: Wait> Running<N, R> {
         for _ in self.rt.forever() {
             // The count comes first: `finish` sets its flag before it raises the count, so one of
             // the two shows it.
-            let count = self.bell.count(&self.rt);
+            let count = self.bell.count();
             if self.bell.is_finished() {
                 break;
             }
@@ -81,8 +94,8 @@ impl<N: ClusterName, R: Wait> Running<N, R> {
         self.workers.get(number)?.take(&self.rt)
     }
 
-    /// Takes an operation of each shard, beginning at the worker's own number modulo the number of
-    /// shards. Answers whether there was one.
+    /// Serves each shard for a while, beginning at the worker's own number modulo the number of
+    /// shards. Answers whether there was an operation.
     fn round<G: Gate, F: Fate>(&self, worker: &mut Worker<N>, gate: &G, fate: &F) -> bool
         ensures { OnlySent worker.old.sends worker.new.sends IsAny }
     {
@@ -112,9 +125,9 @@ impl<N: ClusterName, R: Wait> Running<N, R> {
         self.bell.is_finished()
     }
 
-    /// Takes an operation of a shard and serves it. Answers whether there was one. A shard is
-    /// served by one worker at a time, so that what nodes send arrives in its order; one that
-    /// another worker serves is skipped.
+    /// Serves a shard for a while. Answers whether there was an operation. A shard is served by one
+    /// worker at a time, so that what nodes send arrives in its order; one that another worker
+    /// serves is skipped.
     fn take_turn<G: Gate, F: Fate>(
         &self,
         worker: &mut Worker<N>,
@@ -133,44 +146,83 @@ impl<N: ClusterName, R: Wait> Running<N, R> {
         if !self.schedule.claim(shard) {
             return false;
         }
-        let taken = self.serve_one(worker, gate, fate, shard);
-        self.schedule.release(shard);
-        taken
+        worker.sends.set_claimed(Some(shard));
+        let row = self.serve_row(worker, gate, fate, shard);
+        worker.sends.set_claimed(None);
+        self.release(shard, !row.is_empty);
+        row.has_begun
     }
 
-    /// Takes an operation of a shard and serves it. Answers whether there was one.
+    /// Releases a shard. It rings if another worker skipped the shard, or if operations may be left
+    /// there for which nobody rang.
+    fn release(&self, shard: usize, may_have_left: bool) {
+        if self.schedule.release(shard) || may_have_left {
+            self.bell.ring(&self.rt);
+        }
+    }
+
+    /// Takes an operation of a shard and serves it. If no other waits there then, it goes on with
+    /// what comes, until the queue is empty, but `ROW` in a row at most. So what its turns put into
+    /// the queue is served in the same row, and nobody rings for it. Else the others wait until the
+    /// other shards had their turn.
+    fn serve_row<G: Gate, F: Fate>(
+        &self,
+        worker: &mut Worker<N>,
+        gate: &G,
+        fate: &F,
+        shard: usize,
+    ) -> Row
+        requires { shard < length N.queues.names }
+        ensures { OnlySent worker.old.sends worker.new.sends IsAny }
+    {
+        let mut row = Row {
+            has_begun: false,
+            is_empty: false,
+        };
+        for _ in 0..ROW {
+            if !self.serve_one(worker, gate, fate, shard, &mut row) {
+                return row;
+            }
+        }
+        row
+    }
+
+    /// Takes an operation of a shard and serves it, if there is one. Answers whether the row goes
+    /// on.
     fn serve_one<G: Gate, F: Fate>(
         &self,
         worker: &mut Worker<N>,
         gate: &G,
         fate: &F,
         shard: usize,
+        row: &mut Row,
     ) -> bool
         requires { shard < length N.queues.names }
         ensures { OnlySent worker.old.sends worker.new.sends IsAny }
     {
         let Some(queued) = worker.takes.take(&self.rt, &self.shards, shard) else {
+            row.is_empty = true;
             return false;
         };
+        let goes_on = row.has_begun || worker.takes.is_empty(&self.shards, shard);
         let cause = queued.cause();
         let operation = queued.into_operation();
         let group = operation.group;
-        self.ask_gate(gate, shard, gate_number(&operation.carried));
+        // Earlier turns of the row may have put in operations that wait now.
+        self.ask_gate(gate, shard, row.has_begun, gate_number(&operation.carried));
         self.turn(worker, fate, cause, operation);
         self.nudges.remove(group, cause);
-        true
+        row.has_begun = true;
+        goes_on
     }
 
     /// Asks the gate. The other workers have the shard while it keeps a client's request.
-    fn ask_gate<G: Gate>(&self, gate: &G, shard: usize, number: u64) {
-        if number == 0 {
-            gate.before(0);
+    fn ask_gate<G: Gate>(&self, gate: &G, shard: usize, may_have_left: bool, number: u64) {
+        if number == 0 || !gate.may_keep() {
+            gate.before(number);
             return;
         }
-        self.schedule.release(shard);
-        if self.schedule.has_skipped() {
-            self.bell.ring(&self.rt);
-        }
+        self.release(shard, may_have_left);
         gate.before(number);
         self.schedule.reclaim(&self.rt, shard);
     }

@@ -1,10 +1,12 @@
 use Rattle.std.proofs.Common.{◌≡◌, ◌<◌, ◌∙◌, ℕ, List, take, length, Some, ap, sym, subst, arith}
 use Rattle.std.specs.Prelude.{slice_get}
+use Rattle.std.specs.List.{AllByRecursion}
 use Rattle.std.proofs.lemmas.Option.{slice_get-get_or}
 use Rattle.std.proofs.lemmas.List.{length-take-le}
 use Rattle.pg_log.specs.Requests.{ClientRequest}
 use Rattle.pg_log.specs.Log.{Legal, reply_at}
 use Rattle.pg_log.specs.Entries.{requests_of}
+use Rattle.pg_log.specs.Within.{IsRequest}
 use Rattle.pg_log.proofs.Kept.{requests_at}
 use Rattle.peering.proofs.Lists.{length_requests}
 use Rattle.commit_board.specs.Lists.{list_at}
@@ -37,5 +39,5 @@ invariant_of-result g c =
     let gives = ap (λ (w : List ClientRequest). reply_at classes w place) (sym i.1 ∙ viewed) ∙ c.requires.answer in
     let legal = subst (λ (w : List ClientRequest). Legal classes w) c.group.ensures c.entries.ensures.legal in
     let stands = committed_stands c.legal_lists.ensures.beginnings c.pairs.ensures.once classes s.log s.committed place request answer
-    legal c.committed.ensures.within below there gives in
+    legal (subst (λ (w : List ClientRequest). AllByRecursion IsRequest w) i.1 i.2) c.committed.ensures.within below there gives in
     (c.share.ensures.board ∙ c.requires.board, subst (λ (l : List ClientRequest). Stands classes l place request answer) (sym list) stands)

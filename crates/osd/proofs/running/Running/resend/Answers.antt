@@ -6,3 +6,6 @@ loop-outgoing-init g c = only_none _ _
 
 pub loop-outgoing-preserved : goal.loop-outgoing-preserved
 loop-outgoing-preserved g c = only_several _ _ _ _ c.loop-outgoing.invariant c.deliver_some.ensures
+
+pub returns-then-not-deliver_some : goal.returns-then-not-deliver_some
+returns-then-not-deliver_some g c = only_several _ _ _ _ c.loop-outgoing.invariant c.deliver_some.ensures

@@ -1,4 +1,4 @@
-use Rattle.osd.proofs.Sending.{only_none}
+use Rattle.osd.proofs.Sending.{only_none, only_from, only_until}
 use Rattle.osd.proofs.running.Running.take_turn.Goals as goal
 
 pub returns-then-is_empty : goal.returns-then-is_empty
@@ -6,3 +6,6 @@ returns-then-is_empty g c = only_none _ _
 
 pub returns-then-not-claim : goal.returns-then-not-claim
 returns-then-not-claim g c = only_none _ _
+
+pub returns : goal.returns
+returns g c = only_until _ _ _ _ c.set_claimed-2.ensures (only_from _ _ _ _ c.set_claimed.ensures c.serve_row-row.ensures)
