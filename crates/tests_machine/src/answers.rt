@@ -1,8 +1,8 @@
 //! Each answer of a call on bytes, of the images of small classes.
 
-use class_calls::{Answer, AnswerError, ClassError, MethodError, answer_on, call_on, load};
+use class_calls::{Answer, ClassError, ClassHandle, MethodError, Request, call_on, load, place_of};
+use interp::Room;
 use std::alloc::Global;
-use verifier::VerifiedClass;
 
 /// `f`, flags 1, no input and no output: `mov r0, 0`, `exit`.
 #[rattlefmt::skip]
@@ -39,23 +39,9 @@ fn is_answer(answer: &Answer, call: &Call) -> bool {
         && answer.edits.as_slice() == call.7
 }
 
-/// The number of a call of an image's class as C has it; 99 if the answer is another one.
-fn number(alloc: Global, call: &Call) -> i32 {
-    match answer_on(alloc, call.0, call.1, call.2, 7, call.3) {
-        Ok(answer) => if is_answer(&answer, call) { 0 } else { 99 },
-        Err(AnswerError::Class(ClassError::Image(_))) => 1,
-        Err(AnswerError::Class(ClassError::Verdict(_))) => 2,
-        Err(AnswerError::Class(ClassError::NoMemory)) => -12,
-        Err(AnswerError::NoMethod) => -95,
-        Err(AnswerError::InputTooLong) => -7,
-        Err(AnswerError::Malformed) => -22,
-        Err(AnswerError::NoMemory) => -12,
-    }
-}
-
-/// The same of a call of a verified class.
-fn number_on(alloc: Global, class: &VerifiedClass, call: &Call) -> i32 {
-    match call_on(alloc, class, call.1, call.2, 7, call.3) {
+/// The number of an answer as C has it; 99 if the answer is another one.
+fn number(found: Result<Answer, MethodError>, call: &Call) -> i32 {
+    match found {
         Ok(answer) => if is_answer(&answer, call) { 0 } else { 99 },
         Err(MethodError::NoMethod) => -95,
         Err(MethodError::InputTooLong) => -7,
@@ -64,15 +50,52 @@ fn number_on(alloc: Global, class: &VerifiedClass, call: &Call) -> i32 {
     }
 }
 
-/// True if a class that is verified once answers a row's number twice, or is refused with it.
-fn is_answered_twice(alloc: Global, call: &Call) -> bool {
+fn of_class(error: ClassError) -> i32 {
+    match error {
+        ClassError::Image(_) => 1,
+        ClassError::Verdict(_) => 2,
+        ClassError::NoMemory => -12,
+    }
+}
+
+fn request<'a>(call: &'a Call, caller: u64) -> Request<'a> {
+    Request {
+        method: call.1,
+        object: call.2,
+        caller,
+        input: call.3,
+    }
+}
+
+/// The number of a call of an image's class.
+fn once(alloc: Global, call: &Call) -> i32 {
     match load(alloc, call.0) {
-        Ok(class) => {
-            number_on(alloc, &class, call) == call.4 && number_on(alloc, &class, call) == call.4
-        }
-        Err(ClassError::Image(_)) => call.4 == 1,
-        Err(ClassError::Verdict(_)) => call.4 == 2,
-        Err(ClassError::NoMemory) => false,
+        Ok(class) => number(
+            call_on(alloc, &mut Room::new(alloc), &class, request(call, 7)),
+            call,
+        ),
+        Err(error) => of_class(error),
+    }
+}
+
+/// The same twice by a handle and once by another of its class, the first of which is closed; 99 if
+/// they differ.
+fn by_handles(alloc: Global, call: &Call) -> i32 {
+    let mut handle = match ClassHandle::open(alloc, call.0) {
+        Ok(handle) => handle,
+        Err(error) => return of_class(error),
+    };
+    let first = number(handle.call(alloc, request(call, 7)), call);
+    let second = number(handle.call(alloc, request(call, 7)), call);
+    let Ok(mut other) = handle.share(alloc) else {
+        return -12;
+    };
+    drop(handle);
+    let third = number(other.call(alloc, request(call, 7)), call);
+    if first == second && second == third {
+        first
+    } else {
+        99
     }
 }
 
@@ -95,9 +118,10 @@ const ONE: [u8; 10] = [1, 1, 0, 0, 0, 0x78, 0, 0, 0, 0];
 const CALLS: [Call; 13] = [
     (&LEAST, b"f", &[0], b"", 0, 0, 2, &[]),
     (&LEAST, b"f", &ONE, b"", 0, 0, 2, &[]),
-    (&WRITE, b"w", &[0], b"y", 0, 1, 5, &[1, 7, 1, 0, 0, 0, 8, 0, 0, 0, 0, 1, 0, 0, 0, 0x79]),
-    (&WRITE, b"w", &ONE, b"y", 0, 1, 5, &[8, 0, 0, 0, 0, 1, 0, 0, 0, 0x79]),
-    (&WRITE, b"w", &ONE, b"x", 0, 1, 5, &[]),
+    (&WRITE, b"w", &[0], b"y", 0, 1, 5, &[1, 8, 0, 0, 0, 0, 0, 0, 0, 0, 1, 0, 0, 0, 0x79]),
+    (&WRITE, b"w", &ONE, b"y", 0, 1, 5, &[8, 0, 0, 0, 0, 0, 0, 0, 0, 1, 0, 0, 0, 0x79]),
+    // what was there is written all the same
+    (&WRITE, b"w", &ONE, b"x", 0, 1, 5, &[8, 0, 0, 0, 0, 0, 0, 0, 0, 1, 0, 0, 0, 0x78]),
     (b"", b"f", &[0], b"", 1, 0, 0, &[]),
     (&UNSET, b"f", &[0], b"", 2, 0, 0, &[]),
     (&LEAST, b"g", &[0], b"", -95, 0, 0, &[]),
@@ -111,7 +135,43 @@ const CALLS: [Call; 13] = [
 #[test]
 fn each_answer(rt: HostRuntime) {
     for call in &CALLS {
-        assert!(rt; number(rt.alloc(), call) == call.4);
-        assert!(rt; is_answered_twice(rt.alloc(), call));
+        assert!(rt; once(rt.alloc(), call) == call.4);
+        assert!(rt; by_handles(rt.alloc(), call) == call.4);
     }
+}
+
+/// A client's number, and the number of the answer: -22 from 2^32 on, but for what comes before it.
+const CALLERS: [(usize, u64, i32); 5] = [
+    (2, 0xffff_ffff, 0),
+    (2, 0x1_0000_0000, -22),
+    (2, u64::MAX, -22),
+    (7, u64::MAX, -95),
+    (9, u64::MAX, -7),
+];
+
+#[test]
+fn clients_of_32_bits(rt: HostRuntime) {
+    for (row, caller, expected) in CALLERS {
+        let call = &CALLS[row];
+        let mut handle = ClassHandle::open(rt.alloc(), call.0)
+            .ok()
+            .expect(&rt, "a class");
+        assert!(rt; number(handle.call(rt.alloc(), request(call, caller)), call) == expected);
+    }
+}
+
+/// What a handle tells of its methods, by their numbers.
+#[test]
+fn methods_by_number(rt: HostRuntime) {
+    let handle = ClassHandle::open(rt.alloc(), &WRITE)
+        .ok()
+        .expect(&rt, "a class");
+    let (name, declared) = handle.method_at(0).expect(&rt, "a method");
+    assert!(rt; name == b"w".as_slice());
+    assert!(rt; declared.flags == 2 && declared.in_cap == 1 && declared.out_cap == 0);
+    assert!(rt; declared.parts.number() == 1);
+    assert!(rt; handle.method_at(1).is_none());
+    assert!(rt; handle.place_of(b"w") == Some(0) && handle.place_of(b"v").is_none());
+    let class = load(rt.alloc(), &WRITE).ok().expect(&rt, "a class");
+    assert!(rt; place_of(&class, b"w") == Some(0) && place_of(&class, b"").is_none());
 }

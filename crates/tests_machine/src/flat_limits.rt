@@ -1,12 +1,9 @@
-//! Objects at their limits of data, xattrs and keys: forms, edits, and calls that would pass a
-//! limit.
+//! Objects at their limits of data, xattrs and keys: forms, and calls that would pass a limit.
 
 use crate::flat_objects::is_form;
 use crate::methods::image;
 use bpf_decode::write_image;
-use class_calls::{Answer, answer_on};
-use object_bytes::{edits_of, read_object};
-use object_store::Object;
+use class_calls::{Answer, ClassHandle, Request};
 use std::alloc::Global;
 use std::process::Abort;
 
@@ -78,40 +75,6 @@ fn forms_at_the_limits(rt: HostRuntime) {
 /// An object at each limit.
 const FULL: Size = (65536, 32, 1024);
 
-/// The object of a size; none of no size.
-fn made(alloc: Global, size: Option<Size>) -> Option<Option<Object>> {
-    match size {
-        Some(size) => read_object(alloc, &form(alloc, size)?).ok(),
-        None => Some(None),
-    }
-}
-
-/// Sizes of two objects, and how many bytes the edits between them have: create 1, set the length
-/// 5, write 9 and the data, set a name 6, and remove it 4. A removal of the object has one byte.
-type Change = (Option<Size>, Option<Size>, usize);
-
-const CHANGES: [Change; 5] = [
-    (None, Some(FULL), 15 + 65536 + 6 * 1056),
-    (Some((0, 0, 0)), Some(FULL), 14 + 65536 + 6 * 1056),
-    (Some(FULL), Some((0, 0, 0)), 5 + 4 * 1056),
-    (Some(FULL), Some(FULL), 0),
-    (Some(FULL), None, 1),
-];
-
-fn length(alloc: Global, change: &Change) -> Option<usize> {
-    let before = made(alloc, change.0)?;
-    let after = made(alloc, change.1)?;
-    let edits = edits_of(alloc, before.as_ref(), after.as_ref()).ok()?;
-    Some(edits.len())
-}
-
-#[test]
-fn edits_at_the_limits(rt: HostRuntime) {
-    for change in &CHANGES {
-        assert!(rt; length(rt.alloc(), change) == Some(change.2));
-    }
-}
-
 /// Write the input's first byte at the last place of an object, and past it; and set the name of
 /// two bytes that the input begins with to its third byte, of an xattr and of a key.
 const LAST: &str = "mov r2, r1; mov r1, 65535; mov r3, 1; call 3";
@@ -122,22 +85,23 @@ const XATTR: &str = "mov r2, 2; mov r3, r1; add r3, 2; mov r4, 1; call 7";
 
 const KEY: &str = "mov r2, 2; mov r3, r1; add r3, 2; mov r4, 1; call 10";
 
-/// A program, name and value, an object's size; the answer, and how many bytes of edits.
+/// A program, name and value, an object's size; the answer, and how many bytes of edits: a write has
+/// 13 and its text, a set of a name 5, name and value.
 type Row = (&'static str, &'static [u8], Size, i64, usize);
 
 #[rattlefmt::skip]
 const ROWS: [Row; 11] = [
-    (LAST, b"x", FULL, 1, 10),
+    (LAST, b"x", FULL, 1, 14),
     (PAST, b"x", FULL, -27, 0),
-    (LAST, b"x", (65535, 0, 0), 1, 15),
-    (XATTR, b"\x00\x1fv", FULL, 0, 7),
+    (LAST, b"x", (65535, 0, 0), 1, 14),
+    (XATTR, b"\x00\x1fv", FULL, 0, 8),
     (XATTR, b"\x00\x20v", FULL, -28, 0),
-    (XATTR, b"\x00\x20v", (0, 31, 0), 0, 7),
-    (KEY, b"\x03\xffv", FULL, 0, 7),
+    (XATTR, b"\x00\x20v", (0, 31, 0), 0, 8),
+    (KEY, b"\x03\xffv", FULL, 0, 8),
     (KEY, b"\x04\x00v", FULL, -28, 0),
-    (KEY, b"\x04\x00v", (0, 0, 1023), 0, 7),
-    (XATTR, b"\x04\x00v", (0, 0, 1024), 0, 7),
-    (KEY, b"\x00\x20v", (0, 32, 0), 0, 7),
+    (KEY, b"\x04\x00v", (0, 0, 1023), 0, 8),
+    (XATTR, b"\x04\x00v", (0, 0, 1024), 0, 8),
+    (KEY, b"\x00\x20v", (0, 32, 0), 0, 8),
 ];
 
 /// The answer of a call, with at most 8 bytes of input, of a row's program, to whose end an `exit`
@@ -146,7 +110,14 @@ fn answered(rt: &impl Abort, alloc: Global, row: &Row) -> Option<Answer> {
     let image = image(rt, alloc, &[".method f rw 8 0;", row.0, ";exit"]);
     let image = write_image(alloc, &image).ok()?;
     let form = form(alloc, row.2)?;
-    answer_on(alloc, &image, b"f", &form, 1, row.1).ok()
+    let mut class = ClassHandle::open(alloc, &image).ok()?;
+    let request = Request {
+        method: b"f",
+        object: &form,
+        caller: 1,
+        input: row.1,
+    };
+    class.call(alloc, request).ok()
 }
 
 #[test]

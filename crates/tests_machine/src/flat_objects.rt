@@ -1,8 +1,6 @@
-//! Objects as bytes: flat forms, each read as its object, bytes that are none, and the edits
-//! between two objects as they are written.
+//! Objects as bytes: flat forms, each read as its object, and bytes that are none.
 
-use object_bytes::{FlatError, edits_of, flat_form, read_object};
-use object_store::Object;
+use object_bytes::{FlatError, flat_form, read_object};
 use std::alloc::Global;
 
 /// Data `hi`, an xattr `a` of `v`, a key `k` of no bytes and a key `kk` of `12`.
@@ -67,55 +65,4 @@ fn whole(rt: HostRuntime) {
     assert!(rt; object.xattr(b"a") == Some(b"v".as_slice()));
     assert!(rt; object.key(b"kk") == Some(b"12".as_slice()));
     assert!(rt; object.key_count() == 2);
-}
-
-/// Two flat forms, and the edits that make of the first object the second.
-type Row = (&'static [u8], &'static [u8], &'static [u8]);
-
-const NOTHING: [u8; 9] = [1, 0, 0, 0, 0, 0, 0, 0, 0];
-
-/// Data `abc`.
-const DATA: [u8; 12] = [1, 3, 0, 0, 0, 0x61, 0x62, 0x63, 0, 0, 0, 0];
-
-/// An xattr `a` of `v`.
-const XATTR: [u8; 14] = [1, 0, 0, 0, 0, 1, 0, 1, 0x61, 1, 0, 0x76, 0, 0];
-
-/// A key `k` of `v`.
-const KEY: [u8; 14] = [1, 0, 0, 0, 0, 0, 0, 1, 0, 1, 0x6b, 1, 0, 0x76];
-
-/// 1 creates, 2 removes, 3 and 4 set and remove an xattr, 5 and 6 a key, 7 sets the length, and 8
-/// writes from the first byte that differs to the last.
-#[rattlefmt::skip]
-const ROWS: [Row; 9] = [
-    (&KEY, &KEY, &[]),
-    (&[0], &NOTHING, &[1]),
-    (&DATA, &[0], &[2]),
-    (&NOTHING, &XATTR, &[3, 1, 0x61, 1, 0, 0x76]),
-    (&XATTR, &KEY, &[4, 1, 0x61, 5, 1, 0x6b, 1, 0, 0x76]),
-    (&KEY, &NOTHING, &[6, 1, 0x6b]),
-    (&DATA, &[1, 1, 0, 0, 0, 0x61, 0, 0, 0, 0], &[7, 1, 0, 0, 0]),
-    (&DATA, &[1, 4, 0, 0, 0, 0x61, 0x62, 0x63, 0x64, 0, 0, 0, 0], &[7, 4, 0, 0, 0, 8, 3, 0, 0, 0, 1, 0, 0, 0, 0x64]),
-    (&DATA, &[1, 3, 0, 0, 0, 0x78, 0x62, 0x79, 0, 0, 0, 0], &[8, 0, 0, 0, 0, 3, 0, 0, 0, 0x78, 0x62, 0x79]),
-];
-
-/// True if the edits of two objects are these.
-fn are(alloc: Global, before: Option<&Object>, after: Option<&Object>, edits: &[u8]) -> bool {
-    match edits_of(alloc, before, after) {
-        Ok(bytes) => bytes.as_slice() == edits,
-        Err(_) => false,
-    }
-}
-
-fn is_right(alloc: Global, row: &Row) -> bool {
-    match (read_object(alloc, row.0), read_object(alloc, row.1)) {
-        (Ok(before), Ok(after)) => are(alloc, before.as_ref(), after.as_ref(), row.2),
-        _ => false,
-    }
-}
-
-#[test]
-fn each_edit(rt: HostRuntime) {
-    for row in &ROWS {
-        assert!(rt; is_right(rt.alloc(), row));
-    }
 }

@@ -1,7 +1,6 @@
 //! Only tests of what a call of a method does: by `interp`, with answers from outside (RFC 9669, or
-//! computed by hand), at all limits, with lists of edits, in one room, and the table of classes; by
-//! runs of raw bytes, and at each step of them what rule set 3 knows; and by the library's calls on
-//! bytes, flat forms, edits and limits, and a host in Rattle.
+//! computed by hand), at all limits, with lists of edits, in one room, and the table of classes; and
+//! by the library's calls on bytes, flat forms, edits and limits, and a host in Rattle.
 #![tactic(auto)]
 
 #[cfg(test)]
@@ -10,8 +9,6 @@ mod answers;
 mod flat_limits;
 #[cfg(test)]
 mod flat_objects;
-#[cfg(test)]
-mod frames;
 #[cfg(test)]
 mod helper_calls;
 #[cfg(test)]
@@ -26,8 +23,6 @@ mod methods;
 mod operations;
 #[cfg(test)]
 mod parts;
-#[cfg(test)]
-mod plain_runs;
 #[cfg(test)]
 mod programs;
 #[cfg(test)]

@@ -87,16 +87,34 @@ w 64 0 | none @64 | mov r3, r1; mov r4, r2; call 10 | 0 4 - -//@64=@64
 /// input to the output, where the ranges lie, and returns 100 more than the helper. Where there is
 /// no room, or no such key, nothing is written.
 const OVERLAPS: &str = "\
-r 0 0 | h//a=0x01,bc=0x02,d=0x03 - | stb [r10-2], 97; mov r1, r10; add r1, -2; mov r2, 1; mov r3, r1; mov r4, 2; call 12; ldxh r0, [r10-2] | 0x6362 9
-r 0 0 | h//a=0x01,bc=0x02,d=0x03 - | sth [r10-2], 25442; mov r1, r10; add r1, -2; mov r2, 2; mov r3, r10; add r3, -1; mov r4, 1; call 12; ldxh r0, [r10-2] | 0x6462 10
-r 12 12 | -/lock=12345678/bb=,lock=12345678 ..lock...... | ldxdw r5, [r1+0]; stxdw [r3+0], r5; ldxw r5, [r1+8]; stxw [r3+8], r5; mov r1, r3; add r1, 2; mov r2, 4; add r3, 1; mov r4, 9; call 6; mov r6, r0; mov r1, 12; call 13; mov r0, r6; add r0, 100 | 108 16 .12345678...
-r 12 12 | -/lock=12345678/bb=,lock=12345678 ..lock...... | ldxdw r5, [r1+0]; stxdw [r3+0], r5; ldxw r5, [r1+8]; stxw [r3+8], r5; mov r1, r3; add r1, 2; mov r2, 4; add r3, 3; mov r4, 8; call 9; mov r6, r0; mov r1, 12; call 13; mov r0, r6; add r0, 100 | 108 16 ..l12345678.
-r 12 12 | -/lock=12345678/bb=,lock=12345678 ..lock...... | ldxdw r5, [r1+0]; stxdw [r3+0], r5; ldxw r5, [r1+8]; stxw [r3+8], r5; mov r1, r3; add r1, 2; mov r2, 4; add r3, 2; mov r4, 7; call 6; mov r6, r0; mov r1, 12; call 13; mov r0, r6; add r0, 100 | 66 16 ..lock......
-r 12 12 | -/lock=12345678/bb=,lock=12345678 a........... | ldxdw r5, [r1+0]; stxdw [r3+0], r5; ldxw r5, [r1+8]; stxw [r3+8], r5; mov r1, r3; add r1, 0; mov r2, 1; add r3, 0; mov r4, 2; call 12; mov r6, r0; mov r1, 12; call 13; mov r0, r6; add r0, 100 | 102 16 bb..........
-r 12 12 | -/lock=12345678/bb=,lock=12345678 bb.......... | ldxdw r5, [r1+0]; stxdw [r3+0], r5; ldxw r5, [r1+8]; stxw [r3+8], r5; mov r1, r3; add r1, 0; mov r2, 2; add r3, 1; mov r4, 9; call 12; mov r6, r0; mov r1, 12; call 13; mov r0, r6; add r0, 100 | 104 16 block.......
-r 12 12 | -/lock=12345678/bb=,lock=12345678 lock........ | ldxdw r5, [r1+0]; stxdw [r3+0], r5; ldxw r5, [r1+8]; stxw [r3+8], r5; mov r1, r3; add r1, 0; mov r2, 4; add r3, 0; mov r4, 9; call 12; mov r6, r0; mov r1, 12; call 13; mov r0, r6; add r0, 100 | 39 16 lock........
-r 12 12 | -/lock=12345678/bb=,lock=12345678 ............ | ldxdw r5, [r1+0]; stxdw [r3+0], r5; ldxw r5, [r1+8]; stxw [r3+8], r5; mov r1, r3; add r1, 12; mov r2, 0; add r3, 0; mov r4, 2; call 12; mov r6, r0; mov r1, 12; call 13; mov r0, r6; add r0, 100 | 102 16 bb..........
-r 12 12 | -/lock=12345678/bb=,lock=12345678 bb.......... | ldxdw r5, [r1+0]; stxdw [r3+0], r5; ldxw r5, [r1+8]; stxw [r3+8], r5; mov r1, r3; add r1, 0; mov r2, 2; add r3, 12; mov r4, 0; call 9; mov r6, r0; mov r1, 12; call 13; mov r0, r6; add r0, 100 | 100 16 bb..........
+r 0 0 | h//a=0x01,bc=0x02,d=0x03 - | stb [r10-2], 97; mov r1, r10; add r1, -2; mov r2, 1; mov r3, r1; mov r4, 2; call \
+    12; ldxh r0, [r10-2] | 0x6362 9
+r 0 0 | h//a=0x01,bc=0x02,d=0x03 - | sth [r10-2], 25442; mov r1, r10; add r1, -2; mov r2, 2; mov r3, r10; add r3, -1; \
+    mov r4, 1; call 12; ldxh r0, [r10-2] | 0x6462 10
+r 12 12 | -/lock=12345678/bb=,lock=12345678 ..lock...... | ldxdw r5, [r1+0]; stxdw [r3+0], r5; ldxw r5, [r1+8]; stxw \
+    [r3+8], r5; mov r1, r3; add r1, 2; mov r2, 4; add r3, 1; mov r4, 9; call 6; mov r6, r0; mov r1, 12; call 13; mov \
+    r0, r6; add r0, 100 | 108 16 .12345678...
+r 12 12 | -/lock=12345678/bb=,lock=12345678 ..lock...... | ldxdw r5, [r1+0]; stxdw [r3+0], r5; ldxw r5, [r1+8]; stxw \
+    [r3+8], r5; mov r1, r3; add r1, 2; mov r2, 4; add r3, 3; mov r4, 8; call 9; mov r6, r0; mov r1, 12; call 13; mov \
+    r0, r6; add r0, 100 | 108 16 ..l12345678.
+r 12 12 | -/lock=12345678/bb=,lock=12345678 ..lock...... | ldxdw r5, [r1+0]; stxdw [r3+0], r5; ldxw r5, [r1+8]; stxw \
+    [r3+8], r5; mov r1, r3; add r1, 2; mov r2, 4; add r3, 2; mov r4, 7; call 6; mov r6, r0; mov r1, 12; call 13; mov \
+    r0, r6; add r0, 100 | 66 16 ..lock......
+r 12 12 | -/lock=12345678/bb=,lock=12345678 a........... | ldxdw r5, [r1+0]; stxdw [r3+0], r5; ldxw r5, [r1+8]; stxw \
+    [r3+8], r5; mov r1, r3; add r1, 0; mov r2, 1; add r3, 0; mov r4, 2; call 12; mov r6, r0; mov r1, 12; call 13; mov \
+    r0, r6; add r0, 100 | 102 16 bb..........
+r 12 12 | -/lock=12345678/bb=,lock=12345678 bb.......... | ldxdw r5, [r1+0]; stxdw [r3+0], r5; ldxw r5, [r1+8]; stxw \
+    [r3+8], r5; mov r1, r3; add r1, 0; mov r2, 2; add r3, 1; mov r4, 9; call 12; mov r6, r0; mov r1, 12; call 13; mov \
+    r0, r6; add r0, 100 | 104 16 block.......
+r 12 12 | -/lock=12345678/bb=,lock=12345678 lock........ | ldxdw r5, [r1+0]; stxdw [r3+0], r5; ldxw r5, [r1+8]; stxw \
+    [r3+8], r5; mov r1, r3; add r1, 0; mov r2, 4; add r3, 0; mov r4, 9; call 12; mov r6, r0; mov r1, 12; call 13; mov \
+    r0, r6; add r0, 100 | 39 16 lock........
+r 12 12 | -/lock=12345678/bb=,lock=12345678 ............ | ldxdw r5, [r1+0]; stxdw [r3+0], r5; ldxw r5, [r1+8]; stxw \
+    [r3+8], r5; mov r1, r3; add r1, 12; mov r2, 0; add r3, 0; mov r4, 2; call 12; mov r6, r0; mov r1, 12; call 13; mov \
+    r0, r6; add r0, 100 | 102 16 bb..........
+r 12 12 | -/lock=12345678/bb=,lock=12345678 bb.......... | ldxdw r5, [r1+0]; stxdw [r3+0], r5; ldxw r5, [r1+8]; stxw \
+    [r3+8], r5; mov r1, r3; add r1, 0; mov r2, 2; add r3, 12; mov r4, 0; call 9; mov r6, r0; mov r1, 12; call 13; mov \
+    r0, r6; add r0, 100 | 100 16 bb..........
 ";
 
 /// True if the outcome is the one that words tell, of a call on the object that a word tells.
@@ -153,7 +171,8 @@ fn methods_on_objects(rt: HostRuntime) {
 const SPILLED: &str = "\
 r 0 1 | none - | stxdw [r10-8], r3; mov r0, 0; ldxdw r4, [r10-8]; stb [r4+0], 1 | 0 5
 r 8 1 | none - | stxdw [r10-8], r3; ldxdw r4, [r10-8]; stb [r4+0], 65; mov r1, 1; call 13 | 0 6 A
-r 8 1 | none 0x010203 | stxdw [r10-16], r1; stxdw [r10-8], r2; ldxdw r4, [r10-16]; ldxb r0, [r4+1]; ldxdw r5, [r10-8]; add r0, r5 | 5 7
+r 8 1 | none 0x010203 | stxdw [r10-16], r1; stxdw [r10-8], r2; ldxdw r4, [r10-16]; ldxb r0, [r4+1]; ldxdw r5, [r10-8]; \
+    add r0, r5 | 5 7
 ";
 
 #[test]

@@ -1,5 +1,7 @@
-/// The operations on 32 bits. A line has the operation's name, the opcode, the offset field, the
-/// destination, and the result for each operand; all numbers but the offset are hexadecimal.
+//! Results of the operations on 32 bits.
+
+/// A line has the operation's name, the opcode, the offset field, the destination, and the result for
+/// each operand; all numbers but the offset are hexadecimal.
 pub const ROWS: &str = "\
 ADD 0c 0 0 0 1 ffffffff 0 ffffffff 80000000 ffffffff
 ADD 0c 0 1 1 2 0 1 0 80000001 0

@@ -1,11 +1,15 @@
-/// The operations on 64 bits. A line has the operation's name, the opcode, the offset field, the
-/// destination, and the result for each operand; all numbers but the offset are hexadecimal.
+//! Results of the operations on 64 bits.
+
+/// A line has the operation's name, the opcode, the offset field, the destination, and the result for
+/// each operand; all numbers but the offset are hexadecimal.
 pub const ROWS: &str = "\
 ADD 0f 0 0 0 1 ffffffffffffffff 8000000000000000 7fffffffffffffff 80000000 ffffffff
 ADD 0f 0 1 1 2 0 8000000000000001 8000000000000000 80000001 100000000
 ADD 0f 0 ffffffffffffffff ffffffffffffffff 0 fffffffffffffffe 7fffffffffffffff 7ffffffffffffffe 7fffffff fffffffe
-ADD 0f 0 8000000000000000 8000000000000000 8000000000000001 7fffffffffffffff 0 ffffffffffffffff 8000000080000000 80000000ffffffff
-ADD 0f 0 7fffffffffffffff 7fffffffffffffff 8000000000000000 7ffffffffffffffe ffffffffffffffff fffffffffffffffe 800000007fffffff 80000000fffffffe
+ADD 0f 0 8000000000000000 8000000000000000 8000000000000001 7fffffffffffffff 0 ffffffffffffffff 8000000080000000 \
+    80000000ffffffff
+ADD 0f 0 7fffffffffffffff 7fffffffffffffff 8000000000000000 7ffffffffffffffe ffffffffffffffff fffffffffffffffe \
+    800000007fffffff 80000000fffffffe
 ADD 0f 0 80000000 80000000 80000001 7fffffff 8000000080000000 800000007fffffff 100000000 17fffffff
 ADD 0f 0 ffffffff ffffffff 100000000 fffffffe 80000000ffffffff 80000000fffffffe 17fffffff 1fffffffe
 ADD 07 0 0 0 1 ffffffffffffffff ffffffff80000000 7fffffff
@@ -17,9 +21,11 @@ ADD 07 0 80000000 80000000 80000001 7fffffff 0 ffffffff
 ADD 07 0 ffffffff ffffffff 100000000 fffffffe 7fffffff 17ffffffe
 SUB 1f 0 0 0 ffffffffffffffff 1 8000000000000000 8000000000000001 ffffffff80000000 ffffffff00000001
 SUB 1f 0 1 1 0 2 8000000000000001 8000000000000002 ffffffff80000001 ffffffff00000002
-SUB 1f 0 ffffffffffffffff ffffffffffffffff fffffffffffffffe 0 7fffffffffffffff 8000000000000000 ffffffff7fffffff ffffffff00000000
+SUB 1f 0 ffffffffffffffff ffffffffffffffff fffffffffffffffe 0 7fffffffffffffff 8000000000000000 ffffffff7fffffff \
+    ffffffff00000000
 SUB 1f 0 8000000000000000 8000000000000000 7fffffffffffffff 8000000000000001 0 1 7fffffff80000000 7fffffff00000001
-SUB 1f 0 7fffffffffffffff 7fffffffffffffff 7ffffffffffffffe 8000000000000000 ffffffffffffffff 0 7fffffff7fffffff 7fffffff00000000
+SUB 1f 0 7fffffffffffffff 7fffffffffffffff 7ffffffffffffffe 8000000000000000 ffffffffffffffff 0 7fffffff7fffffff \
+    7fffffff00000000
 SUB 1f 0 80000000 80000000 7fffffff 80000001 8000000080000000 8000000080000001 0 ffffffff80000001
 SUB 1f 0 ffffffff ffffffff fffffffe 100000000 80000000ffffffff 8000000100000000 7fffffff 0
 SUB 17 0 0 0 ffffffffffffffff 1 80000000 ffffffff80000001
@@ -73,9 +79,12 @@ SDIV 37 1 80000000 0 80000000 ffffffff80000000 ffffffffffffffff 1
 SDIV 37 1 ffffffff 0 ffffffff ffffffff00000001 ffffffffffffffff 2
 OR 4f 0 0 0 1 ffffffffffffffff 8000000000000000 7fffffffffffffff 80000000 ffffffff
 OR 4f 0 1 1 1 ffffffffffffffff 8000000000000001 7fffffffffffffff 80000001 ffffffff
-OR 4f 0 ffffffffffffffff ffffffffffffffff ffffffffffffffff ffffffffffffffff ffffffffffffffff ffffffffffffffff ffffffffffffffff ffffffffffffffff
-OR 4f 0 8000000000000000 8000000000000000 8000000000000001 ffffffffffffffff 8000000000000000 ffffffffffffffff 8000000080000000 80000000ffffffff
-OR 4f 0 7fffffffffffffff 7fffffffffffffff 7fffffffffffffff ffffffffffffffff ffffffffffffffff 7fffffffffffffff 7fffffffffffffff 7fffffffffffffff
+OR 4f 0 ffffffffffffffff ffffffffffffffff ffffffffffffffff ffffffffffffffff ffffffffffffffff ffffffffffffffff \
+    ffffffffffffffff ffffffffffffffff
+OR 4f 0 8000000000000000 8000000000000000 8000000000000001 ffffffffffffffff 8000000000000000 ffffffffffffffff \
+    8000000080000000 80000000ffffffff
+OR 4f 0 7fffffffffffffff 7fffffffffffffff 7fffffffffffffff ffffffffffffffff ffffffffffffffff 7fffffffffffffff \
+    7fffffffffffffff 7fffffffffffffff
 OR 4f 0 80000000 80000000 80000001 ffffffffffffffff 8000000080000000 7fffffffffffffff 80000000 ffffffff
 OR 4f 0 ffffffff ffffffff ffffffff ffffffffffffffff 80000000ffffffff 7fffffffffffffff ffffffff ffffffff
 OR 47 0 0 0 1 ffffffffffffffff ffffffff80000000 7fffffff
@@ -101,9 +110,11 @@ AND 57 0 80000000 0 0 80000000 80000000 0
 AND 57 0 ffffffff 0 1 ffffffff 80000000 7fffffff
 LSH 6f 0 0 0 0 0 0 0 0 0
 LSH 6f 0 1 1 2 8000000000000000 1 8000000000000000 1 8000000000000000
-LSH 6f 0 ffffffffffffffff ffffffffffffffff fffffffffffffffe 8000000000000000 ffffffffffffffff 8000000000000000 ffffffffffffffff 8000000000000000
+LSH 6f 0 ffffffffffffffff ffffffffffffffff fffffffffffffffe 8000000000000000 ffffffffffffffff 8000000000000000 \
+    ffffffffffffffff 8000000000000000
 LSH 6f 0 8000000000000000 8000000000000000 0 0 8000000000000000 0 8000000000000000 0
-LSH 6f 0 7fffffffffffffff 7fffffffffffffff fffffffffffffffe 8000000000000000 7fffffffffffffff 8000000000000000 7fffffffffffffff 8000000000000000
+LSH 6f 0 7fffffffffffffff 7fffffffffffffff fffffffffffffffe 8000000000000000 7fffffffffffffff 8000000000000000 \
+    7fffffffffffffff 8000000000000000
 LSH 6f 0 80000000 80000000 100000000 0 80000000 0 80000000 0
 LSH 6f 0 ffffffff ffffffff 1fffffffe 8000000000000000 ffffffff 8000000000000000 ffffffff 8000000000000000
 LSH 67 0 0 0 0 0 0 0
@@ -157,9 +168,12 @@ SMOD 97 1 80000000 80000000 0 0 0 1
 SMOD 97 1 ffffffff ffffffff 0 0 7fffffff 1
 XOR af 0 0 0 1 ffffffffffffffff 8000000000000000 7fffffffffffffff 80000000 ffffffff
 XOR af 0 1 1 0 fffffffffffffffe 8000000000000001 7ffffffffffffffe 80000001 fffffffe
-XOR af 0 ffffffffffffffff ffffffffffffffff fffffffffffffffe 0 7fffffffffffffff 8000000000000000 ffffffff7fffffff ffffffff00000000
-XOR af 0 8000000000000000 8000000000000000 8000000000000001 7fffffffffffffff 0 ffffffffffffffff 8000000080000000 80000000ffffffff
-XOR af 0 7fffffffffffffff 7fffffffffffffff 7ffffffffffffffe 8000000000000000 ffffffffffffffff 0 7fffffff7fffffff 7fffffff00000000
+XOR af 0 ffffffffffffffff ffffffffffffffff fffffffffffffffe 0 7fffffffffffffff 8000000000000000 ffffffff7fffffff \
+    ffffffff00000000
+XOR af 0 8000000000000000 8000000000000000 8000000000000001 7fffffffffffffff 0 ffffffffffffffff 8000000080000000 \
+    80000000ffffffff
+XOR af 0 7fffffffffffffff 7fffffffffffffff 7ffffffffffffffe 8000000000000000 ffffffffffffffff 0 7fffffff7fffffff \
+    7fffffff00000000
 XOR af 0 80000000 80000000 80000001 ffffffff7fffffff 8000000080000000 7fffffff7fffffff 0 7fffffff
 XOR af 0 ffffffff ffffffff fffffffe ffffffff00000000 80000000ffffffff 7fffffff00000000 7fffffff 0
 XOR a7 0 0 0 1 ffffffffffffffff ffffffff80000000 7fffffff
@@ -171,8 +185,10 @@ XOR a7 0 80000000 80000000 80000001 ffffffff7fffffff ffffffff00000000 ffffffff
 XOR a7 0 ffffffff ffffffff fffffffe ffffffff00000000 ffffffff7fffffff 80000000
 ARSH cf 0 0 0 0 0 0 0 0 0
 ARSH cf 0 1 1 0 0 1 0 1 0
-ARSH cf 0 ffffffffffffffff ffffffffffffffff ffffffffffffffff ffffffffffffffff ffffffffffffffff ffffffffffffffff ffffffffffffffff ffffffffffffffff
-ARSH cf 0 8000000000000000 8000000000000000 c000000000000000 ffffffffffffffff 8000000000000000 ffffffffffffffff 8000000000000000 ffffffffffffffff
+ARSH cf 0 ffffffffffffffff ffffffffffffffff ffffffffffffffff ffffffffffffffff ffffffffffffffff ffffffffffffffff \
+    ffffffffffffffff ffffffffffffffff
+ARSH cf 0 8000000000000000 8000000000000000 c000000000000000 ffffffffffffffff 8000000000000000 ffffffffffffffff \
+    8000000000000000 ffffffffffffffff
 ARSH cf 0 7fffffffffffffff 7fffffffffffffff 3fffffffffffffff 0 7fffffffffffffff 0 7fffffffffffffff 0
 ARSH cf 0 80000000 80000000 40000000 0 80000000 0 80000000 0
 ARSH cf 0 ffffffff ffffffff 7fffffff 0 ffffffff 0 ffffffff 0

@@ -1,6 +1,8 @@
+//! Numbers at random, always the same from a seed.
+
 ghost use Rattle.std.specs.Prelude.{◌≤◌};
 
-/// Numbers at random, always the same from a seed: xorshift with the shifts 13, 7 and 17.
+/// Xorshift with the shifts 13, 7 and 17.
 #[derive(Drop)]
 pub struct Dice {
     state: u64,

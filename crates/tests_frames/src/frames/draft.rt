@@ -50,16 +50,26 @@ const CALLS: [(u64, &str); 18] = [
 
 /// Pointers and lengths in register R, of numbers Z that outlast other arguments.
 #[rattlefmt::skip]
-const POINTERS: [&str; 6] = ["mov rR, r10;add rR, -64", "mov rR, r10;add rR, -64", "mov rR, r10;add rR, -B", "mov rR, r9;add rR, 8", "mov rR, r8", "mov rR, r8;add rR, 8"];
+const POINTERS: [&str; 6] = [
+    "mov rR, r10;add rR, -64", "mov rR, r10;add rR, -64", "mov rR, r10;add rR, -B",
+    "mov rR, r9;add rR, 8", "mov rR, r8", "mov rR, r8;add rR, 8",
+];
 
 #[rattlefmt::skip]
-const LENGTHS: [&str; 8] = ["mov rR, 1", "mov rR, 1", "mov rR, 2", "mov rR, 2", "mov rR, K", "mov rR, K", "mov rR, Z;and rR, 31", "mov rR, Z"];
+const LENGTHS: [&str; 8] = [
+    "mov rR, 1", "mov rR, 1", "mov rR, 2", "mov rR, 2", "mov rR, K", "mov rR, K", "mov rR, Z;and rR, 31", "mov rR, Z",
+];
 
 #[rattlefmt::skip]
-const NUMBERS: [&str; 20] = ["0", "1", "-1", "2", "4", "7", "8", "15", "16", "31", "63", "127", "128", "255", "-8", "-128", "65535", "2147483647", "-2147483648", "-2147483647"];
+const NUMBERS: [&str; 20] = [
+    "0", "1", "-1", "2", "4", "7", "8", "15", "16", "31", "63", "127", "128", "255", "-8", "-128",
+    "65535", "2147483647", "-2147483648", "-2147483647",
+];
 
 #[rattlefmt::skip]
-const OPERATIONS: [&str; 13] = ["add", "sub", "mul", "div", "or", "and", "lsh", "rsh", "mod", "xor", "arsh", "sdiv", "smod"];
+const OPERATIONS: [&str; 13] = [
+    "add", "sub", "mul", "div", "or", "and", "lsh", "rsh", "mod", "xor", "arsh", "sdiv", "smod",
+];
 
 #[rattlefmt::skip]
 const JUMPS: [&str; 11] = ["jeq", "jgt", "jge", "jset", "jne", "jsgt", "jsge", "jlt", "jle", "jslt", "jsle"];

@@ -6,7 +6,6 @@ mod dice;
 mod draft;
 mod held;
 
-use crate::words::object;
 use bpf_asm::assemble_class;
 use bpf_decode::{ClassImage, Insn, Method, Region, RuleSet, encode, width};
 use bpf_machine::Caps;
@@ -15,9 +14,8 @@ use draft::random_class;
 use flat_machine::{FlatState, Layout, Machine, RunStart, Stepped, is_layout};
 use held::{Known, form_number};
 use interp::{Outcome, call};
-use object_store::Object;
+use object_store::{Object, calls};
 use std::alloc::Global;
-use std::process::Abort;
 use verifier::{Rule, VerifiedClass, refused_slot, verify};
 
 /// How many. `rt try`, whose checks of memory take some hundred times as long, can do with 200.
@@ -45,9 +43,17 @@ const LAYOUTS: [Layout; 2] = [
     },
 ];
 
-/// Objects, as words tell them.
+/// Names with their values.
+type Values = &'static [(&'static [u8], &'static [u8])];
+
+/// Objects: none, or the data, the xattrs and the keys.
 #[rattlefmt::skip]
-const OBJECTS: [&str; 4] = ["none", "-", "hello/a=0x01,0x00=0x0203/0x00=,0x0001=b", "0x00ffffffff80000000/0x01=0x80/a=1,b=2"];
+const OBJECTS: [Option<(&[u8], Values, Values)>; 4] = [
+    None,
+    Some((b"", &[], &[])),
+    Some((b"hello", &[(b"a", b"\x01"), (b"\0", b"\x02\x03")], &[(b"\0", b""), (b"\0\x01", b"b")])),
+    Some((b"\0\xff\xff\xff\xff\x80\0\0\0", &[(b"\x01", b"\x80")], &[(b"a", b"1"), (b"b", b"2")])),
+];
 
 /// What was seen.
 #[derive(Drop)]
@@ -225,16 +231,31 @@ fn input(alloc: Global, dice: &mut Dice) -> Option<Vec<u8>> {
     Some(input)
 }
 
+/// One of `OBJECTS`; no answer if memory is refused.
+fn object(alloc: Global, dice: &mut Dice) -> Option<Option<Object>> {
+    let n = dice.below(OBJECTS.len() as u64) as usize;
+    let Some((data, xattrs, keys)) = *OBJECTS.get(n)? else {
+        return Some(None);
+    };
+    let mut object = calls::write(alloc, None, 0, data).ok()?;
+    for (name, value) in xattrs {
+        object = calls::set_xattr(alloc, Some(&object), *name, *value).ok()?;
+    }
+    for (name, value) in keys {
+        object = calls::set_key(alloc, Some(&object), *name, *value).ok()?;
+    }
+    Some(Some(object))
+}
+
 /// Makes two calls of a method on objects and inputs at random, and follows their runs.
 fn follow_calls(
-    rt: &impl Abort,
     alloc: Global,
     subject: &Subject<'_>,
     dice: &mut Dice,
     seen: &mut Seen,
 ) -> Option<()> {
     for _ in 0..2 {
-        let object = object(rt, alloc, dice.word(&OBJECTS));
+        let object = object(alloc, dice)?;
         let input = input(alloc, dice)?;
         let start = RunStart {
             object: object.as_ref(),
@@ -249,13 +270,7 @@ fn follow_calls(
 }
 
 /// The same of the method of a text, unless it is refused.
-fn try_text(
-    rt: &impl Abort,
-    alloc: Global,
-    text: &str,
-    dice: &mut Dice,
-    seen: &mut Seen,
-) -> Option<()> {
+fn try_text(alloc: Global, text: &str, dice: &mut Dice, seen: &mut Seen) -> Option<()> {
     let image = assemble_class(alloc, text).ok()?;
     let class = match verify(alloc, &image) {
         Ok(class) => class,
@@ -274,7 +289,7 @@ fn try_text(
         known: &known,
     };
     seen.accepted = seen.accepted.saturating_add(1);
-    follow_calls(rt, alloc, &subject, dice, seen)
+    follow_calls(alloc, &subject, dice, seen)
 }
 
 /// True if so much was seen that the test says something.
@@ -301,7 +316,7 @@ fn random_methods(rt: HostRuntime) {
     for _ in 0..METHODS {
         let text = random_class(rt.alloc(), &mut dice).expect(&rt, "memory");
         assert!(rt;
-            try_text(&rt, rt.alloc(), &text, &mut dice, &mut seen).is_some(),
+            try_text(rt.alloc(), &text, &mut dice, &mut seen).is_some(),
             "{text}"
         );
     }
