@@ -5,7 +5,8 @@
 
 What `rt ci` leaves of the libraries below holds statements alone, of which `rt lib` takes none: it would prove them once more.
 Here the prover is called as `rt lib` calls it, over what is there: it proves `sillarnica` and compiles all. Where a library is
-missing, or may have been made from other sources than the present ones, it is `rt lib` that builds the archive.
+missing, or may have been made from other sources than the present ones, it is `rt lib` that builds the archive. A gate gives
+a library that it proved before, with the time of that day: so it is the gate's own time, that of out/gate, that counts.
 
 The status is that of the command.
 """
@@ -21,7 +22,8 @@ def origin(library):
     made, stamp = f"{library.rlib}/format", kit.rtlib.text_of(f"{library.folder}/out/rlib/stamp")
     if not os.path.isfile(made) or stamp not in (None, library.stamp()):
         return None
-    if stamp is None and any(os.path.getmtime(it) > os.path.getmtime(made) for it in kit.rtlib.files_of(library.folder)):
+    times = [os.path.getmtime(it) for it in (made, f"{kit.TOP}/out/gate") if os.path.isfile(it)]
+    if stamp is None and any(os.path.getmtime(it) > max(times) for it in kit.rtlib.files_of(library.folder)):
         return None
     return "gate" if stamp is None else "check"
 

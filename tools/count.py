@@ -1,18 +1,21 @@
 #!/usr/bin/env python3
-"""Counts lines by block and kind, lines over 120 columns, silent files, crates, edits, pages and words.
+"""Counts lines by block and kind, functions, lines over 120 columns, silent files, crates, edits, pages and words.
 
-    tools/count.py
+    tools/count.py [BLOCK | --check]
 
-The blocks are the comment lines of crates.txt. Lines are those of src/, specs/ and proofs/; an edit
-is a file of must-fail/ or wrong/. A word has a letter or a digit. A file of src/ is silent if neither
+The blocks are the comment lines of crates.txt; of BLOCK each crate is counted, and nothing else. --check says where lines are over
+120 columns and which files are silent; the status is 1 if there is one. Lines are those of
+src/, specs/ and proofs/; an edit is a file of must-fail/ or wrong/. A word has a letter or a digit. A file of src/ is silent if neither
 a first line `//!` nor a type of its name says what it is for; those of tests and of bench may be."""
 import re
+import sys
 from pathlib import Path
 
 TOP = Path(__file__).resolve().parent.parent
 KINDS = {"src": "*.rt", "specs": "*.antt", "proofs": "*.antt"}
 OTHERS = ("README.md", "examples/README.md", "CHANGELOG.md")
 COLUMNS = 120
+FUNCTION = re.compile(r'\s*(pub(\([^)]*\))? )?(const )?(unsafe )?(extern "C" )?fn \w')
 
 
 def blocks():
@@ -39,25 +42,53 @@ def is_silent(file):
     return not text.startswith("//!") and not re.search(rf"\b(struct|enum|trait) {name}\b", text, re.IGNORECASE)
 
 
+def is_wide(line):
+    return len(line) > COLUMNS
+
+
+def silent_files(crates):
+    return [file for crate in crates if not crate.startswith(("tests_", "bench"))
+            for file in sorted((TOP / "crates" / crate / "src").rglob("*.rt")) if is_silent(file)]
+
+
+def check():
+    """Says which lines are over 120 columns, and which files are silent; returns the status."""
+    crates = [crate for _, crates in blocks() for crate in crates]
+    found = [f"{file.relative_to(TOP)}:{number}: over {COLUMNS} columns" for crate in crates for kind in ("src", "specs")
+             for file in sorted((TOP / "crates" / crate / kind).rglob(KINDS[kind]))
+             for number, line in enumerate(file.read_text(encoding="utf-8").splitlines(), 1) if is_wide(line)]
+    found += [f"{file.relative_to(TOP)}: it doesn't say what it is for" for file in silent_files(crates)]
+    print("\n".join(found or [f"no line over {COLUMNS} columns, and no silent file"]))
+    return int(bool(found))
+
+
 def row(name, crates):
     counts = {kind: lines_of(crates, kind, pattern) for kind, pattern in KINDS.items()}
     edits = sum(1 for crate in crates for folder in ("must-fail", "wrong")
                 for _ in (TOP / "crates" / crate).glob(f"{folder}/*.edit"))
-    wide = sum(len(line) > COLUMNS for kind in ("src", "specs") for line in counts[kind])
-    silent = sum(is_silent(file) for crate in crates if not crate.startswith(("tests_", "bench"))
-                 for file in (TOP / "crates" / crate / "src").rglob("*.rt"))
-    return [name, len(crates), *(len(counts[kind]) for kind in KINDS), edits, wide, silent]
+    wide = sum(is_wide(line) for kind in ("src", "specs") for line in counts[kind])
+    functions = sum(bool(FUNCTION.match(line)) for line in counts["src"])
+    return [name, len(crates), *(len(counts[kind]) for kind in KINDS), functions, edits, wide, len(silent_files(crates))]
 
 
 def words(files):
     return sum(bool(re.search(r"\w", word)) for file in files for word in file.read_text(encoding="utf-8").split())
 
 
-def main():
-    rows = [row(name, crates) for name, crates in blocks()]
+def print_rows(rows):
+    """Prints rows, and their sums at the end."""
     rows.append(["all", *(sum(column) for column in list(zip(*rows))[1:])])
-    for name, *numbers in [["block", "crates", *KINDS, "edits", "wide", "silent"], *rows]:
-        print(f"{name:<10}", *(f"{it:>8}" for it in numbers))
+    for name, *numbers in [["block", "crates", *KINDS, "fns", "edits", "wide", "silent"], *rows]:
+        print(f"{name:<17}", *(f"{it:>8}" for it in numbers))
+
+
+def main(words_of_line):
+    if words_of_line == ["--check"]:
+        return check()
+    if words_of_line:
+        print_rows([row(crate, [crate]) for crate in dict(blocks())[words_of_line[0]]])
+        return 0
+    print_rows([row(name, crates) for name, crates in blocks()])
     pages = sorted((TOP / "docs").glob("*.md"))
     scripts = [file for folder in ("tools", "ceph", "examples", "include") for file in sorted((TOP / folder).rglob("*"))
                if file.suffix in (".sh", ".py", ".c", ".h", ".cc") or file.name == "radosbpf"]
@@ -66,6 +97,8 @@ def main():
     print(f"\n{len(pages)} pages of {words(pages):,} words; {others}")
     print(f"{scripts:,} lines of scripts, C and C++ in tools, ceph, examples and include")
     print(f"wide: lines of src and specs over {COLUMNS} columns; silent: files that don't say what they are for")
+    return 0
 
 
-main()
+if __name__ == "__main__":
+    sys.exit(main(sys.argv[1:]))

@@ -15,7 +15,7 @@ NAMES = (r"(radoscls|rt|clang|llvm-[a-z]*|sh|cc|python3|bash|cat|cd|rm|find|for|
          r"|tools.*sh$|rt run$")
 # What other parts of the gate run: tests of the program (forms, with words in capitals),
 # tools/embed.sh, tools/release_test.sh, `rt ci`.
-ELSEWHERE = re.compile(r"radoscls (verify|run|asm|pack|dis|sim|cluster) .*[A-Z].*|tools/try\.sh"
+ELSEWHERE = re.compile(r"radoscls (verify|run|test|asm|pack|dis|sim|cluster) .*[A-Z].*|tools/try\.sh"
                        r"|tools/(test|edits|changed|library|embed|fuzz|refuse|pages|release|release_test)\b.*|cc -I lib host.*|cc host.c .*"
                        r"|radoscls verify --all|cd crates/radoscls && rt run .*|rt run|rt try --test|\./out/bench --dry")
 
@@ -170,9 +170,10 @@ def try_mistakes(pages):
             pages.is_read(text_of(code), "", asm)
     pages.is_read(".method f r 0 0\nmov r0, 0\nexit\r\n", "line 3: 1 Word\n", asm)
     pages.is_read(".method f r 0 0\r\nmov r0, 0\r\nexit\r\n", "line 1: 2 Operand\n", asm)
-    texts = [code_of(path.read_text().split("\n")) for path in (TOP / "examples").glob("*.txt")]
+    paths = [path for kind in ("txt", "test") for path in (TOP / "examples").glob(f"*.{kind}")]
+    texts = [code_of(path.read_text().split("\n")) for path in paths]
     for block in blocks(pages.text):
-        if not re.match(r"radoscls |refused |client |m5 ", block[0]):
+        if not re.match(r"radoscls |refused |client |m5 |slot 0 ", block[0]):
             pages.settle(f"in examples: {block[0]}", any(code_of(block) in it for it in texts))
 
 
@@ -198,6 +199,24 @@ def try_patterns(pages):
         pages.answers(f"radoscls run patterns.txt {words}", f"code {code}", *rest)
 
 
+def try_tests(pages):
+    """Each class that is a text in examples/, and two below it, pass their tests."""
+    pages.on("examples/README.md", pages.work / "examples")
+    pages.row("radoscls test queue.txt queue.test")
+    for text in sorted(it.name for it in (TOP / "examples").glob("*.txt")):
+        holds(pages, text, text.replace(".txt", ".test"))
+    holds(pages, "c/counter_o0.txt", "c/counter.test")
+    holds(pages, "embed/parts.txt", "embed/parts.test")
+
+
+def holds(pages, a_class, tests):
+    """A class passes its tests: as many lines hold as say something, `call` and `is`."""
+    lines = (pages.folder / tests).read_text().split("\n") if (pages.folder / tests).exists() else []
+    count = sum(it.startswith(("call ", "is ")) for it in lines)
+    ended = pages.run(f"radoscls test {a_class} {tests}")
+    pages.settle(f"{tests}: {count}", count > 0 and ended.stdout == f"ok {count}\n" and ended.returncode == 0, f"ok {count}", ended)
+
+
 def try_readme(pages):
     pages.on("README.md", pages.work / "examples")
     call, tried = "tools/try.sh run examples/keep.img keep --input 726f6f74", f"'{TOP}/tools/try.sh'"
@@ -213,7 +232,7 @@ def try_readme(pages):
     pages.row("radoscls verify hello.txt", "all", 1, 1)
     pages.row("radoscls run hello.txt hello", "all", 2, 5)
     pages.row(".method hello r 0 4", "all", 1, 1, instead="radoscls verify ../refused.txt", status=1)
-    pages.row("radoscls sim --trace survive.sim", "some", 1, 4)
+    pages.row("radoscls sim --trace survive.sim")
 
 
 def try_examples(pages):
@@ -238,16 +257,19 @@ def try_examples(pages):
     pages.on("docs/WRITING.md", pages.work / "examples")
     pages.row("radoscls verify hello.txt", "all", 1, 1)
     pages.row("radoscls run hello.txt hello", "all", 2, 5)
+    pages.row("radoscls test hello.txt hello.test", "all", 1, 1)
     pages.row("radoscls verify --explain", "all", 1, 9, instead="radoscls verify --explain ../refused.txt", status=1)
     pages.row("radoscls run count.txt count --key n=050000000000000000 --show", "all", 1, 6)
+    pages.row("radoscls run count.txt count --trace --key n=050000000000000000", "all", 1, 16)
     pages.row("radoscls run swap.txt swap --object 0500 --input 05000000000000000700000000000000 --show", "all", 1, 5)
     pages.row("radoscls cluster queue.cluster --class queue=queue.txt", "some", 2, 2)
     pages.on("docs/PROGRAM.md", pages.work / "examples")
+    pages.row("radoscls test count.txt count.test")
     count = "radoscls sim --class count=count.txt FILE"
     pages.row(count, instead=f"{count} | grep 'Reply 1 0 1 0100000000000000'")
     # two instructions, `mov r0, 0` and `exit`
     (pages.folder / "sum.bin").write_bytes(bytes.fromhex("b700000000000000" "9500000000000000"))
-    for command in ("verify", "run", "asm", "pack", "dis", "sim", "cluster"):
+    for command in ("verify", "run", "test", "asm", "pack", "dis", "sim", "cluster"):
         for example in re.findall(r"^  (radoscls .*)$", pages.run(f"radoscls {command} --help").stderr, re.M):
             ended = pages.run(example)
             pages.settle(example, ended.returncode == 0, "status 0", ended)
@@ -266,6 +288,12 @@ def try_c(pages):
         pages.row(build, "any", instead=f"for it in counter swap sum queue; do {tool} examples/c/$it.c -o c/$it.img || exit; done")
         pages.folder = pages.work / "c"
         try_answers(pages)
+        for tests in ("queue", "swap", "c/counter", "c/sum"):
+            shutil.copy(pages.work / f"examples/{tests}.test", pages.folder)
+            name = Path(tests).name
+            holds(pages, f"{name}.img", f"{name}.test")
+        pages.folder = pages.work
+        holds(pages, "account.img", "examples/c/account.test")
     pages.on("docs/FROM_C.md", pages.work, "cc")
     pages.row("cc -g -fsanitize=address,undefined -I examples/c/include examples/c/account.c examples/c/class_native.c -o account", "none")
     pages.row("./account deposit 6400000000000000 withdraw 6500000000000000", "all", 1, 4)
@@ -421,7 +449,7 @@ def main():
         work = Path(work)
         make_copies(work, program)
         pages = Pages(program, work)
-        for part in (try_readme, try_examples, try_rules, try_mistakes, try_patterns, try_c):
+        for part in (try_readme, try_examples, try_tests, try_rules, try_mistakes, try_patterns, try_c):
             part(pages)
         # (the system's clang, if it is there, makes classes that answer alike)
         pages.tools = work / "bin"

@@ -7,6 +7,7 @@
 # makes every test and stored run; then come the other wrong edits, the program as a process, its manual page, the commands
 # that the pages show, histories of random clusters, classes in C, hosts over the library, a minute of libFuzzer, what is
 # installed, and the plug-in in a real Ceph (as root, with Debian's packages). At the end it tells the minutes that each part took.
+# Before all that, lines over 120 columns and files that don't say what they are for are looked for.
 # One that fails ends it.
 #
 # --quick proves nothing: it passes, by a program that is compiled without a proof, what needs none. Hosts over the library are
@@ -18,16 +19,27 @@ cd "$(dirname "$0")/.."
 # (it says in one line where `rt` may be)
 type -P rt > /dev/null || exec tools/try.sh
 work=$(mktemp -d) scratch=
-trap 'rm -rf "$work" "$scratch"' EXIT
+trap 'tell_failed; rm -rf "$work" "$scratch"' EXIT
 trap 'exit 1' INT TERM
 
 # part NAME COMMAND: runs the command, and keeps how long it took.
 part() {
     local name=$1 status=0 TIMEFORMAT="$1 %R %U %S"
     shift
-    { time "$@" 2>&3; } 3>&2 2>> "$work/took" || status=$?
-    [ "$status" = 0 ] || echo "FAILED: $name" >&2
+    { time "$@" 2>&3; } 3>&2 2>> "$work/took" | tee "$work/said.$name" || status=$?
+    [ "$status" = 0 ] || echo "$name" >> "$work/failed"
     return "$status"
+}
+
+# The last lines are what went wrong, since who reads what a gate printed may get these alone.
+tell_failed() {
+    local name
+    [ -f "$work/failed" ] || return 0
+    while read -r name; do
+        printf '\nFAILED: %s, of which\n' "$name"
+        grep -E -A 2 '^ *(BAD|bad|differs)|NOT (PROVED|REFUSED|TRIED)|FAILED' "$work/said.$name" | tail -n 24 || true
+        tail -n 4 "$work/said.$name"
+    done < "$work/failed"
 }
 
 tell_minutes() {
@@ -38,6 +50,7 @@ tell_minutes() {
 
 quick() {
     local program=crates/radoscls/out/tried/radoscls archive=crates/sillarnica/out/libsillarnica.a
+    part widths tools/count.py --check
     part compile tools/try.sh <<< true
     part process tools/process.py --tried "$program"
     part manual tools/manual.py --check "$program"
@@ -76,8 +89,7 @@ of_the_program() {
 }
 
 of_the_library() {
-    part archive tools/archive.py && part embed tools/embed.sh && part fuzz tools/fuzz.sh && part release tools/release_test.sh &&
-        part ceph ceph/test.sh
+    part archive tools/archive.py && part embed tools/embed.sh && part fuzz tools/fuzz.sh && part release tools/release_test.sh
 }
 
 if [ "${1-}" = --quick ]; then
@@ -87,6 +99,7 @@ elif [ $# -gt 0 ]; then
     echo "usage: tools/test.sh [--quick]" >&2
     exit 2
 fi
+part widths tools/count.py --check
 prepare
 TMPDIR=$folder part rt-ci rt ci | tee "$work/ci"
 # (tools/release.sh puts it into what it makes)
@@ -98,5 +111,7 @@ status=0
 of_the_library || status=$?
 wait $! || status=$?
 cat "$work/beside"
+# Alone, since a cluster's daemons wait for one another.
+part ceph ceph/test.sh || status=$?
 tell_minutes
 [ "$status" = 0 ] && echo "passed; $(tail -n 1 "$work/edits")"
