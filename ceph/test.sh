@@ -65,17 +65,21 @@ case $#,${1-} in
     *) sed -n 's/^#  *\(ceph\/\)/\1/p' "$0" >&2; exit 2 ;;
 esac
 
+# The package, and what is put into the folder of classes besides.
+uninstall() {
+    local name
+    for name in "${natives[@]}"; do radosbpf uninstall "$name" > /dev/null 2>&1; done
+    for name in "${odd[@]}" bpf; do rm -f "$folder/libcls_$name.so" "$folder/$name".{img,sent}; done
+    dpkg --purge sillarnica-class-counter sillarnica-ceph > /dev/null 2>&1
+}
+
 finish() {
-    local job name
+    local job
     trap - EXIT
     for job in $(jobs -p); do kill "$job" 2> /dev/null; done
     "$here/cluster.sh" stop "$cluster"
     "$here/cluster.sh" stop "$ported/cluster"
-    if [ -n "${installed-}" ]; then
-        for name in "${natives[@]}"; do radosbpf uninstall "$name" > /dev/null 2>&1; done
-        for name in "${odd[@]}" bpf; do rm -f "$folder/libcls_$name.so" "$folder/$name".{img,sent}; done
-        dpkg --purge sillarnica-class-counter sillarnica-ceph > /dev/null 2>&1
-    fi
+    if [ -n "${installed-}" ]; then uninstall; fi
     if [ -n "${KEEP-}" ]; then echo "all is in $work"; else rm -rf "$work"; fi
     if [ "$1" = 0 ]; then echo ok; else echo failed; fi
     exit "$1"
@@ -177,6 +181,8 @@ try_build() {
 
 install_package() {
     local file
+    # What a run left that was killed, which would be told among what is installed.
+    uninstall
     installed=yes
     if [ -n "${PACKAGES-}" ]; then cp "$PACKAGES"/*.deb "$work/package"; fi
     dpkg -i "$work"/package/sillarnica-ceph_*.deb > "$work/log" 2>&1 || stop_at "the package can't be installed"
