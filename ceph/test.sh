@@ -141,10 +141,15 @@ install_packages() {
     done
     [ ${#missing[@]} = 0 ] && return
     export DEBIAN_FRONTEND=noninteractive
-    timeout 600 apt-get update > "$work/log" 2>&1
-    timeout 1800 apt-get install -y --no-install-recommends "${missing[@]}" >> "$work/log" 2>&1 ||
-        stop_at "Debian's packages can't be installed: ${missing[*]}"
-    echo "ok   installed ${missing[*]}"
+    for _ in 1 2 3; do
+        timeout 600 apt-get update > "$work/log" 2>&1
+        if timeout 1800 apt-get install -y --no-install-recommends "${missing[@]}" >> "$work/log" 2>&1; then
+            echo "ok   installed ${missing[*]}"
+            return
+        fi
+        sleep 20
+    done
+    stop_at "Debian's packages can't be installed: ${missing[*]}"
 }
 
 # The images of the tests, which radoscls makes of their texts; those that are stored are the same.
