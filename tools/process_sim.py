@@ -233,6 +233,16 @@ DRAWN = """\
 |--m1----x  |           AskActivate 1, lost
 line 3: bad
 """
+# A label of 8 letters over one column would touch the arrow's head, so its number stands there alone.
+ALONE_DRAWN = """\
+c1          1           mon         event
+|           |           *           map 1: map 1 prev 0
+|           *           |           see 1 1 => m1
+|           |--m1------>|           AskActivate 1 => m2
+|           |<------m2--|           Activated 1
+|--req----->|           |           req 1 1 1 a lock lock - => m3
+|<------m3--|           |           Reply 1 0 0 -
+"""
 
 
 def unacknowledged():
@@ -279,5 +289,6 @@ SIM_ROWS = [
     Row("sim --trace lost_ack.sim", LOST_ACK), Row("sim survive.sim", SURVIVED),
     Row("sim --trace survive.sim", SURVIVE),
     Row("sim --trace -", DRAWN, "", 1, stdin=b"map 1\nsee 1 1\nhalt\n"),
+    Row("sim --trace -", ALONE_DRAWN, stdin=b"map 1\nsee 1 1\ndeliver 1\ndeliver 2\nreq 1 1 1 a lock lock -\n"),
     Row("sim --trace -", "event\n"),
 ]

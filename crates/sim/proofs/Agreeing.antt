@@ -17,7 +17,6 @@ use Rattle.sim_text.specs.declared.taken.Taken.TheVariants as taken
 use Rattle.sim_world.specs.Step.{Played, Happened, beginning, step}
 use Rattle.sim_world.specs.Agreed.{EventsGrew, EventsLead, IsAgreedPlayed, WorldsAgree, taken_by}
 use Rattle.sim.specs.Run.{IsAgreedRun, Printed, asked, asked_in, before_rest, line_text, run_from}
-use Rattle.sim.specs.Drawing.{Course, ahead, course_from, noted}
 use Rattle.sim.specs.Simulating.{AllWorldsKnown}
 use Rattle.sim.proofs.Replying.{replies_ran}
 use Rattle.sim.proofs.Typed.{asked_typed}
@@ -154,17 +153,5 @@ agreed_run agree law classes names ls =
       replies = λ all n. replies_ran law classes (from names 0 first (take n ls)) (agreed n) all (λ r h. asked_typed names (take n ls) r (known n r h));
     }
 
--- A DRAWN RUN leads to the same world
-either_same : (b : Bool) (c d : Course) (x y : Printed) → c.played ≡ x.played → d.played ≡ y.played → (if b then c else d).played ≡ (if b then x else y).played
-either_same true c d x y p q = p
-either_same false c d x y p q = q
-
-drawn_from : (names : List (List ℕ)) (number : ℕ) (p : Played) (ls : List (List ℕ)) → (course_from names number p ls).played ≡ from names number p ls
-drawn_from names number p [] = refl
-drawn_from names number p (line ∷ ls) =
-    let h = step p (line_of names line) in
-    either_same (is_bad h.taken) (record { steps = []; played = h.played; bad = Some (suc number) }) (ahead (noted names line h.taken) (course_from names (suc number) h.played ls))
-    (bad_end (suc number) h) (good_rest names (suc number) h ls) refl (drawn_from names (suc number) h.played ls)
-
 pub worlds_known : WorldsAgree → RepliesRun → AllWorldsKnown
-worlds_known agree law classes names ls = record { agreed = agreed_run agree law classes names ls; drawn = drawn_from names 0 (beginning classes) ls }
+worlds_known agree law classes names ls = agreed_run agree law classes names ls

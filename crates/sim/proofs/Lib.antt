@@ -1,5 +1,5 @@
 pub mod Agreeing
-mod Noting
+mod Picturing
 mod Reaching
 mod Replying
 mod Tables

@@ -35,18 +35,18 @@ line_taken classes names line number old new l taken text bad e steps b says = �
     }
 
 -- the text of a line
-abbrev said_of : List (List ℕ) → ℕ → Played → List ℕ → List ℕ
+abbrev pub said_of : List (List ℕ) → ℕ → Played → List ℕ → List ℕ
 said_of names number p line = let h = step p (line_of names line) in line_text number h.played.world.sent h.taken
 
 -- these lines lead to a played world, and that text is printed
 pub record Reached (classes : Classes) (names above : List (List ℕ)) (number : ℕ) (p : Played) (text : List ℕ) : Type 0 where
   pub goes_on : (more : List (List ℕ)) → run_lines classes names (above ++ more) ≡ before_rest text (run_from names number p more)
 
-reached_none : (classes : Classes) (names : List (List ℕ)) → Reached classes names [] 0 (beginning classes) []
+pub reached_none : (classes : Classes) (names : List (List ℕ)) → Reached classes names [] 0 (beginning classes) []
 reached_none classes names = record { goes_on = λ more. refl }
 
 -- a line more
-reached_more : (classes : Classes) (names above : List (List ℕ)) (number : ℕ) (p : Played) (text line : List ℕ)
+pub reached_more : (classes : Classes) (names above : List (List ℕ)) (number : ℕ) (p : Played) (text line : List ℕ)
     → Reached classes names above number p text → is_bad (step p (line_of names line)).taken ≡ false
     → Reached classes names (above ++ line ∷ []) (suc number) (step p (line_of names line)).played (text ++ said_of names (suc number) p line)
 reached_more classes names above number p text line reached good = record {
@@ -60,13 +60,13 @@ reached_more classes names above number p text line reached good = record {
 }
 
 -- all lines were done
-reached_all : (classes : Classes) (names above : List (List ℕ)) (number : ℕ) (p : Played) (text : List ℕ)
+pub reached_all : (classes : Classes) (names above : List (List ℕ)) (number : ℕ) (p : Played) (text : List ℕ)
     → Reached classes names above number p text → run_lines classes names above ≡ record { text = text; bad = false; played = p }
 reached_all classes names above number p text reached =
     ap (run_lines classes names) (sym (append-nil above)) ∙ reached.goes_on [] ∙ ap (λ (t : List ℕ). record { text = t; bad = false; played = p }) (append-nil text)
 
 -- the next one is bad
-reached_bad : (classes : Classes) (names above : List (List ℕ)) (number : ℕ) (p : Played) (text line : List ℕ) (rest : List (List ℕ))
+pub reached_bad : (classes : Classes) (names above : List (List ℕ)) (number : ℕ) (p : Played) (text line : List ℕ) (rest : List (List ℕ))
     → Reached classes names above number p text → is_bad (step p (line_of names line)).taken ≡ true
     → run_lines classes names (above ++ line ∷ rest) ≡ record { text = text ++ said_of names (suc number) p line; bad = true; played = (step p (line_of names line)).played }
 reached_bad classes names above number p text line rest reached bad =
@@ -178,12 +178,12 @@ going_bad classes names above number w old new failed fails line rest v text bad
     })
 
 -- the lines up to one, and all of them around it
-front_more : (ws : List (Bor (List ℕ))) (i : ℕ) (d : Bor (List ℕ)) → i < length ws → take (suc i) (map (λ (l : Bor (List ℕ)). l.now) ws) ≡ take i (map (λ l. l.now) ws) ++ (get_or ws i d).now ∷ []
+pub front_more : (ws : List (Bor (List ℕ))) (i : ℕ) (d : Bor (List ℕ)) → i < length ws → take (suc i) (map (λ (l : Bor (List ℕ)). l.now) ws) ≡ take i (map (λ l. l.now) ws) ++ (get_or ws i d).now ∷ []
 front_more [] i d h = absurd (omega arith)
 front_more (x ∷ xs) zero d h = refl
 front_more (x ∷ xs) (suc i) d h = ap (λ ls. x.now ∷ ls) (front_more xs i d (omega arith))
 
-split_at : (ws : List (Bor (List ℕ))) (i : ℕ) (d : Bor (List ℕ)) → i < length ws
+pub split_at : (ws : List (Bor (List ℕ))) (i : ℕ) (d : Bor (List ℕ)) → i < length ws
     → take i (map (λ (l : Bor (List ℕ)). l.now) ws) ++ (get_or ws i d).now ∷ drop (suc i) (map (λ l. l.now) ws) ≡ map (λ l. l.now) ws
 split_at [] i d h = absurd (omega arith)
 split_at (x ∷ xs) zero d h = refl
@@ -193,7 +193,7 @@ length_lines : (ws : List (Bor (List ℕ))) → length (map (λ (l : Bor (List �
 length_lines [] = refl
 length_lines (x ∷ xs) = ap suc (length_lines xs)
 
-all_lines : (ws : List (Bor (List ℕ))) → take (length ws) (map (λ (l : Bor (List ℕ)). l.now) ws) ≡ map (λ l. l.now) ws
+pub all_lines : (ws : List (Bor (List ℕ))) → take (length ws) (map (λ (l : Bor (List ℕ)). l.now) ws) ≡ map (λ l. l.now) ws
 all_lines [] = refl
 all_lines (x ∷ xs) = ap (λ ls. x.now ∷ ls) (all_lines xs)
 

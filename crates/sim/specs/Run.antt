@@ -1,7 +1,7 @@
 -- The lines of a file are done one after another up to the first bad one, in the group's world: the
 -- text that is printed.
 use Rattle.std.specs.Prelude.{◌≡◌, ℕ, suc, ◌≤◌, List, [], ◌∷◌, ◌++◌, length, take, Bool, true, false, Option}
-use Rattle.std.specs.Prelude.{if◌then◌else◌, codes}
+use Rattle.std.specs.Prelude.{Some, None, is_some, if◌then◌else◌, codes}
 use Rattle.std.specs.Fmt.{decimal}
 use Rattle.std.specs.Io.KnownBytes.{Appends}
 use Rattle.std.specs.List.{AllByRecursion, Contains}
@@ -128,6 +128,38 @@ pub record IsLine (classes : Classes) (h : Happened) (number : ℕ) (new : Parts
 abbrev pub Takes : Classes → List (List ℕ) → List ℕ → ℕ → Parts → Parts → List ℕ → Bool → Type 0
 Takes classes names line number old new text bad =
     (p : Played) → Holds classes old p → IsLine classes (step p (line_of names line)) number new text bad
+
+-- a line was done: the world that is held after it, and whether it is bad
+pub record IsDone (classes : Classes) (h : Happened) (new : Parts) (bad : Bool) : Type 0 where
+  pub held : Holds classes new h.played
+  pub is : bad ≡ is_bad h.taken
+
+-- so from each played world that the parts hold
+abbrev pub Does : Classes → List (List ℕ) → List ℕ → Parts → Parts → Bool → Type 0
+Does classes names line old new bad =
+    (p : Played) → Holds classes old p → IsDone classes (step p (line_of names line)) new bad
+
+-- the printed text ends with the bad line of that number
+pub record EndsAt (printed : Printed) (number : ℕ) : Type 0 where
+  pub is : printed.bad ≡ true
+  pub above : List ℕ
+  pub says : printed.text ≡ above ++ bad_line number
+
+-- the number of the bad line, if one is bad
+abbrev pub HasBad : Printed → Option ℕ → Type 0
+HasBad printed None = printed.bad ≡ false
+HasBad printed (Some number) = EndsAt printed number
+
+-- the bad line of a number, if there is one
+abbrev pub bad_of : Option ℕ → List ℕ
+bad_of None = []
+bad_of (Some number) = bad_line number
+
+-- some picture, and then the bad line, if there is one
+pub record IsPicture (number : Option ℕ) (text : List ℕ) (bad : Bool) : Type 0 where
+  pub picture : List ℕ
+  pub text_is : text ≡ picture ++ bad_of number
+  pub bad_is : bad ≡ is_some number
 
 -- the text is that of the line, by the messages of the played world
 abbrev pub SaysOf : Classes → Parts → ℕ → Taken → List ℕ → Type 0

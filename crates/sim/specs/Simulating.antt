@@ -1,44 +1,66 @@
 -- The text that a simulation prints, and why it didn't begin.
-use Rattle.std.specs.Prelude.{◌≡◌, ◌⊎◌, ℕ, List, Option, Bool, true, false}
+use Rattle.std.specs.Prelude.{◌≡◌, ◌⊎◌, ℕ, List, ◌++◌, Option, Bool, true, false}
 use Rattle.std.specs.List.{AllByRecursion}
 use Rattle.class_tool.specs.Assembly.{TextFails}
 use Rattle.class_tool.specs.Files.{Disk, Holds}
 use Rattle.class_tool.specs.declared.failure.Failure.{Failure}
 use Rattle.pg_log.specs.Log.{Classes}
 use Rattle.sim_text.specs.Lines.{lines_of}
-use Rattle.sim.specs.Drawing.{BreaksDrawing, Course, DrawnIsPlayed, Shows, course}
-use Rattle.sim.specs.Run.{EndsBy, IsAgreedRun}
+use Rattle.class_tool.specs.Output.{Begins}
+use Rattle.sim.specs.Run.{EndsBy, Grew, IsAgreedRun, Printed, bad_line, run_lines}
 pub use Rattle.sim.specs.declared.file.SimulationEnd.{SimulationEnd}
 pub use Rattle.sim.specs.declared.file.SimulationEnd.TheVariants.{Done, Bad, NoMemory, Unprinted}
 use Rattle.verifier.specs.Verified.{IsVerifiedClass}
 use Rattle.tenant_classes.specs.Classes.{AreClasses, ClassesFail, names_of}
 use Rattle.sim.specs.declared.asked.Simulation.{Simulation}
 
+-- two texts end with the same bad line
+pub record EndAlike (printed drawn : List ℕ) : Type 0 where
+  pub number : ℕ
+  pub above : List ℕ
+  pub picture : List ℕ
+  pub printed_is : printed ≡ above ++ bad_line number
+  pub drawn_is : drawn ≡ picture ++ bad_line number
+
+-- A DRAWING OF LINES says whether one is bad, and if so ends with the line that says which, as the
+-- printed text does. What it looks like above that line is no promise.
+pub record Draws (run : Printed) (text : List ℕ) (bad : Bool) : Type 0 where
+  pub is : run.bad ≡ bad
+  pub ends : bad ≡ true → EndAlike run.text text
+
+-- a drawing was printed, and no write or flush failed
+pub record Shows (run : Printed) (bad : Bool) (old new : Option (List ℕ)) (failed fails : Bool) : Type 0 where
+  pub text : List ℕ
+  pub drawing : Draws run text bad
+  pub shown : Grew old new failed fails text
+
+-- a write or a flush failed: what was printed is a beginning of a drawing
+pub record BreaksDrawing (run : Printed) (old new : Option (List ℕ)) (fails : Bool) : Type 0 where
+  pub text : List ℕ
+  pub bad : Bool
+  pub drawing : Draws run text bad
+  pub begun : Begins old new text
+  pub failed : fails ≡ true
+
 -- The end of a drawing: all of it was printed, with no bad line or with one; or memory was refused
 -- and nothing was printed; or a write or a flush failed and a beginning was printed.
-abbrev pub IsDrawn : Course → Option (List ℕ) → Option (List ℕ) → Bool → Bool → SimulationEnd → Type 0
+abbrev pub IsDrawn : Printed → Option (List ℕ) → Option (List ℕ) → Bool → Bool → SimulationEnd → Type 0
 IsDrawn run old new failed fails Done = Shows run false old new failed fails
 IsDrawn run old new failed fails Bad = Shows run true old new failed fails
 IsDrawn run old new failed fails NoMemory = (new ≡ old) × (fails ≡ failed)
 IsDrawn run old new failed fails Unprinted = BreaksDrawing run old new fails
 
--- A text was played: the text of its lines was printed as defined, or their run was drawn.
+-- A text was played: the text of its lines was printed as defined, or they were drawn.
 abbrev pub Plays : Bool → Classes → List (List ℕ) → List ℕ → Option (List ℕ) → Option (List ℕ) → Bool → Bool →
     SimulationEnd → Type 0
 Plays true classes names text old new failed fails ending =
-    IsDrawn (course classes names (lines_of text)) old new failed fails ending
+    IsDrawn (run_lines classes names (lines_of text)) old new failed fails ending
 Plays false classes names text old new failed fails ending =
     EndsBy classes names (lines_of text) old new failed fails ending
 
--- WHAT IS KNOWN OF THE WORLDS of lines: each world on the way is an agreed one, and drawn lines
--- lead to the same world as printed ones.
-pub record AreWorldsKnown (classes : Classes) (names lines : List (List ℕ)) : Type 0 where
-  pub agreed : IsAgreedRun classes names lines
-  pub drawn : DrawnIsPlayed classes names lines
-
--- this is known of any lines
+-- each world on the way is an agreed one, of any lines
 abbrev pub AllWorldsKnown : Type 0
-AllWorldsKnown = (classes : Classes) (names lines : List (List ℕ)) → AreWorldsKnown classes names lines
+AllWorldsKnown = (classes : Classes) (names lines : List (List ℕ)) → IsAgreedRun classes names lines
 
 -- A SIMULATION: the text of the file of events was played with the built-in classes and those of
 -- the tenants' files, in agreed worlds.
@@ -50,7 +72,7 @@ pub record Simulates (disk : Option Disk) (s : Simulation) (old new : Option (Li
   pub text : List ℕ
   pub held : Holds disk s.file.now text
   pub played : Plays s.is_drawn classes (names_of s.tenants.items) text old new failed fails ending
-  pub worlds : AreWorldsKnown classes (names_of s.tenants.items) (lines_of text)
+  pub worlds : IsAgreedRun classes (names_of s.tenants.items) (lines_of text)
 
 -- the classes were loaded, and the file of events can't be read or is no text; or memory was
 -- refused

@@ -1,18 +1,17 @@
 //! The same run as a message sequence.
-ghost use Rattle.std.specs.Prelude.{◌≡◌, ◌++◌, IfOk, OnOk, is_some, map, string_bytes};
-ghost use Rattle.sim.specs.Run.{bad_line};
-ghost use Rattle.sim.specs.Drawing.{Courses, Draws, Notes, bad_of, course, drawn_as, drawn_of, noted_as};
+ghost use Rattle.std.specs.Prelude.{◌≡◌, ◌++◌, IfOk, OnOk, Some, map, string_bytes};
+ghost use Rattle.sim.specs.Run.{Does, HasBad, IsPicture, bad_line, run_lines};
+ghost use Rattle.sim.specs.Simulating.{Draws};
 ghost use Rattle.sim_text.specs.Lines.{lines_of};
-ghost use Rattle.sim_trace.specs.Drawing.{drawn};
-ghost use Rattle.sim_world.specs.Holds.{Holds, kept_shown};
+ghost use Rattle.sim_world.specs.Holds.{Holds};
 ghost use Rattle.sim_world.specs.Step.{beginning};
 
 use crate::bad_line::bad_line;
-use crate::note::{column, meant, note};
+use crate::drawn::note::{column, meant, note};
+use crate::drawn::{DrawnMessage, DrawnStep, draw};
 use crate::setup::Setup;
 use pg_log::Classes;
 use sim_text::{carried_text, lines, read_line};
-use sim_trace::{DrawnMessage, DrawnStep, draw};
 use sim_world::{KeptMessage, World};
 use std::alloc::{AllocError, Global};
 use std::marker::Brand;
@@ -27,9 +26,7 @@ pub(crate) struct Traced {
 }
 
 /// A message that was sent, as it is drawn.
-fn message(alloc: Global, kept: &KeptMessage) -> Result<DrawnMessage, AllocError>
-    ensures { IfOk result (λ m. drawn_as m ≡ drawn_of (kept_shown kept.now)) }
-{
+fn message(alloc: Global, kept: &KeptMessage) -> Result<DrawnMessage, AllocError> {
     Ok(DrawnMessage {
         from: column(kept.message.sender),
         to: column(kept.receiver),
@@ -38,9 +35,7 @@ fn message(alloc: Global, kept: &KeptMessage) -> Result<DrawnMessage, AllocError
 }
 
 /// The messages that were sent.
-fn messages(alloc: Global, sent: &[KeptMessage]) -> Result<Vec<DrawnMessage>, AllocError>
-    ensures { IfOk result (λ v. map drawn_as v.items ≡ map drawn_of (map kept_shown sent.now)) }
-{
+fn messages(alloc: Global, sent: &[KeptMessage]) -> Result<Vec<DrawnMessage>, AllocError> {
     let mut messages = Vec::new(alloc);
     for kept in sent {
         messages.push(message(alloc, kept)?)?;
@@ -56,8 +51,8 @@ fn take_line<C: Classes>(
     steps: &mut Vec<DrawnStep>,
 ) -> Result<bool, AllocError>
     requires { setup.now.table.now ≡ C.classes }
-    ensures { IfOk result (λ bad. Notes C.classes (map (λ n. n.now) setup.now.names.now) text.now world.old world.new
-        (map noted_as steps.old.items) (map noted_as steps.new.items) bad) }
+    ensures { IfOk result
+        (λ bad. Does C.classes (map (λ n. n.now) setup.now.names.now) text.now world.old world.new bad) }
 {
     let line = read_line(setup.alloc, setup.names, text)?;
     let meant = meant(&line);
@@ -77,9 +72,10 @@ fn take_lines<C: Classes>(
     world: &mut World<C>,
     steps: &mut Vec<DrawnStep>,
 ) -> Result<Option<usize>, AllocError>
-    requires { setup.now.table.now ≡ C.classes }
-    ensures { IfOk result (λ bad. Courses C.classes (map (λ n. n.now) setup.now.names.now) (map (λ l. l.now) lines.now)
-        world.old world.new (map noted_as steps.old.items) (map noted_as steps.new.items) bad) }
+    requires classes { setup.now.table.now ≡ C.classes }
+    requires first { Holds C.classes world.old (beginning C.classes) }
+    ensures { IfOk result (HasBad
+        (run_lines C.classes (map (λ n. n.now) setup.now.names.now) (map (λ l. l.now) lines.now))) }
 {
     let mut number = 0;
     for line in lines {
@@ -91,6 +87,15 @@ fn take_lines<C: Classes>(
     Ok(None)
 }
 
+/// A picture, and below it the line that says which line is bad.
+fn with_bad(alloc: Global, picture: String, number: usize) -> Result<Traced, AllocError>
+    ensures { IfOk result (λ t. IsPicture (Some number) (string_bytes t.text) t.bad) }
+{
+    let mut text = picture;
+    push_bad(alloc, &mut text, number)?;
+    Ok(Traced { text, bad: true })
+}
+
 /// Draws messages and steps, and says which line is bad, if one is.
 fn drawn(
     alloc: Global,
@@ -98,17 +103,16 @@ fn drawn(
     steps: &[DrawnStep],
     bad: Option<usize>,
 ) -> Result<Traced, AllocError>
-    ensures { IfOk result (λ t. (string_bytes t.text ≡ drawn messages.now steps.now ++ bad_of bad) ×
-        (t.bad ≡ is_some bad)) }
+    ensures { IfOk result (λ t. IsPicture bad (string_bytes t.text) t.bad) }
 {
-    let mut text = draw(alloc, messages, steps)?;
-    if let Some(number) = bad {
-        push_bad(alloc, &mut text, number)?;
+    let picture = draw(alloc, messages, steps)?;
+    match bad {
+        Some(number) => with_bad(alloc, picture, number),
+        None => Ok(Traced {
+            text: picture,
+            bad: false,
+        }),
     }
-    Ok(Traced {
-        text,
-        bad: bad.is_some(),
-    })
 }
 
 /// Appends the line to a drawing that says which line is bad.
@@ -128,7 +132,7 @@ fn trace_from<C: Classes>(
     requires classes { setup.now.table.now ≡ C.classes }
     requires first { Holds C.classes world.old (beginning C.classes) }
     ensures { IfOk result
-        (λ t. Draws (course C.classes (map (λ n. n.now) setup.now.names.now) (map (λ l. l.now) lines.now))
+        (λ t. Draws (run_lines C.classes (map (λ n. n.now) setup.now.names.now) (map (λ l. l.now) lines.now))
         (string_bytes t.text) t.bad) }
 {
     let mut steps = Vec::new(setup.alloc);
@@ -141,7 +145,7 @@ fn trace_from<C: Classes>(
 fn trace_lines<C: Classes>(setup: &Setup<'_>, lines: &[&str]) -> Result<Traced, AllocError>
     requires { setup.now.table.now ≡ C.classes }
     ensures { IfOk result
-        (λ t. Draws (course setup.now.table.now (map (λ n. n.now) setup.now.names.now) (map (λ l. l.now) lines.now))
+        (λ t. Draws (run_lines setup.now.table.now (map (λ n. n.now) setup.now.names.now) (map (λ l. l.now) lines.now))
         (string_bytes t.text) t.bad) }
 {
     let mut world = World::<C>::new(setup.alloc)?;
@@ -152,7 +156,7 @@ fn trace_lines<C: Classes>(setup: &Setup<'_>, lines: &[&str]) -> Result<Traced, 
 /// bad. It fails for want of memory alone.
 pub(crate) fn trace(setup: &Setup<'_>, text: &str) -> Result<Traced, AllocError>
     ensures { IfOk result
-        (λ t. Draws (course setup.now.table.now (map (λ n. n.now) setup.now.names.now) (lines_of text.now))
+        (λ t. Draws (run_lines setup.now.table.now (map (λ n. n.now) setup.now.names.now) (lines_of text.now))
         (string_bytes t.text) t.bad) }
 {
     let lines = lines(setup.alloc, text)?;

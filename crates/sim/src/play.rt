@@ -1,8 +1,8 @@
 //! A run of a file's lines, printed or drawn.
 
 ghost use Rattle.std.specs.Prelude.{map};
-ghost use Rattle.sim.specs.Drawing.{course};
 ghost use Rattle.sim_text.specs.Lines.{lines_of};
+ghost use Rattle.sim.specs.Run.{run_lines};
 ghost use Rattle.sim.specs.Simulating.{IsDrawn, Plays};
 
 use crate::drawing::trace;
@@ -12,7 +12,7 @@ use class_tool::Output;
 
 /// Draws the run of a text, and prints the drawing once all lines are done or one is bad.
 fn draw<O: Output>(setup: &Setup<'_>, text: &str, out: &mut O) -> SimulationEnd
-    ensures { IsDrawn (course setup.now.table.now (map (λ n. n.now) setup.now.names.now) (lines_of text.now))
+    ensures { IsDrawn (run_lines setup.now.table.now (map (λ n. n.now) setup.now.names.now) (lines_of text.now))
         (O.printed out.old) (O.printed out.new) (O.failed out.old) (O.failed out.new) result }
 {
     let Ok(traced) = trace(setup, text) else {

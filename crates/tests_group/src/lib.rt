@@ -1,5 +1,5 @@
 //! Tests alone, of groups: which nodes act, the built-in classes through a group, the log and its
-//! requests, lists that are packed, printed refusals, drawings of runs; and of images with a byte
+//! requests, lists that are packed, printed refusals; and of images with a byte
 //! changed.
 #![tactic(auto)]
 
@@ -7,8 +7,6 @@
 mod builtin;
 #[cfg(test)]
 mod class_texts;
-#[cfg(test)]
-mod drawings;
 #[cfg(test)]
 mod full;
 #[cfg(test)]

@@ -1,4 +1,0 @@
-pub mod Counted
-pub mod Gathered
-pub mod Lost
-pub mod Marks
