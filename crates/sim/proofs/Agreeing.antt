@@ -8,12 +8,12 @@ use Rattle.pg_log.specs.Runs.{RepliesRun}
 use Rattle.group_world.proofs.Lists.{prefix_refl}
 use Rattle.group_world.specs.Node.{committed_list}
 use Rattle.group_world.specs.World.{IsUncut, brought}
-use Rattle.sim_text.specs.Lines.{line_of}
-use Rattle.sim_text.specs.Texts.{is_bad}
-use Rattle.sim_text.specs.declared.line.Line.{Line}
-use Rattle.sim_text.specs.declared.line.Line.TheVariants as lines
-use Rattle.sim_text.specs.declared.taken.Taken.{Taken}
-use Rattle.sim_text.specs.declared.taken.Taken.TheVariants as taken
+use Rattle.sim_world.specs.Lines.{line_of}
+use Rattle.sim_world.specs.Texts.{is_bad}
+use Rattle.sim_world.specs.declared.line.Line.{Line}
+use Rattle.sim_world.specs.declared.line.Line.TheVariants as lines
+use Rattle.sim_world.specs.declared.taken.Taken.{Taken}
+use Rattle.sim_world.specs.declared.taken.Taken.TheVariants as taken
 use Rattle.sim_world.specs.Step.{Played, Happened, beginning, step}
 use Rattle.sim_world.specs.Agreed.{EventsGrew, EventsLead, IsAgreedPlayed, WorldsAgree, taken_by}
 use Rattle.sim.specs.Run.{IsAgreedRun, Printed, asked, asked_in, before_rest, line_text, run_from}

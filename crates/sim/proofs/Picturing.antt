@@ -1,10 +1,10 @@
 -- Lines that were done without their text, and the bad line at which they end.
 use Rattle.std.proofs.Common.{◌≡◌, ◌<◌, ℕ, suc, List, [], ◌∷◌, ◌++◌, length, map, Bor, Bool, true, false, if◌then◌else◌, Option, Some, None, sym, ap, subst, ◌∙◌, take, drop, get_or}
 use Rattle.pg_log.specs.Log.{Classes}
-use Rattle.sim_text.specs.Lines.{line_of}
-use Rattle.sim_text.specs.Texts.{is_bad, taken_text}
-use Rattle.sim_text.specs.declared.line.Line.{Line}
-use Rattle.sim_text.specs.declared.taken.Taken.{Taken}
+use Rattle.sim_world.specs.Lines.{line_of}
+use Rattle.sim_world.specs.Texts.{is_bad, taken_text}
+use Rattle.sim_world.specs.declared.line.Line.{Line}
+use Rattle.sim_world.specs.declared.taken.Taken.{Taken}
 use Rattle.sim.specs.Run.{Does, EndsAt, HasBad, IsPicture, Printed, bad_line, run_lines}
 use Rattle.sim.specs.Simulating.{Draws}
 use Rattle.sim.proofs.Reaching.{Reached, all_lines, front_more, reached_all, reached_bad, reached_more, reached_none, said_of, split_at}

@@ -6,10 +6,10 @@ use Rattle.std.proofs.Math.Seq.{take-append-add}
 use Rattle.std.specs.Prelude.{OnErr, OnOk, IsErr, IsOk, Result, Ok, Err, is_err}
 use Rattle.class_tool.specs.Output.{Begins}
 use Rattle.pg_log.specs.Log.{Classes}
-use Rattle.sim_text.specs.Lines.{line_of}
-use Rattle.sim_text.specs.Texts.{is_bad, taken_text}
-use Rattle.sim_text.specs.declared.line.Line.{Line}
-use Rattle.sim_text.specs.declared.taken.Taken.{Taken}
+use Rattle.sim_world.specs.Lines.{line_of}
+use Rattle.sim_world.specs.Texts.{is_bad, taken_text}
+use Rattle.sim_world.specs.declared.line.Line.{Line}
+use Rattle.sim_world.specs.declared.taken.Taken.{Taken}
 use Rattle.sim.specs.Run.{Printed, SaysOf, Takes, bad_line, before_rest, line_text, run_from, run_lines, BreaksOff, Grew, Prints, Stops}
 use Rattle.sim_world.specs.Step.{Played, beginning, step}
 use Rattle.sim_world.specs.Holds.{Holds, IsStep, Says, Steps}

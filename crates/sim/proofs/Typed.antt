@@ -14,9 +14,9 @@ use Rattle.object_store.specs.Object.{AreBytes}
 use Rattle.pg_log.specs.Requests.{ClientRequest}
 use Rattle.pg_log.specs.Within.{IsRequest}
 use Rattle.file_words.specs.Words.{words, number_in, numbers_in, id_in, object_in, bytes_in, class_of}
-use Rattle.sim_text.specs.Lines.{ask_at, asks, ids_in, line_of, of_one, one_in, or_bad, request_of, says, two_in}
-use Rattle.sim_text.specs.declared.line.Line.{Line}
-use Rattle.sim_text.specs.declared.line.Line.TheVariants.{Empty, Map, See, Deliver, Show, Stop, Go, Resend, Bad}
+use Rattle.sim_world.specs.Lines.{ask_at, asks, ids_in, line_of, of_one, one_in, or_bad, request_of, says, two_in}
+use Rattle.sim_world.specs.declared.line.Line.{Line}
+use Rattle.sim_world.specs.declared.line.Line.TheVariants.{Empty, Map, See, Deliver, Show, Stop, Go, Resend, Bad}
 use Rattle.sim.specs.Run.{asked, asked_in}
 
 -- OPTIONS

@@ -14,11 +14,11 @@ use Rattle.sim.specs.declared.file.SimulationEnd.TheVariants.{Done, Bad, NoMemor
 use Rattle.class_tool.specs.Output.{Begins}
 use Rattle.verifier.specs.Verified.{IsVerifiedClass}
 use Rattle.sim.specs.Replies.{ReplyHasRun}
-use Rattle.sim_text.specs.Lines.{line_of}
-use Rattle.sim_text.specs.Texts.{is_bad, taken_text}
-use Rattle.sim_text.specs.declared.line.Line.{Line}
-use Rattle.sim_text.specs.declared.line.Line.TheVariants.{Ask}
-use Rattle.sim_text.specs.declared.taken.Taken.{Taken}
+use Rattle.sim_world.specs.Lines.{line_of}
+use Rattle.sim_world.specs.Texts.{is_bad, taken_text}
+use Rattle.sim_world.specs.declared.line.Line.{Line}
+use Rattle.sim_world.specs.declared.line.Line.TheVariants.{Ask}
+use Rattle.sim_world.specs.declared.taken.Taken.{Taken}
 use Rattle.sim_world.specs.Step.{Played, Happened, beginning, step}
 use Rattle.sim_world.specs.Agreed.{EventsGrew, IsAgreedPlayed}
 use Rattle.sim_world.specs.Holds.{Holds}

@@ -5,7 +5,7 @@ use Rattle.class_tool.specs.Assembly.{TextFails}
 use Rattle.class_tool.specs.Files.{Disk, Holds}
 use Rattle.class_tool.specs.declared.failure.Failure.{Failure}
 use Rattle.pg_log.specs.Log.{Classes}
-use Rattle.sim_text.specs.Lines.{lines_of}
+use Rattle.sim_world.specs.Lines.{lines_of}
 use Rattle.class_tool.specs.Output.{Begins}
 use Rattle.sim.specs.Run.{EndsBy, Grew, IsAgreedRun, Printed, bad_line, run_lines}
 pub use Rattle.sim.specs.declared.file.SimulationEnd.{SimulationEnd}

@@ -2,7 +2,7 @@
 ghost use Rattle.std.specs.Prelude.{◌≡◌, ◌++◌, IfOk, OnOk, Some, map, string_bytes};
 ghost use Rattle.sim.specs.Run.{Does, HasBad, IsPicture, bad_line, run_lines};
 ghost use Rattle.sim.specs.Simulating.{Draws};
-ghost use Rattle.sim_text.specs.Lines.{lines_of};
+ghost use Rattle.sim_world.specs.Lines.{lines_of};
 ghost use Rattle.sim_world.specs.Holds.{Holds};
 ghost use Rattle.sim_world.specs.Step.{beginning};
 
@@ -11,8 +11,7 @@ use crate::drawn::note::{column, meant, note};
 use crate::drawn::{DrawnMessage, DrawnStep, draw};
 use crate::setup::Setup;
 use pg_log::Classes;
-use sim_text::{carried_text, lines, read_line};
-use sim_world::{KeptMessage, World};
+use sim_world::{KeptMessage, World, carried_text, lines, read_line};
 use std::alloc::{AllocError, Global};
 use std::marker::Brand;
 

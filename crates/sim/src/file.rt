@@ -1,7 +1,7 @@
 //! A run of a file's lines, each printed before the next is done.
 
 ghost use Rattle.std.specs.Prelude.{◌≡◌, IfOk, map, string_bytes};
-ghost use Rattle.sim_text.specs.Lines.{lines_of};
+ghost use Rattle.sim_world.specs.Lines.{lines_of};
 ghost use Rattle.sim.specs.Run.{EndsBy, SaysOf, Takes};
 ghost use Rattle.sim_world.specs.Holds.{Holds};
 ghost use Rattle.sim_world.specs.Step.{beginning};
@@ -10,8 +10,7 @@ use crate::bad_line::bad_line;
 use crate::setup::Setup;
 use class_tool::Output;
 use pg_log::Classes;
-use sim_text::{Taken, lines, read_line};
-use sim_world::World;
+use sim_world::{Taken, World, lines, read_line};
 use std::alloc::{AllocError, Global};
 use std::marker::Brand;
 

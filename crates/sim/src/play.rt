@@ -1,7 +1,7 @@
 //! A run of a file's lines, printed or drawn.
 
 ghost use Rattle.std.specs.Prelude.{map};
-ghost use Rattle.sim_text.specs.Lines.{lines_of};
+ghost use Rattle.sim_world.specs.Lines.{lines_of};
 ghost use Rattle.sim.specs.Run.{run_lines};
 ghost use Rattle.sim.specs.Simulating.{IsDrawn, Plays};
 

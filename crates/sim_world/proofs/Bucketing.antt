@@ -8,7 +8,7 @@ use Rattle.carried.specs.declared.message.CarriedKind.{CarriedKind}
 use Rattle.carried.specs.declared.message.CarriedKind.TheVariants.{Query, Log, Install, Installed, AskActivate, Activated, Rep, Ack, Reply}
 use Rattle.sim_world.specs.declared.kept.KeptMessage.{KeptMessage}
 use Rattle.sim_world.specs.inner.Buckets.{AreInBuckets, first_equal, is_equal_to, numbers_in, bucket, bucket_of, is_same_carried, is_same_kept, kept_number, kept_number_from}
-use Rattle.sim_text.specs.Lines.{numbered}
+use Rattle.sim_world.specs.Lines.{numbered}
 
 -- empty buckets
 abbrev pub fresh : ℕ → List (List ℕ)

@@ -20,12 +20,12 @@ use Rattle.group_world.specs.declared.message.Message.{Message}
 use Rattle.group_world.specs.declared.message.Packet.{Packet}
 use Rattle.group_world.specs.declared.event.Event.{Event}
 use Rattle.group_world.specs.declared.event.Event.TheVariants.{Request as ARequest, Map as AMap, Message as AMessage}
-use Rattle.sim_text.specs.Lines.{numbered}
-use Rattle.sim_text.specs.Texts.{made_of, shown_of}
-use Rattle.sim_text.specs.declared.line.Line.{Line}
-use Rattle.sim_text.specs.declared.line.Line.TheVariants as lines
-use Rattle.sim_text.specs.declared.taken.Taken.{Taken}
-use Rattle.sim_text.specs.declared.taken.Taken.TheVariants.{Bad, Skipped, Stopped, Sent, Refused, MonitorRefused, Made, Shown, Again}
+use Rattle.sim_world.specs.Lines.{numbered}
+use Rattle.sim_world.specs.Texts.{made_of, shown_of}
+use Rattle.sim_world.specs.declared.line.Line.{Line}
+use Rattle.sim_world.specs.declared.line.Line.TheVariants as lines
+use Rattle.sim_world.specs.declared.taken.Taken.{Taken}
+use Rattle.sim_world.specs.declared.taken.Taken.TheVariants.{Bad, Skipped, Stopped, Sent, Refused, MonitorRefused, Made, Shown, Again}
 use Rattle.sim_world.specs.Same.{number_of}
 use Rattle.sim_world.specs.Step.{Played, Happened, beginning, stays, happened, unless_stopped, unless_refused, outcome_at, makes, activates, at_node, at_monitor, deliver, deliver_to, see, set_stopped, show, step, is_node, is_stopped}
 use Rattle.sim_world.specs.Agreed.{EventsLead, EventsGrew, GoesOn, WorldsAgree, taken_by}

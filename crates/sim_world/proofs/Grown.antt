@@ -1,7 +1,7 @@
 -- Lists that grew by one item.
 use Rattle.std.proofs.Common.{◌≡◌, ◌<◌, ℕ, suc, List, [], ◌∷◌, ◌++◌, length, drop, get_or, map, sym, ap, ◌∙◌, append_assoc, drop-cons}
 use Rattle.group_world.specs.declared.message.Packet.{Packet}
-use Rattle.sim_text.specs.Kept.{kept_line}
+use Rattle.sim_world.specs.Kept.{kept_line}
 use Rattle.sim_world.specs.declared.kept.KeptMessage.{KeptMessage}
 use Rattle.sim_world.specs.inner.Parts.{kept_lines}
 

@@ -11,11 +11,11 @@ use Rattle.group_world.specs.declared.message.MessageKind.{MessageKind}
 use Rattle.group_world.specs.declared.message.MessageKind.TheVariants.{Query, Log as LogOf, Install, Installed as InstalledIn, AskActivate, Activated, Rep, Ack, Reply as ReplyTo}
 use Rattle.group_world.specs.declared.message.Packet.{Packet}
 use Rattle.peering.specs.Numbered.{NumberedNode}
-use Rattle.sim_text.specs.Kept.{carried_text}
-use Rattle.sim_text.specs.Lines.{numbered}
-use Rattle.sim_text.specs.Texts.{kind_text, word_and_two_numbers, text_between, message_lines, sent_text, last_text, taken_text}
-use Rattle.sim_text.specs.declared.taken.Taken.{Taken}
-use Rattle.sim_text.specs.declared.taken.Taken.TheVariants.{Bad, Skipped, Stopped, Sent, Refused, MonitorRefused, Made, Shown, Again}
+use Rattle.sim_world.specs.Kept.{carried_text}
+use Rattle.sim_world.specs.Lines.{numbered}
+use Rattle.sim_world.specs.Texts.{kind_text, word_and_two_numbers, text_between, message_lines, sent_text, last_text, taken_text}
+use Rattle.sim_world.specs.declared.taken.Taken.{Taken}
+use Rattle.sim_world.specs.declared.taken.Taken.TheVariants.{Bad, Skipped, Stopped, Sent, Refused, MonitorRefused, Made, Shown, Again}
 use Rattle.sim_world.specs.Holds.{HasCommitted, IsKept, AreKept, MessageShown, kept_shown, message_shown}
 use Rattle.sim_world.specs.Keeping.{kept_as}
 use Rattle.sim_world.specs.Same.{is_same_kind, is_same_packet, is_same_party, number_from, number_of}

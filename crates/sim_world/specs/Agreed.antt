@@ -4,10 +4,10 @@ use Rattle.std.specs.Prelude.{◌≡◌, ◌≤◌, List, [], ◌∷◌, ◌++�
 use Rattle.pg_log.specs.Requests.{ClientRequest}
 use Rattle.pg_log.specs.Log.{Classes}
 use Rattle.group_world.specs.World.{WorldEvent, IsAgreed, IsUncut, brought, opening, run}
-use Rattle.sim_text.specs.declared.line.Line.{Line}
-use Rattle.sim_text.specs.declared.line.Line.TheVariants as lines
-use Rattle.sim_text.specs.declared.taken.Taken.{Taken}
-use Rattle.sim_text.specs.declared.taken.Taken.TheVariants as taken
+use Rattle.sim_world.specs.declared.line.Line.{Line}
+use Rattle.sim_world.specs.declared.line.Line.TheVariants as lines
+use Rattle.sim_world.specs.declared.taken.Taken.{Taken}
+use Rattle.sim_world.specs.declared.taken.Taken.TheVariants as taken
 use Rattle.sim_world.specs.Step.{Played, beginning, step}
 
 -- the events of a played world lead to its world, from the opening one

@@ -7,10 +7,10 @@ use Rattle.group_world.specs.declared.party.Party.{Party}
 use Rattle.group_world.specs.declared.party.Party.TheVariants.{Node as ANode, Monitor as TheMonitor, Client as AClient}
 use Rattle.group_world.specs.declared.message.Packet.{Packet}
 use Rattle.peering.specs.Numbered.{NumberedNode}
-use Rattle.sim_text.specs.Kept.{carried_text}
-use Rattle.sim_text.specs.Texts.{kind_text, taken_text}
-use Rattle.sim_text.specs.declared.line.Line.{Line}
-use Rattle.sim_text.specs.declared.taken.Taken.{Taken}
+use Rattle.sim_world.specs.Kept.{carried_text}
+use Rattle.sim_world.specs.Texts.{kind_text, taken_text}
+use Rattle.sim_world.specs.declared.line.Line.{Line}
+use Rattle.sim_world.specs.declared.taken.Taken.{Taken}
 use Rattle.sim_world.specs.Agreed.{EventsLead, GoesOn}
 use Rattle.sim_world.specs.Keeping.{kept_as}
 use Rattle.sim_world.specs.Step.{Played, is_node, step}

@@ -19,13 +19,13 @@ use Rattle.group_world.specs.declared.message.Message.{Message}
 use Rattle.group_world.specs.declared.message.Packet.{Packet}
 use Rattle.group_world.specs.declared.event.Event.{Event}
 use Rattle.group_world.specs.declared.event.Event.TheVariants.{Request as ARequest, Map as AMap, Message as AMessage}
-use Rattle.sim_text.specs.Lines.{numbered}
-use Rattle.sim_text.specs.Texts.{made_of, shown_of}
-use Rattle.sim_text.specs.declared.line.Line.{Line}
-use Rattle.sim_text.specs.declared.line.Line.TheVariants as lines
-use Rattle.sim_text.specs.declared.taken.Taken.{Taken}
-use Rattle.sim_text.specs.declared.taken.Taken.TheVariants.{Bad, Skipped, Stopped, Sent, Refused, MonitorRefused, Made}
-use Rattle.sim_text.specs.declared.taken.Taken.TheVariants.{Shown, Again}
+use Rattle.sim_world.specs.Lines.{numbered}
+use Rattle.sim_world.specs.Texts.{made_of, shown_of}
+use Rattle.sim_world.specs.declared.line.Line.{Line}
+use Rattle.sim_world.specs.declared.line.Line.TheVariants as lines
+use Rattle.sim_world.specs.declared.taken.Taken.{Taken}
+use Rattle.sim_world.specs.declared.taken.Taken.TheVariants.{Bad, Skipped, Stopped, Sent, Refused, MonitorRefused, Made}
+use Rattle.sim_world.specs.declared.taken.Taken.TheVariants.{Shown, Again}
 use Rattle.sim_world.specs.Same.{number_of}
 
 -- A PLAYED WORLD: the world of the group, which of the nodes 0 to 15 are stopped, and the events of

@@ -3,19 +3,20 @@ ghost use Rattle.std.specs.Prelude.{◌≡◌, IfOk};
 ghost use Rattle.carried.specs.Carried.{message_of};
 ghost use Rattle.group_world.specs.Monitor.{activation_refusal};
 ghost use Rattle.group_world.specs.World.{activated_for};
-ghost use Rattle.sim_text.specs.Lines.{numbered};
+ghost use Rattle.sim_world.specs.Lines.{numbered};
 ghost use Rattle.sim_world.specs.inner.Parts.{activated, asked_of, at_monitor, delivered, delivered_at, delivery_of};
 ghost use Rattle.sim_world.specs.inner.Parts.{nth_node};
 
+use crate::counted::numbered;
 use crate::keeping::keep;
 use crate::kept::KeptMessage;
 use crate::parts::Parts;
+use crate::taken::Taken;
 use carried::{CarriedKind, CarriedMessage, message_of};
 use group_world::{Epoch, Event, Message, MessageKind, Packet, Party};
 use peering::GroupNode;
 use pg_log::{ClassTable, Classes};
 use placement::NodeId;
-use sim_text::{Taken, numbered};
 use std::alloc::{AllocError, Global};
 
 /// A delivery.

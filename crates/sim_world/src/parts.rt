@@ -1,22 +1,24 @@
 ghost use Rattle.std.specs.Prelude.{◌≡◌, ◌&&◌, not, IfOk, IsTrue, IsFalse, option_copied, slice_get, string_bytes};
 ghost use Rattle.group_world.specs.Monitor.{map_refusal};
 ghost use Rattle.group_world.specs.Rules.{local_step};
-ghost use Rattle.sim_text.specs.Lines.{numbered};
-ghost use Rattle.sim_text.specs.Texts.{made_of, shown_of};
+ghost use Rattle.sim_world.specs.Lines.{numbered};
+ghost use Rattle.sim_world.specs.Texts.{made_of, shown_of};
 ghost use Rattle.sim_world.specs.inner.Parts.{Turn, first_parts, fresh_nodes, turn, has_node, has_stopped, seen, shown};
 ghost use Rattle.sim_world.specs.inner.Parts.{arrives, map_made, stop_set, sent_again, resent, unless_held, handled};
 ghost use Rattle.sim_world.specs.inner.Parts.{kept_taken, IsTaken};
 
+use crate::counted::numbered;
 use crate::keeping::keep_sent;
 use crate::kept::KeptMessage;
+use crate::line::Line;
 use crate::same::numbers_of;
 use crate::sent::Sent;
+use crate::taken::{MapMade, NodeShown, Taken};
 use crate::text::taken_text;
 use group_world::{Event, GroupMap, HandleError, Messages, MonitorError};
 use peering::{GroupNode, Monitor};
 use pg_log::{ClassTable, Classes};
 use placement::NodeId;
-use sim_text::{Line, MapMade, NodeShown, Taken, numbered};
 use std::alloc::{AllocError, Global};
 use std::marker::Model;
 

@@ -5,12 +5,12 @@ ghost use Rattle.sim_world.specs.inner.Buckets.{again_number, is_query, is_insta
 ghost use Rattle.sim_world.specs.inner.Buckets.{is_same_kept};
 
 use crate::kept::KeptMessage;
+use crate::numbers::Numbers;
 use crate::sent::Sent;
 use carried::CarriedKind;
 use group_world::{Epoch, GroupMap, Packet, Party, Place, Requests};
 use peering_messages::{are_same, is_same_request};
 use pg_log::{Request, are_same_requests};
-use sim_text::Numbers;
 use std::alloc::{AllocError, Global};
 
 fn is_same_map(map: &GroupMap, other: &GroupMap) -> bool

@@ -1,13 +1,14 @@
 //! The messages that were sent.
 ghost use Rattle.std.specs.Prelude.{◌≡◌, ◌≤◌, ◌<◌, ◌++◌, ◌∷◌, [], length, suc, IfOk, OnOk, OnErr, slice_index_or};
 ghost use Rattle.std.specs.Prelude.{slice_set};
-ghost use Rattle.sim_text.specs.Lines.{numbered};
+ghost use Rattle.sim_world.specs.Lines.{numbered};
 ghost use Rattle.sim_world.specs.inner.Buckets.{AreInBuckets, bucket, first_equal, is_equal_to, kept_number};
 
+use crate::counted::numbered;
 use crate::kept::KeptMessage;
+use crate::numbers::Numbers;
 use crate::same::is_same_kept;
 use carried::CarriedKind;
-use sim_text::{Numbers, numbered};
 use std::alloc::{AllocError, Global};
 use std::marker::Model;
 

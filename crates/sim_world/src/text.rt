@@ -1,11 +1,13 @@
 //! Prints what came of a line.
 ghost use Rattle.std.specs.Prelude.{◌≡◌, IfOk, string_bytes};
-ghost use Rattle.sim_text.specs.Texts.{said_text};
+ghost use Rattle.sim_world.specs.Texts.{said_text};
 ghost use Rattle.sim_world.specs.inner.Parts.{ended, kept_lines, kept_taken, kept_text, last_kept};
 
 use crate::kept::KeptMessage;
+use crate::message_text::message_line;
 use crate::sent::next_number;
-use sim_text::{Taken, again_text, message_line, said_text};
+use crate::taken::Taken;
+use crate::taken_text::{again_text, said_text};
 use std::alloc::{AllocError, Global};
 
 /// Messages, from a number on.

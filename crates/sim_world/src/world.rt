@@ -3,13 +3,14 @@ ghost use Rattle.sim_world.specs.Holds.{AreShown, Holds, IsNodeAt, Says, Steps};
 ghost use Rattle.sim_world.specs.Step.{beginning};
 
 use crate::kept::KeptMessage;
+use crate::line::Line;
 use crate::parts::Parts;
+use crate::taken::Taken;
 use group_world::{agreement, nothing_is_cut};
 use peering::GroupNode;
 use pg_log::{ClassTable, Classes};
 use placement::NodeId;
 use replication::packed_lists;
-use sim_text::{Line, Taken};
 use std::alloc::{AllocError, Global};
 use std::marker::Model;
 

@@ -1,7 +1,7 @@
 //! Lines of a file of events, as they are read.
 use pg_log::Request;
 use placement::NodeId;
-use sim_text::{Line, lines, numbered, read_line};
+use sim_world::{Line, lines, numbered, read_line};
 use std::process::Abort;
 
 /// Lines, with a letter for what each says and its last number: of a list of nodes how many there

@@ -5,7 +5,7 @@ use crate::drawn::drawn_step::{DrawnStep, What};
 use escaped_text::push_escaped;
 use group_world::Party;
 use placement::NodeId;
-use sim_text::{Line, Taken, said_text};
+use sim_world::{Line, Taken, said_text};
 use std::alloc::{AllocError, Global};
 
 /// The column of a node; a number past 255 counts as that, and no node has it.

@@ -8,7 +8,7 @@ use Rattle.group_world.specs.Rules.{is_same_request}
 use Rattle.group_world.specs.declared.message.Packet.{Packet}
 use Rattle.carried.specs.declared.message.CarriedKind.{CarriedKind}
 use Rattle.carried.specs.declared.message.CarriedKind.TheVariants.{Query, Install, AskActivate, Rep}
-use Rattle.sim_text.specs.Lines.{numbered}
+use Rattle.sim_world.specs.Lines.{numbered}
 use Rattle.sim_world.specs.Keeping.{kept_as}
 use Rattle.sim_world.specs.Same.{is_same_map, are_same_requests, is_same_party}
 use Rattle.sim_world.specs.declared.kept.KeptMessage.{KeptMessage}

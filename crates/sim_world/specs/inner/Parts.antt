@@ -24,14 +24,14 @@ use Rattle.group_world.specs.declared.message.Packet.{Packet}
 use Rattle.group_world.specs.declared.event.Event.{Event}
 use Rattle.group_world.specs.declared.event.Event.TheVariants.{Request as ARequest, Map as AMap, Message as AMessage}
 use Rattle.peering.specs.Numbered.{NumberedNode, IsDone}
-use Rattle.sim_text.specs.Kept.{kept_line}
-use Rattle.sim_text.specs.Lines.{numbered}
-use Rattle.sim_text.specs.Texts.{again_text, made_of, said_text, shown_of}
-use Rattle.sim_text.specs.declared.line.Line.{Line}
-use Rattle.sim_text.specs.declared.line.Line.TheVariants as lines
-use Rattle.sim_text.specs.declared.taken.Taken.{Taken}
-use Rattle.sim_text.specs.declared.taken.Taken.TheVariants.{Bad, Skipped, Stopped, Sent, Refused, MonitorRefused, Made}
-use Rattle.sim_text.specs.declared.taken.Taken.TheVariants.{Shown, Again}
+use Rattle.sim_world.specs.Kept.{kept_line}
+use Rattle.sim_world.specs.Lines.{numbered}
+use Rattle.sim_world.specs.Texts.{again_text, made_of, said_text, shown_of}
+use Rattle.sim_world.specs.declared.line.Line.{Line}
+use Rattle.sim_world.specs.declared.line.Line.TheVariants as lines
+use Rattle.sim_world.specs.declared.taken.Taken.{Taken}
+use Rattle.sim_world.specs.declared.taken.Taken.TheVariants.{Bad, Skipped, Stopped, Sent, Refused, MonitorRefused, Made}
+use Rattle.sim_world.specs.declared.taken.Taken.TheVariants.{Shown, Again}
 use Rattle.sim_world.specs.declared.deliver.Delivery.{Delivery}
 use Rattle.sim_world.specs.declared.deliver.Delivery.TheVariants.{ToNode, ToMonitor, ToClient}
 use Rattle.sim_world.specs.declared.kept.KeptMessage.{KeptMessage}

@@ -1,6 +1,0 @@
-use Rattle.std.proofs.Common.{arith}
-use Rattle.std.proofs.lemmas.Grind.{elements}
-use Rattle.sim_text.proofs.counted.numbered.Goals as goal
-
-pub returns : goal.returns
-returns g c = grind (arith, elements)

@@ -1,9 +1,0 @@
-use Rattle.std.proofs.Common.{arith}
-use Rattle.std.proofs.lemmas.Grind.{common_steps}
-use Rattle.sim_text.proofs.line.with_args.Goals as goal
-
-pub returns-then-eq : goal.returns-then-eq
-returns-then-eq c = grind (arith, common_steps)
-
-pub returns-then-eq-3 : goal.returns-then-eq-3
-returns-then-eq-3 c = grind (arith, common_steps)
