@@ -378,6 +378,74 @@ UNSEEN = [
 ]
 
 
+# Bad lines of a file of events.
+SIM_MISTAKES = r"""
+sim - --explain / map 1 / halt / show 1
+=> 1 map 1 prev 0 / line 2: bad // line 2: halt // `halt` begins no line //
+    wanted: first `map`, `see`, `req`, `deliver`, `stop`, `go`, `resend` or `show` // see docs/PROGRAM.md, sim
+sim - --explain / Shwo 1
+=> 1 line 1: bad // line 1: Shwo 1 // `Shwo` begins no line; the nearest word that does is `show` //
+    wanted: first `map`, `see`, `req`, `deliver`, `stop`, `go`, `resend` or `show` // see docs/PROGRAM.md, sim
+sim - --explain / reset 1
+=> 1 line 1: bad // line 1: reset 1 // `reset` begins no line; the nearest word that does is `resend` //
+    wanted: first `map`, `see`, `req`, `deliver`, `stop`, `go`, `resend` or `show` // see docs/PROGRAM.md, sim
+sim - --explain / see 1
+=> 1 line 1: bad // line 1: see 1 // words are missing // form: `see N E` // see docs/PROGRAM.md, sim
+sim - --explain / deliver 1 2
+=> 1 line 1: bad // line 1: deliver 1 2 // `2` is one word too many // form: `deliver M` // see docs/PROGRAM.md, sim
+sim - --explain / map 1 01
+=> 1 line 1: bad // line 1: map 1 01 // `01` is no number: decimal digits, no sign and no leading zero //
+    form: `map N ..` // see docs/PROGRAM.md, sim
+sim - --explain / stop m1
+=> 1 line 1: bad // line 1: stop m1 // `m1` is no number: decimal digits, no sign and no leading zero //
+    form: `stop N` // see docs/PROGRAM.md, sim
+sim - --explain / req 1 1 4294967296 a lock lock -
+=> 1 line 1: bad // line 1: req 1 1 4294967296 a lock lock - // `4294967296` is no number from 1 to 4294967295 //
+    form: `req N CLIENT NUMBER OBJECT CLASS METHOD HEX` // see docs/PROGRAM.md, sim
+sim - --explain / req 1 0 1 a lock lock 0
+=> 1 line 1: bad // line 1: req 1 0 1 a lock lock 0 // `0` is no number from 1 to 4294967295 //
+    form: `req N CLIENT NUMBER OBJECT CLASS METHOD HEX` // see docs/PROGRAM.md, sim
+sim - --explain / req 1 1 1 a lock lock 0x
+=> 1 line 1: bad // line 1: req 1 1 1 a lock lock 0x //
+    `0x` isn't in hexadecimal: two digits a byte, or - for no byte //
+    form: `req N CLIENT NUMBER OBJECT CLASS METHOD HEX` // see docs/PROGRAM.md, sim
+sim - --explain / req 1 1 1 a lock lock 012
+=> 1 line 1: bad // line 1: req 1 1 1 a lock lock 012 //
+    `012` isn't in hexadecimal: two digits a byte, or - for no byte //
+    form: `req N CLIENT NUMBER OBJECT CLASS METHOD HEX` // see docs/PROGRAM.md, sim
+sim - --explain / go 16
+=> 1 line 1: bad // line 1: go 16 // there is no node 16: they are 0 to 15 // form: `go N` //
+    see docs/PROGRAM.md, sim
+sim - --explain / map 1 / map 2 / see 1 3
+=> 1 map 1 prev 0 / map 2 prev 0 / line 3: bad // line 3: see 1 3 // there is no map 3: made so far are 2 //
+    form: `see N E` // see docs/PROGRAM.md, sim
+sim - --explain / deliver 0
+=> 1 line 1: bad // line 1: deliver 0 // there is no message 0: sent so far are 0 // form: `deliver M` //
+    see docs/PROGRAM.md, sim
+sim - --explain --trace / map 1 / see 1 1 / deliver 2
+=> 1 1           mon         event / |           *           map 1: map 1 prev 0 / *           |           see 1 1 => m1
+    / |--m1----x  |           AskActivate 1, lost / line 3: bad // line 3: deliver 2 //
+    there is no message 2: sent so far are 1 // form: `deliver M` // see docs/PROGRAM.md, sim
+sim missing --explain
+=> 1 cannot read // missing: No such file or directory (os error 2)
+sim locks.sim --class a=missing --explain
+=> 1 cannot read // missing: No such file or directory (os error 2)
+"""
+LONG_NAME = "a" * 256
+# What can't be seen in a line, what a terminal obeys, and a name that is too long.
+SIM_LINES = [
+    (b"show 1\r\nshow 2\r\n",
+     r"line 1: show 1\x0d // the line ends with CR LF: end each line with LF alone // form: `show N`"),
+    (b"\xef\xbb\xbfshow 1\n",
+     r"line 1: \xef\xbb\xbfshow 1 // the text begins with a byte order mark: leave it out"),
+    (b"show \x1b[2J\n",
+     r"line 1: show \x1b[2J // `\x1b[2J` is no number: decimal digits, no sign and no leading zero // form: `show N`"),
+    (f"req 1 1 1 {LONG_NAME} lock lock -\n".encode(),
+     f"line 1: req 1 1 1 {LONG_NAME} lock lock - // the object's name has 256 bytes: at most 255 // "
+     "form: `req N CLIENT NUMBER OBJECT CLASS METHOD HEX`"),
+]
+
+
 def mistakes(table):
     """The rows of mistakes: of each the text that is refused, and the one that is accepted."""
     lines = table.strip("\n").replace("\n    ", " ").split("\n")
@@ -451,7 +519,9 @@ IMAGES = [
 ]
 
 EXPLAINED_ROWS = [
-    *rows_of(EXPLAINED), *mistakes(MISTAKES), *mistakes(TEXT_MISTAKES),
+    *rows_of(EXPLAINED), *mistakes(MISTAKES), *mistakes(TEXT_MISTAKES), *rows_of(SIM_MISTAKES),
+    *(Row("sim - --explain", lines_of(f"line 1: bad // {said} // see docs/PROGRAM.md, sim"), "", 1, stdin=text)
+      for text, said in SIM_LINES),
     *(Row("verify - --explain", lines_of(said), "", 1, stdin=text) for text, said in UNSEEN),
     *(Row("verify - --all --explain", lines_of(f"image refused after {said} // {IMAGE_WANTED}"), "", 1, stdin=image)
       for image, said in IMAGES),

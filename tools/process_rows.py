@@ -149,7 +149,7 @@ COMMANDS = {
     "asm": (["<IN>", "<OUT>"], {"--explain": ""}),
     "pack": (["<OUT>", "<METHOD>..."], {"--rules": " <N>", "--explain": ""}),
     "dis": (["<IN>"], {"--slots": "", "--explain": ""}),
-    "sim": (["<FILE>"], {"--class": " <NAME=IMAGE>", "--trace": ""}),
+    "sim": (["<FILE>"], {"--class": " <NAME=IMAGE>", "--trace": "", "--explain": ""}),
     "cluster": (["<FILE>"], {"--class": " <NAME=IMAGE>", "--show": "", "--stats": ""}),
 }
 # Words that each command does, and a value of each option that is right.

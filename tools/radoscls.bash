@@ -18,7 +18,7 @@ _radoscls() {
         asm) words="--explain --help" ;;
         pack) words="--rules --explain --help" ;;
         dis) words="--slots --explain --help" ;;
-        sim) words="--class --trace --help" ;;
+        sim) words="--class --trace --explain --help" ;;
         cluster) words="--class --show --stats --help" ;;
         *) return ;;
     esac

@@ -217,6 +217,7 @@ if [ "$radoscls" != - ]; then
         'dis 0 dis keep.img --slots'
         'sim 0 sim lost_ack.sim --class keep=keep.img'
         'wrong_sim 1 sim wrong.sim'
+        'told_sim 1 sim wrong.sim --explain'
         'trace 0 sim --trace lost_ack.sim'
         'cluster 0 cluster one.cluster --class keep=keep.img --stats'
         'map 0 cluster map.cluster'

@@ -1,8 +1,8 @@
 -- The command line: `verify IN [--all] [--explain]`, `run IN METHOD [--input HEX] [--caller N]
 -- [--object HEX] [--xattr NAME=HEX ..] [--key KEY=HEX ..] [--load FILE] [--save FILE] [--show]
 -- [--explain]`, `test IN FILE`, `asm IN OUT [--explain]`, `pack OUT METHOD .. [--rules N]
--- [--explain]`, `dis IN [--slots] [--explain]`, `sim FILE [--class NAME=IMAGE ..] [--trace]`, and
--- `cluster FILE [--class NAME=IMAGE ..] [--show] [--stats]`.
+-- [--explain]`, `dis IN [--slots] [--explain]`, `sim FILE [--class NAME=IMAGE ..] [--trace]
+-- [--explain]`, and `cluster FILE [--class NAME=IMAGE ..] [--show] [--stats]`.
 use Rattle.std.specs.Prelude.{[], ◌∷◌, Option, Some, true, codes}
 use Rattle.clap.specs.Lexer.{usize_max}
 use Rattle.clap.specs.Words.{App, Rule, Text, new_app, new_rule, with_rule, with_subcommand}
@@ -98,8 +98,8 @@ trace_rule = flag_rule (codes "trace")
 
 -- `sim`, which plays a file of events
 abbrev pub sim_line : App
-sim_line = with_rule (with_rule (with_rule (new_app (codes "sim")) (required_rule (codes "FILE"))) class_rule)
-    trace_rule
+sim_line = with_rule (with_rule (with_rule (with_rule (new_app (codes "sim")) (required_rule (codes "FILE")))
+    class_rule) trace_rule) explain_rule
 
 -- the flag that has a run measured
 abbrev pub stats_rule : Rule

@@ -196,7 +196,8 @@ fn sim_command<'a>(alloc: Global) -> Result<Command<'a>, AllocError>
     };
     let of_events = file_command(alloc, heading, "FILE", "The file of events");
     let trace = flag(alloc, "trace", "Draws the run as a message sequence");
-    with_arg(with_arg(of_events, class_option(alloc)), trace)
+    let of_classes = with_arg(of_events, class_option(alloc));
+    with_arg(with_arg(of_classes, trace), explain_flag(alloc))
 }
 
 fn cluster_command<'a>(alloc: Global) -> Result<Command<'a>, AllocError>

@@ -89,12 +89,13 @@ TakesAction p (Pack asked) = TakesPacking p asked
 TakesAction p (Disassemble image has_slots) =
     (one_in p (codes "IN") ≡ Some image.now) × (has_slots ≡ is_set_in p (codes "slots"))
 
--- `sim` takes the file of events FILE, a tenant's class of each --class, and whether --trace is
--- there.
+-- `sim` takes the file of events FILE, a tenant's class of each --class, and whether --trace and
+-- --explain are there.
 pub record TakesSim (p : Parsed) (s : Simulation) : Type 0 where
   pub file : one_in p (codes "FILE") ≡ Some s.file.now
   pub tenants : SpellsTenants (all_in p (codes "class")) s.tenants.items
   pub drawn : s.is_drawn ≡ is_set_in p (codes "trace")
+  pub explained : s.is_explained ≡ is_set_in p (codes "explain")
 
 -- `cluster` takes the file of calls and maps FILE, a tenant's class of each --class, and whether
 -- --show is there.

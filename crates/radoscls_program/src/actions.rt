@@ -240,6 +240,7 @@ pub(crate) fn simulation_of<'a>(
         file,
         tenants,
         is_drawn: words.is_set("trace"),
+        is_explained: words.is_set("explain"),
     })
 }
 

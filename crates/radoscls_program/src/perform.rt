@@ -14,7 +14,7 @@ use crate::asked::asked;
 use crate::judging::judge;
 use crate::status::ExitStatus;
 use crate::task::{ClusterTask, Task};
-use crate::telling::{refuse, tell};
+use crate::telling::{add, asked_note, refuse, tell};
 use crate::testing::test;
 use crate::threads::play_cluster;
 use crate::values::{call_with, filled};
@@ -104,8 +104,9 @@ fn act_call<F: Files, O: Output, E: io::Write>(
     }
 }
 
-/// Plays a file of events, and prints why if that comes to nothing or ends for want of memory.
-fn play<F: Reads, O: Output>(
+/// Plays a file of events, and prints why if that comes to nothing, ends for want of memory, or if
+/// it is asked for, at a bad line.
+fn play<F: Files, O: Output>(
     alloc: Global,
     files: &F,
     simulation: &Simulation<'_>,
@@ -114,12 +115,14 @@ fn play<F: Reads, O: Output>(
     ensures { SimEnds (F.disk files.now) (stream O.printed O.failed out.old)
         (stream O.printed O.failed out.new) simulation.now result }
 {
-    match simulate(alloc, files, simulation, out) {
+    let is_explained = simulation.is_explained;
+    let mut why = String::new(alloc);
+    match simulate(alloc, files, simulation, &mut why, out) {
         Ok(SimulationEnd::Done) => ExitStatus::Done,
-        Ok(SimulationEnd::Bad) => ExitStatus::Refused,
+        Ok(SimulationEnd::Bad) => add(&asked_note(alloc, why, is_explained), out),
         Ok(SimulationEnd::Unprinted) => ExitStatus::Refused,
         Ok(SimulationEnd::NoMemory) => refuse(Failure::NoMemory, out),
-        Err(failure) => refuse(failure, out),
+        Err(failure) => tell(alloc, files, &Failed::from(failure), is_explained, out),
     }
 }
 

@@ -30,6 +30,26 @@ fn note_of<F: Files>(alloc: Global, files: &F, failed: &Failed, is_explained: bo
     }
 }
 
+/// A note, if it is asked for.
+pub(crate) fn asked_note(alloc: Global, note: String, is_explained: bool) -> String
+    ensures { IsNote is_explained (string_bytes result) }
+{
+    if is_explained {
+        note
+    } else {
+        String::new(alloc)
+    }
+}
+
+/// Prints a note below what was refused.
+pub(crate) fn add<O: Output>(note: &str, out: &mut O) -> ExitStatus
+    ensures status { result ≡ ExitStatus.Refused }
+    ensures printed { IsPrinted (stream O.printed O.failed out.old) (stream O.printed O.failed out.new) note.now }
+{
+    let _ = out.print(note);
+    ExitStatus::Refused
+}
+
 /// Prints a failure's line, and a note.
 fn say<O: Output>(failure: Failure, note: &str, out: &mut O)
     ensures { IsPrinted (stream O.printed O.failed out.old) (stream O.printed O.failed out.new)

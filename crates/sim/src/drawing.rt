@@ -10,6 +10,7 @@ use crate::bad_line::bad_line;
 use crate::drawn::note::{column, meant, note};
 use crate::drawn::{DrawnMessage, DrawnStep, draw};
 use crate::setup::Setup;
+use crate::why::why;
 use pg_log::Classes;
 use sim_world::{KeptMessage, World, carried_text, lines, read_line};
 use std::alloc::{AllocError, Global};
@@ -70,6 +71,7 @@ fn take_lines<C: Classes>(
     lines: &[&str],
     world: &mut World<C>,
     steps: &mut Vec<DrawnStep>,
+    note: &mut String,
 ) -> Result<Option<usize>, AllocError>
     requires classes { setup.now.table.now ≡ C.classes }
     requires first { Holds C.classes world.old (beginning C.classes) }
@@ -80,6 +82,7 @@ fn take_lines<C: Classes>(
     for line in lines {
         number += 1;
         if take_line(setup, world, line, steps)? {
+            *note = why(setup, world, number, line);
             return Ok(Some(number));
         }
     }
@@ -127,6 +130,7 @@ fn trace_from<C: Classes>(
     setup: &Setup<'_>,
     lines: &[&str],
     world: &mut World<C>,
+    note: &mut String,
 ) -> Result<Traced, AllocError>
     requires classes { setup.now.table.now ≡ C.classes }
     requires first { Holds C.classes world.old (beginning C.classes) }
@@ -135,30 +139,34 @@ fn trace_from<C: Classes>(
         (string_bytes t.text) t.bad) }
 {
     let mut steps = Vec::new(setup.alloc);
-    let bad = take_lines(setup, lines, world, &mut steps)?;
+    let bad = take_lines(setup, lines, world, &mut steps, note)?;
     let messages = messages(setup.alloc, world.sent())?;
     drawn(setup.alloc, &messages, &steps, bad)
 }
 
 /// Does lines from the first world on, and draws what happened.
-fn trace_lines<C: Classes>(setup: &Setup<'_>, lines: &[&str]) -> Result<Traced, AllocError>
+fn trace_lines<C: Classes>(
+    setup: &Setup<'_>,
+    lines: &[&str],
+    note: &mut String,
+) -> Result<Traced, AllocError>
     requires { setup.now.table.now ≡ C.classes }
     ensures { IfOk result
         (λ t. Draws (run_lines setup.now.table.now (map (λ n. n.now) setup.now.names.now) (map (λ l. l.now) lines.now))
         (string_bytes t.text) t.bad) }
 {
     let mut world = World::<C>::new(setup.alloc)?;
-    trace_from(setup, lines, &mut world)
+    trace_from(setup, lines, &mut world, note)
 }
 
 /// Does the lines of a text as `run` does, and draws what happened, once all are done or one is
 /// bad. It fails for want of memory alone.
-pub(crate) fn trace(setup: &Setup<'_>, text: &str) -> Result<Traced, AllocError>
+pub(crate) fn trace(setup: &Setup<'_>, text: &str, note: &mut String) -> Result<Traced, AllocError>
     ensures { IfOk result
         (λ t. Draws (run_lines setup.now.table.now (map (λ n. n.now) setup.now.names.now) (lines_of text.now))
         (string_bytes t.text) t.bad) }
 {
     let lines = lines(setup.alloc, text)?;
     // The call picks the classes: they are the table's.
-    trace_lines::<Brand>(setup, &lines)
+    trace_lines::<Brand>(setup, &lines, note)
 }

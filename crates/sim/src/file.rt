@@ -8,6 +8,7 @@ ghost use Rattle.sim_world.specs.Step.{beginning};
 
 use crate::bad_line::bad_line;
 use crate::setup::Setup;
+use crate::why::why;
 use class_tool::Output;
 use pg_log::Classes;
 use sim_world::{Taken, World, lines, read_line};
@@ -74,6 +75,7 @@ fn run_from<C: Classes, O: Output>(
     setup: &Setup<'_>,
     lines: &[&str],
     world: &mut World<C>,
+    note: &mut String,
     out: &mut O,
 ) -> SimulationEnd
     requires classes { setup.now.table.now ≡ C.classes }
@@ -91,6 +93,7 @@ fn run_from<C: Classes, O: Output>(
                 }
                 let is_bad = taken.is_bad;
                 if is_bad {
+                    *note = why(setup, world, number, line);
                     return SimulationEnd::Bad;
                 }
             }
@@ -101,13 +104,18 @@ fn run_from<C: Classes, O: Output>(
 }
 
 /// Does lines, one after the other.
-fn run_lines<C: Classes, O: Output>(setup: &Setup<'_>, lines: &[&str], out: &mut O) -> SimulationEnd
+fn run_lines<C: Classes, O: Output>(
+    setup: &Setup<'_>,
+    lines: &[&str],
+    note: &mut String,
+    out: &mut O,
+) -> SimulationEnd
     requires { setup.now.table.now ≡ C.classes }
     ensures { EndsBy setup.now.table.now (map (λ n. n.now) setup.now.names.now) (map (λ l. l.now) lines.now)
         (O.printed out.old) (O.printed out.new) (O.failed out.old) (O.failed out.new) result }
 {
     match World::<C>::new(setup.alloc) {
-        Ok(mut world) => run_from(setup, lines, &mut world, out),
+        Ok(mut world) => run_from(setup, lines, &mut world, note, out),
         Err(_) => SimulationEnd::NoMemory,
     }
 }
@@ -115,15 +123,21 @@ fn run_lines<C: Classes, O: Output>(setup: &Setup<'_>, lines: &[&str], out: &mut
 /// Does the lines of a text, and prints of each what it comes to before the next is done. Requests
 /// go to the classes by their names; another word is a class that isn't loaded.
 ///
-/// It ends with `Bad` at the first bad line, whose number is printed; with `NoMemory` if memory
-/// is refused, and then prints nothing of that line; and if a write or a flush fails.
-pub(crate) fn run<O: Output>(setup: &Setup<'_>, text: &str, out: &mut O) -> SimulationEnd
+/// It ends with `Bad` at the first bad line, whose number is printed, and why it is bad is noted;
+/// with `NoMemory` if memory is refused, and then prints nothing of that line; and if a write or a
+/// flush fails.
+pub(crate) fn run<O: Output>(
+    setup: &Setup<'_>,
+    text: &str,
+    note: &mut String,
+    out: &mut O,
+) -> SimulationEnd
     ensures { EndsBy setup.now.table.now (map (λ n. n.now) setup.now.names.now) (lines_of text.now) (O.printed out.old)
         (O.printed out.new) (O.failed out.old) (O.failed out.new) result }
 {
     match lines(setup.alloc, text) {
         // The call picks the classes: they are the table's.
-        Ok(lines) => run_lines::<Brand, O>(setup, &lines, out),
+        Ok(lines) => run_lines::<Brand, O>(setup, &lines, note, out),
         Err(_) => SimulationEnd::NoMemory,
     }
 }

@@ -16,6 +16,7 @@ mod play;
 mod setup;
 mod tool;
 mod verified;
+mod why;
 
 pub use asked::Simulation;
 pub use drawn::{Column, DrawnMessage, DrawnStep, What, draw};

@@ -11,11 +11,11 @@ use crate::setup::Setup;
 use class_tool::Output;
 
 /// Draws the run of a text, and prints the drawing once all lines are done or one is bad.
-fn draw<O: Output>(setup: &Setup<'_>, text: &str, out: &mut O) -> SimulationEnd
+fn draw<O: Output>(setup: &Setup<'_>, text: &str, note: &mut String, out: &mut O) -> SimulationEnd
     ensures { IsDrawn (run_lines setup.now.table.now (map (λ n. n.now) setup.now.names.now) (lines_of text.now))
         (O.printed out.old) (O.printed out.new) (O.failed out.old) (O.failed out.new) result }
 {
-    let Ok(traced) = trace(setup, text) else {
+    let Ok(traced) = trace(setup, text, note) else {
         return SimulationEnd::NoMemory;
     };
     let bad = traced.bad;
@@ -26,19 +26,21 @@ fn draw<O: Output>(setup: &Setup<'_>, text: &str, out: &mut O) -> SimulationEnd
     }
 }
 
-/// Does the lines of a text, and prints of each what it comes to, or the drawing of them all.
+/// Does the lines of a text, and prints of each what it comes to, or the drawing of them all. Why a
+/// line is bad is noted, if that is to be explained.
 pub(crate) fn play<O: Output>(
     setup: &Setup<'_>,
     text: &str,
     is_drawn: bool,
+    note: &mut String,
     out: &mut O,
 ) -> SimulationEnd
     ensures { Plays is_drawn setup.now.table.now (map (λ n. n.now) setup.now.names.now) text.now (O.printed out.old)
         (O.printed out.new) (O.failed out.old) (O.failed out.new) result }
 {
     if is_drawn {
-        draw(setup, text, out)
+        draw(setup, text, note, out)
     } else {
-        run(setup, text, out)
+        run(setup, text, note, out)
     }
 }

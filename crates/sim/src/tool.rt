@@ -17,6 +17,9 @@ use tenant_classes::{class_names, classes};
 /// before the next is done, or draws them all. Requests go to `lock` (0), `obj` (1) and the
 /// tenants' classes, by their names.
 ///
+/// If a line is bad, and it is to be explained, `note` gets the lines that do so; else it stays.
+/// Nothing is claimed of them.
+///
 /// A failure says why no line was done, the first reason in this order: a built-in class can't be
 /// had, which memory alone is known to cause; a tenant's class can't be loaded, the first one
 /// in their order; the file can't be read or is no text. Nothing was printed then.
@@ -24,6 +27,7 @@ pub fn simulate<F: Reads, O: Output>(
     alloc: Global,
     files: &F,
     simulation: &Simulation<'_>,
+    note: &mut String,
     out: &mut O,
 ) -> Result<SimulationEnd, Failure>
     ensures ends { IfOk result (Simulates (F.disk files.now) simulation.now (O.printed out.old) (O.printed out.new)
@@ -40,6 +44,7 @@ pub fn simulate<F: Reads, O: Output>(
         alloc,
         table: &table,
         names: &names,
+        is_explained: simulation.is_explained,
     };
-    Ok(play(&setup, &text, simulation.is_drawn, out))
+    Ok(play(&setup, &text, simulation.is_drawn, note, out))
 }

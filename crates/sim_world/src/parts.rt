@@ -1,4 +1,5 @@
-ghost use Rattle.std.specs.Prelude.{◌≡◌, ◌&&◌, not, IfOk, IsTrue, IsFalse, option_copied, slice_get, string_bytes};
+ghost use Rattle.std.specs.Prelude.{◌≡◌, ◌&&◌, not, length, IfOk, IsTrue, IsFalse, option_copied, slice_get};
+ghost use Rattle.std.specs.Prelude.{string_bytes};
 ghost use Rattle.group_world.specs.Monitor.{map_refusal};
 ghost use Rattle.group_world.specs.Rules.{local_step};
 ghost use Rattle.sim_world.specs.Lines.{numbered};
@@ -85,6 +86,13 @@ impl<C: Classes> Parts<C> {
         ensures { result.now ≡ self.now.sent }
     {
         self.sent.items()
+    }
+
+    /// The number of maps that were made.
+    pub(crate) fn map_count(&self) -> usize
+        ensures { result ≡ length self.now.maps }
+    {
+        self.maps.len()
     }
 
     /// The node of a number, if it is there.

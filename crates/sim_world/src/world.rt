@@ -1,4 +1,4 @@
-ghost use Rattle.std.specs.Prelude.{◌≡◌, IfOk, option_copied, string_bytes};
+ghost use Rattle.std.specs.Prelude.{◌≡◌, IfOk, length, option_copied, string_bytes};
 ghost use Rattle.sim_world.specs.Holds.{AreShown, Holds, IsNodeAt, Says, Steps};
 ghost use Rattle.sim_world.specs.Step.{beginning};
 
@@ -53,6 +53,13 @@ impl<C: Classes> World<C> {
         ensures shown { AreShown C.classes self.now result.now }
     {
         self.parts.messages()
+    }
+
+    /// The number of maps that the monitor made.
+    pub fn map_count(&self) -> usize
+        ensures { result ≡ length self.now.maps }
+    {
+        self.parts.map_count()
     }
 
     /// The node of a number, as it stands; none if the number is past 15.
