@@ -14,7 +14,7 @@ _radoscls() {
             ;;
         verify) words="--all --explain --help" ;;
         run) words="--input --caller --object --xattr --key --load --save --show --trace --explain --help" ;;
-        test) words="--help" ;;
+        test) words="--trace --explain --help" ;;
         asm) words="--explain --help" ;;
         pack) words="--rules --explain --help" ;;
         dis) words="--slots --explain --help" ;;

@@ -1,4 +1,4 @@
--- Bytes of which none is a sign.
+-- TestBytes of which none is a sign.
 use Rattle.std.proofs.Common.{◌≡◌, ◌+◌, Bool, true, false, List, [], ◌∷◌, length, arith, refl}
 use Rattle.std.specs.List.{list_any, position_or_len}
 

@@ -10,10 +10,10 @@ use Rattle.object_store.specs.Object.{Content, PlainObject}
 use Rattle.object_store.specs.declared.store_error.StoreError.{StoreError}
 use Rattle.class_tests.specs.Spelled.{Text, code_in, held_in, name_in, value_in}
 use Rattle.class_tests.specs.declared.case.Case.{Case}
-use Rattle.class_tests.specs.declared.said.Said.{Said}
-use Rattle.class_tests.specs.declared.said.Said.TheVariants.{Answer, Held, NoMethod, InputTooLong}
-use Rattle.class_tests.specs.declared.step.Part.{Part}
-use Rattle.class_tests.specs.declared.step.Part.TheVariants.{Xattrs, Keys}
+use Rattle.class_tests.specs.declared.test_said.TestSaid.{TestSaid}
+use Rattle.class_tests.specs.declared.test_said.TestSaid.TheVariants.{Answer, Held, NoMethod, InputTooLong}
+use Rattle.class_tests.specs.declared.step.TestPart.{TestPart}
+use Rattle.class_tests.specs.declared.step.TestPart.TheVariants.{Xattrs, Keys}
 use Rattle.class_tests.specs.declared.step.Step.{Step}
 use Rattle.class_tests.specs.declared.step.Step.TheVariants.{Next, Holds, Differs, Bad}
 
@@ -30,7 +30,7 @@ are_held (Some a) (Some b) = bytes_eq a b
 
 -- an answer has the code and the output that were said; data or a value is what was said; no line
 -- says that a call isn't made
-abbrev pub is_same : Said → Said → Bool
+abbrev pub is_same : TestSaid → TestSaid → Bool
 is_same (Answer code output) (Answer found bytes) = (code == found) && bytes_eq output bytes
 is_same (Answer code output) (Held value) = false
 is_same (Answer code output) NoMethod = false
@@ -44,7 +44,7 @@ is_same InputTooLong there = false
 
 -- A LINE THAT SAYS SOMETHING holds if that is there; the case goes on as it says. A line that says
 -- nothing is malformed.
-abbrev pub judged : Case → Option Said → Said → Step
+abbrev pub judged : Case → Option TestSaid → TestSaid → Step
 judged case None there = Bad
 judged case (Some said) there = if is_same said there then Holds case else Differs said there
 
@@ -68,20 +68,20 @@ object_line (word ∷ []) = next_if (option_and_then begun (held_in word))
 object_line _ = Bad
 
 -- `xattr NAME VALUE` and `key NAME VALUE` set one, of an absent object too
-abbrev pub set_in : Part → PlainObject → List ℕ → List ℕ → Result Content StoreError
+abbrev pub set_in : TestPart → PlainObject → List ℕ → List ℕ → Result Content StoreError
 set_in Xattrs object name value = calls.set_xattr object name value
 set_in Keys object name value = calls.set_key object name value
 
-abbrev pub set_value : Part → Case → List ℕ → List Text → Step
+abbrev pub set_value : TestPart → Case → List ℕ → List Text → Step
 set_value part case name (value ∷ []) =
     next_if (option_and_then (λ bytes. with_object case (set_in part case.object name bytes)) (value_in value))
 set_value part case name _ = Bad
 
-abbrev pub set_name : Part → Case → Option (List ℕ) → List Text → Step
+abbrev pub set_name : TestPart → Case → Option (List ℕ) → List Text → Step
 set_name part case None values = Bad
 set_name part case (Some name) values = set_value part case name values
 
-abbrev pub set_line : Part → Case → List Text → Step
+abbrev pub set_line : TestPart → Case → List Text → Step
 set_line part case [] = Bad
 set_line part case (name ∷ values) = set_name part case (name_in name) values
 
@@ -91,24 +91,24 @@ as_line case (word ∷ []) = next_if (option_map (λ n. record case { caller = n
 as_line case _ = Bad
 
 -- what stands after `->`: a code and an output, which is empty if it is left out
-abbrev pub with_output : ℕ → List Text → Option Said
+abbrev pub with_output : ℕ → List Text → Option TestSaid
 with_output code [] = Some (Answer code [])
 with_output code (output ∷ []) = option_map (λ bytes. Answer code bytes) (value_in output)
 with_output code _ = None
 
-abbrev pub answer_said : List Text → Option Said
+abbrev pub answer_said : List Text → Option TestSaid
 answer_said [] = None
 answer_said (code ∷ words) = option_and_then (λ c. with_output c words) (code_in code)
 
 -- `is data VALUE`, `is xattr NAME VALUE` and `is key NAME VALUE` say what the object has; the VALUE
 -- is `none` if there is no such xattr or key, and for the data if there is no object
-abbrev pub said_held : Text → Option Said
+abbrev pub said_held : Text → Option TestSaid
 said_held word = option_map Held (held_in word)
 
 abbrev pub data_of : PlainObject → Option (List ℕ)
 data_of object = option_map (λ (c : Content). c.bytes) object
 
-abbrev pub value_of : Part → PlainObject → List ℕ → Option (List ℕ)
+abbrev pub value_of : TestPart → PlainObject → List ℕ → Option (List ℕ)
 value_of part None name = None
 value_of Xattrs (Some content) name = fin.get content.xattrs name
 value_of Keys (Some content) name = fin.get content.omap name
@@ -117,7 +117,7 @@ abbrev pub is_data : Case → List Text → Step
 is_data case (value ∷ []) = judged case (said_held value) (Held (data_of case.object))
 is_data case _ = Bad
 
-abbrev pub is_part : Part → Case → List Text → Step
+abbrev pub is_part : TestPart → Case → List Text → Step
 is_part part case (name ∷ value ∷ []) =
     elim (name_in name) [ None ↦ Bad | Some n ↦ judged case (said_held value) (Held (value_of part case.object n)) ]
 is_part part case _ = Bad

@@ -1,6 +1,6 @@
 -- Calls and lines, and how the lines of a file end.
-use Rattle.std.specs.Prelude.{ℕ, suc, List, [], ◌∷◌, Option, Some, None, length, nat_lt, ◌==◌, slice_index}
-use Rattle.std.specs.Prelude.{if◌then◌else◌, codes}
+use Rattle.std.specs.Prelude.{ℕ, suc, ◌-◌, List, [], ◌∷◌, Option, Some, None, length, nat_lt, ◌==◌, slice_get}
+use Rattle.std.specs.Prelude.{slice_index, if◌then◌else◌, codes, option_and_then, option_map}
 use Rattle.std.specs.Str.{bytes_eq}
 use Rattle.bpf_decode.specs.Class.{ClassMethod}
 use Rattle.bpf_machine.specs.Safe.{call_outcome}
@@ -10,9 +10,9 @@ use Rattle.verifier.specs.Verified.{method_named}
 use Rattle.class_tests.specs.Cases.{answer_said, as_line, is_line, judged, object_line, opening, set_line}
 use Rattle.class_tests.specs.Spelled.{Text, value_in}
 use Rattle.class_tests.specs.declared.case.Case.{Case}
-use Rattle.class_tests.specs.declared.said.Said.{Said}
-use Rattle.class_tests.specs.declared.said.Said.TheVariants.{Answer, NoMethod, InputTooLong}
-use Rattle.class_tests.specs.declared.step.Part.TheVariants.{Xattrs, Keys}
+use Rattle.class_tests.specs.declared.test_said.TestSaid.{TestSaid}
+use Rattle.class_tests.specs.declared.test_said.TestSaid.TheVariants.{Answer, NoMethod, InputTooLong}
+use Rattle.class_tests.specs.declared.step.TestPart.TheVariants.{Xattrs, Keys}
 use Rattle.class_tests.specs.declared.step.Step.{Step}
 use Rattle.class_tests.specs.declared.step.Step.TheVariants.{Next, Holds, Differs, Bad}
 use Rattle.class_tests.specs.declared.tests.TestEnd.{TestEnd}
@@ -23,7 +23,7 @@ use Rattle.class_tests.specs.declared.tests.TestEnd.TheVariants.{AllHold, Differ
 abbrev pub answered : Case → Outcome → Case
 answered case outcome = record case { object = outcome.object }
 
-abbrev pub called : Option ClassMethod → Case → List ℕ → Option Said → Step
+abbrev pub called : Option ClassMethod → Case → List ℕ → Option TestSaid → Step
 called None case input said = judged case said NoMethod
 called (Some method) case input said =
     if nat_lt method.in_cap (length input) then judged case said InputTooLong else
@@ -31,7 +31,7 @@ called (Some method) case input said =
     (Answer outcome.code outcome.output))
 
 -- `call METHOD INPUT -> CODE [OUTPUT]`
-abbrev pub call_with : List ClassMethod → Case → Text → Option (List ℕ) → Option Said → Step
+abbrev pub call_with : List ClassMethod → Case → Text → Option (List ℕ) → Option TestSaid → Step
 call_with class case method None said = Bad
 call_with class case method (Some input) None = Bad
 call_with class case method (Some input) (Some said) = called (method_named class method) case input (Some said)
@@ -60,21 +60,35 @@ step_by class case (word ∷ args) = line_by class case word args
 abbrev pub step_of : List ClassMethod → Case → Text → Step
 step_of class case line = step_by class case (words line)
 
--- HOW LINES END: at the first that is malformed or says what isn't so, by its number; else with the
--- number of those that said something.
-abbrev pub after_step : ℕ → ℕ → (ℕ → Case → TestEnd) → Step → TestEnd
-after_step number count rest (Next case) = rest count case
-after_step number count rest (Holds case) = rest (suc count) case
-after_step number count rest (Differs said there) = DiffersAt number said there
-after_step number count rest Bad = BadAt number
+-- HOW LINES END: at the first that is malformed, by its number, or that says what isn't so, by its
+-- number and the case before it; else with the number of those that said something.
+abbrev pub after_step : ℕ → ℕ → Case → (ℕ → Case → TestEnd) → Step → TestEnd
+after_step number count before rest (Next case) = rest count case
+after_step number count before rest (Holds case) = rest (suc count) case
+after_step number count before rest (Differs said there) = DiffersAt number said there before
+after_step number count before rest Bad = BadAt number
 
 -- after `number` lines, of which `count` said something
 abbrev pub end_after : List ClassMethod → ℕ → ℕ → Case → List Text → TestEnd
 end_after class number count case [] = AllHold count
 end_after class number count case (line ∷ lines) =
-    after_step (suc number) count (λ count case. end_after class (suc number) count case lines)
+    after_step (suc number) count case (λ count case. end_after class (suc number) count case lines)
     (step_of class case line)
 
 -- THE END OF A FILE OF TESTS.
 abbrev pub end_of : List ClassMethod → Text → TestEnd
 end_of class text = end_after class 0 0 opening (ended_lines_of text)
+
+-- the method and the input of a call's words
+abbrev pub call_in : List Text → Option (Text × List ℕ)
+call_in (word ∷ method ∷ input ∷ more) =
+    if bytes_eq word (codes "call") then option_map (λ bytes. (method, bytes)) (value_in input) else None
+call_in _ = None
+
+-- lines are numbered from 1
+abbrev pub line_at : List Text → ℕ → Option Text
+line_at lines number = if number == 0 then None else slice_get lines (number - 1)
+
+-- THE CALL OF A LINE, by the line's number: its method and input.
+abbrev pub call_at : Text → ℕ → Option (Text × List ℕ)
+call_at text number = option_and_then (λ line. call_in (words line)) (line_at (ended_lines_of text) number)

@@ -13,5 +13,5 @@ differs_text number said there = codes "line " ++ decimal number ++ codes ": dif
 -- stored outputs alone, of what it says and what there is
 abbrev pub IsEndText : TestEnd → List ℕ → Type 0
 IsEndText (AllHold count) text = text ≡ codes "ok " ++ decimal count ++ codes "\n"
-IsEndText (DiffersAt number said there) text = (a : List ℕ) × (b : List ℕ) × (text ≡ differs_text number a b)
+IsEndText (DiffersAt number said there case) text = (a : List ℕ) × (b : List ℕ) × (text ≡ differs_text number a b)
 IsEndText (BadAt number) text = text ≡ codes "line " ++ decimal number ++ codes ": bad\n"

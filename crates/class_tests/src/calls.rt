@@ -5,12 +5,12 @@ ghost use Rattle.interp.specs.Plain.{outcome_of_answer};
 ghost use Rattle.verifier.specs.Verified.{given_method};
 ghost use Rattle.class_tests.specs.Tests.{answered, call_line, called};
 
-use crate::bytes::Bytes;
 use crate::case::{Case, copy_of};
 use crate::checks::{answer_said, judged};
-use crate::said::Said;
 use crate::spelled::value_in;
 use crate::step::Step;
+use crate::test_bytes::TestBytes;
+use crate::test_said::TestSaid;
 use bpf_machine::outcomes;
 use interp::{CallError, Outcome, call_method};
 use std::alloc::{AllocError, Global};
@@ -38,9 +38,9 @@ fn outcome_of(
 }
 
 /// The case and the answer after an outcome.
-fn after(case: &Case, outcome: Outcome) -> Result<(Case, Said), AllocError>
+fn after(case: &Case, outcome: Outcome) -> Result<(Case, TestSaid), AllocError>
     ensures { IfOk result (λ r. (r.0 ≡ answered case.now (outcome_of_answer outcome)) ×
-        (r.1 ≡ Said.Answer (outcome_of_answer outcome).code (outcome_of_answer outcome).output)) }
+        (r.1 ≡ TestSaid.Answer (outcome_of_answer outcome).code (outcome_of_answer outcome).output)) }
 {
     let object = copy_of(outcome.change.after())?;
     let next = Case {
@@ -48,7 +48,7 @@ fn after(case: &Case, outcome: Outcome) -> Result<(Case, Said), AllocError>
         caller: case.caller,
     };
     let code = outcome.code.cast_unsigned();
-    Ok((next, Said::Answer(code, Bytes::new(outcome.output))))
+    Ok((next, TestSaid::Answer(code, TestBytes::new(outcome.output))))
 }
 
 /// A call of a method that was found.
@@ -57,12 +57,12 @@ fn called_method(
     method: &VerifiedMethod,
     case: &Case,
     input: &[u8],
-    said: Said,
+    said: TestSaid,
 ) -> Result<Step, AllocError>
     ensures { IfOk result (λ step. step ≡ called (Some method.now) case.now input.now (Some said)) }
 {
     if input.len() > usize::from(method.caps().in_cap) {
-        return Ok(judged(case.copy()?, said, Said::InputTooLong));
+        return Ok(judged(case.copy()?, said, TestSaid::InputTooLong));
     }
     let outcome = outcome_of(alloc, method, case, input)?;
     let (next, there) = after(case, outcome)?;
@@ -75,13 +75,13 @@ fn called(
     method: Option<&VerifiedMethod>,
     case: &Case,
     input: &[u8],
-    said: Said,
+    said: TestSaid,
 ) -> Result<Step, AllocError>
     ensures { IfOk result (λ step. step ≡ called (given_method method.entry) case.now input.now (Some said)) }
 {
     match method {
         Some(method) => called_method(alloc, method, case, input, said),
-        None => Ok(judged(case.copy()?, said, Said::NoMethod)),
+        None => Ok(judged(case.copy()?, said, TestSaid::NoMethod)),
     }
 }
 

@@ -4,20 +4,22 @@
 //! lines that hold. A call's answer is the outcome of the method's bytes (`specs/Tests.antt`).
 #![tactic(auto)]
 
-mod bytes;
+mod called;
 mod calls;
 mod case;
 mod checks;
 mod lines;
-mod said;
 mod setting;
 mod spelled;
 mod step;
+mod test_bytes;
+mod test_said;
 mod tests;
 mod text;
 
-pub use bytes::Bytes;
+pub use called::call_at;
 pub use case::Case;
-pub use said::Said;
+pub use test_bytes::TestBytes;
+pub use test_said::TestSaid;
 pub use tests::{TestEnd, run_tests};
 pub use text::end_text;

@@ -6,7 +6,7 @@ use crate::calls::call_line;
 use crate::case::Case;
 use crate::checks::is_line;
 use crate::setting::{as_line, object_line, set_line};
-use crate::step::{Part, Step};
+use crate::step::{Step, TestPart};
 use file_words::words;
 use std::alloc::{AllocError, Global};
 use verifier::VerifiedClass;
@@ -37,8 +37,8 @@ fn line_by(
     }
     match word {
         "object" => object_line(alloc, args),
-        "xattr"  => set_line(alloc, Part::Xattrs, case, args),
-        "key"    => set_line(alloc, Part::Keys, case, args),
+        "xattr"  => set_line(alloc, TestPart::Xattrs, case, args),
+        "key"    => set_line(alloc, TestPart::Keys, case, args),
         "as"     => as_line(case, args),
         "call"   => call_line(alloc, class, case, args),
         "is"     => is_line(alloc, case, args),

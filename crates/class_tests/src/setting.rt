@@ -8,10 +8,10 @@ ghost use Rattle.class_tests.specs.Cases.{as_line, begun, next_if, object_line, 
 ghost use Rattle.class_tests.specs.Cases.{with_object};
 ghost use Rattle.class_tests.specs.declared.case.Case.{Case as ACase};
 
-use crate::bytes::Bytes;
 use crate::case::Case;
 use crate::spelled::{held_in, name_in, value_in};
-use crate::step::{Part, Step};
+use crate::step::{Step, TestPart};
+use crate::test_bytes::TestBytes;
 use file_words::id_in;
 use object_store::{Object, StoreError, calls};
 use std::alloc::{AllocError, Global};
@@ -42,7 +42,7 @@ fn with_object(caller: u32, made: Result<Object, StoreError>) -> Result<Option<C
 }
 
 /// A case as it begins, with an object of that data or without.
-fn begun(alloc: Global, held: &Option<Bytes>) -> Result<Option<Case>, AllocError>
+fn begun(alloc: Global, held: &Option<TestBytes>) -> Result<Option<Case>, AllocError>
     ensures { IfOk result (λ next. next ≡ begun held.now) }
 {
     match held {
@@ -67,7 +67,7 @@ pub(crate) fn object_line(alloc: Global, args: &[&str]) -> Result<Step, AllocErr
 /// An object with an xattr or a key set.
 fn set_in(
     alloc: Global,
-    part: Part,
+    part: TestPart,
     object: Option<&Object>,
     name: &[u8],
     value: &[u8],
@@ -75,17 +75,17 @@ fn set_in(
     ensures { Gives (λ o. o) result (set_in part (option_copied object.entry) name.now value.now) }
 {
     match part {
-        Part::Xattrs => calls::set_xattr(alloc, object, name, value),
-        Part::Keys => calls::set_key(alloc, object, name, value),
+        TestPart::Xattrs => calls::set_xattr(alloc, object, name, value),
+        TestPart::Keys => calls::set_key(alloc, object, name, value),
     }
 }
 
 /// Sets the value that words spell.
 fn set_value(
     alloc: Global,
-    part: Part,
+    part: TestPart,
     case: &Case,
-    name: &Bytes,
+    name: &TestBytes,
     words: &[&str],
 ) -> Result<Step, AllocError>
     ensures { IfOk result (λ step. step ≡ set_value part case.now name.now (map (λ w. w.now) words.now)) }
@@ -106,7 +106,7 @@ fn set_value(
 /// `xattr` and `key`.
 pub(crate) fn set_line(
     alloc: Global,
-    part: Part,
+    part: TestPart,
     case: &Case,
     args: &[&str],
 ) -> Result<Step, AllocError>

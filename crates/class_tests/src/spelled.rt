@@ -5,7 +5,7 @@ ghost use Rattle.class_tests.specs.Spelled.{below_zero, code_in, digits_in, digi
 ghost use Rattle.class_tests.specs.Spelled.{name_in, number_bytes, number_within, of_kind, part_in, value_in};
 ghost use Rattle.class_tests.specs.Spelled.{width_named, with_numbers, with_parts};
 
-use crate::bytes::Bytes;
+use crate::test_bytes::TestBytes;
 use byteorder::{ByteOrder, LittleEndian};
 use hex::FromHexError;
 use std::alloc::{AllocError, Global};
@@ -19,11 +19,11 @@ pub(crate) struct NumberWidth {
 }
 
 /// The bytes of pairs of hexadecimal digits; `None` if there are other signs.
-fn digits_in(alloc: Global, text: &[u8]) -> Result<Option<Bytes>, AllocError>
+fn digits_in(alloc: Global, text: &[u8]) -> Result<Option<TestBytes>, AllocError>
     ensures { IfOk result (λ b. b ≡ digits_in text.now) }
 {
     match hex::decode(alloc, text) {
-        Ok(bytes) => Ok(Some(Bytes::new(bytes))),
+        Ok(bytes) => Ok(Some(TestBytes::new(bytes))),
         Err(FromHexError::OutOfMemory) => Err(AllocError),
         Err(_) => Ok(None),
     }
@@ -85,7 +85,7 @@ fn numbers_in(
     alloc: Global,
     width: NumberWidth,
     words: &[&str],
-) -> Result<Option<Bytes>, AllocError>
+) -> Result<Option<TestBytes>, AllocError>
     ensures { IfOk result (λ bytes. bytes ≡ with_numbers width [] (map (λ w. w.now) words.now)) }
 {
     let mut bytes = Vec::new(alloc);
@@ -95,7 +95,7 @@ fn numbers_in(
         };
         push_number(&mut bytes, width, number)?;
     }
-    Ok(Some(Bytes::new(bytes)))
+    Ok(Some(TestBytes::new(bytes)))
 }
 
 /// The texts between commas.
@@ -106,11 +106,11 @@ fn at_commas(alloc: Global, text: &str) -> Result<Vec<&str>, AllocError>
 }
 
 /// The bytes after a kind and a colon; `None` if they are none of that kind.
-fn of_kind(alloc: Global, kind: &str, rest: &str) -> Result<Option<Bytes>, AllocError>
+fn of_kind(alloc: Global, kind: &str, rest: &str) -> Result<Option<TestBytes>, AllocError>
     ensures { IfOk result (λ bytes. bytes ≡ of_kind kind.now rest.now) }
 {
     if kind == "text" {
-        return Ok(Some(Bytes::new(Vec::from_slice(alloc, rest.as_bytes())?)));
+        return Ok(Some(TestBytes::new(Vec::from_slice(alloc, rest.as_bytes())?)));
     }
     let Some(width) = width_named(kind) else {
         return Ok(None);
@@ -120,7 +120,7 @@ fn of_kind(alloc: Global, kind: &str, rest: &str) -> Result<Option<Bytes>, Alloc
 }
 
 /// The bytes of a part of a value that is digits; `None` if it is empty or has other signs.
-fn digits_part(alloc: Global, part: &str) -> Result<Option<Bytes>, AllocError>
+fn digits_part(alloc: Global, part: &str) -> Result<Option<TestBytes>, AllocError>
     ensures { IfOk result (λ bytes. bytes ≡ digits_part part.now) }
 {
     if part.is_empty() {
@@ -130,7 +130,7 @@ fn digits_part(alloc: Global, part: &str) -> Result<Option<Bytes>, AllocError>
 }
 
 /// The bytes of a part of a value; `None` if it is none.
-fn part_in(alloc: Global, part: &str) -> Result<Option<Bytes>, AllocError>
+fn part_in(alloc: Global, part: &str) -> Result<Option<TestBytes>, AllocError>
     ensures { IfOk result (λ bytes. bytes ≡ part_in part.now) }
 {
     match part.split_once(':') {
@@ -140,7 +140,7 @@ fn part_in(alloc: Global, part: &str) -> Result<Option<Bytes>, AllocError>
 }
 
 /// The bytes of parts, one after the other; `None` if one is none.
-fn parts_in(alloc: Global, parts: &[&str]) -> Result<Option<Bytes>, AllocError>
+fn parts_in(alloc: Global, parts: &[&str]) -> Result<Option<TestBytes>, AllocError>
     ensures { IfOk result (λ bytes. bytes ≡ with_parts [] (map (λ p. p.now) parts.now)) }
 {
     let mut bytes = Vec::new(alloc);
@@ -150,7 +150,7 @@ fn parts_in(alloc: Global, parts: &[&str]) -> Result<Option<Bytes>, AllocError>
         };
         bytes.extend_from_slice(more.items())?;
     }
-    Ok(Some(Bytes::new(bytes)))
+    Ok(Some(TestBytes::new(bytes)))
 }
 
 /// The texts between pluses.
@@ -161,18 +161,18 @@ fn at_pluses(alloc: Global, text: &str) -> Result<Vec<&str>, AllocError>
 }
 
 /// The bytes of a value; `None` if it is none.
-pub(crate) fn value_in(alloc: Global, word: &str) -> Result<Option<Bytes>, AllocError>
+pub(crate) fn value_in(alloc: Global, word: &str) -> Result<Option<TestBytes>, AllocError>
     ensures { IfOk result (λ bytes. bytes ≡ value_in word.now) }
 {
     if word == "-" {
-        return Ok(Some(Bytes::new(Vec::new(alloc))));
+        return Ok(Some(TestBytes::new(Vec::new(alloc))));
     }
     let parts = at_pluses(alloc, word)?;
     parts_in(alloc, &parts)
 }
 
 /// A value that may be missing: `none`, or its bytes.
-pub(crate) fn held_in(alloc: Global, word: &str) -> Result<Option<Option<Bytes>>, AllocError>
+pub(crate) fn held_in(alloc: Global, word: &str) -> Result<Option<Option<TestBytes>>, AllocError>
     ensures { IfOk result (λ held. held ≡ held_in word.now) }
 {
     if word == "none" {
@@ -185,12 +185,12 @@ pub(crate) fn held_in(alloc: Global, word: &str) -> Result<Option<Option<Bytes>>
 }
 
 /// The bytes of a name: after `0x` those of its digits, else its own.
-pub(crate) fn name_in(alloc: Global, word: &str) -> Result<Option<Bytes>, AllocError>
+pub(crate) fn name_in(alloc: Global, word: &str) -> Result<Option<TestBytes>, AllocError>
     ensures { IfOk result (λ name. name ≡ name_in word.now) }
 {
     match word.as_bytes() {
         [b'0', b'x', digits @ ..] => digits_in(alloc, digits),
-        bytes => Ok(Some(Bytes::new(Vec::from_slice(alloc, bytes)?))),
+        bytes => Ok(Some(TestBytes::new(Vec::from_slice(alloc, bytes)?))),
     }
 }
 

@@ -1,9 +1,9 @@
 use crate::case::Case;
-use crate::said::Said;
+use crate::test_said::TestSaid;
 
 /// The part of an object that a line names.
 #[derive(Clone, Copy)]
-pub(crate) enum Part {
+pub(crate) enum TestPart {
     Xattrs,
     Keys,
 }
@@ -16,7 +16,7 @@ pub(crate) enum Step {
     /// What the line says is so; the case goes on so.
     Holds(Case),
     /// The line says the first, and there is the second.
-    Differs(Said, Said),
+    Differs(TestSaid, TestSaid),
     /// The line is malformed.
     Bad,
 }

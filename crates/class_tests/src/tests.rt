@@ -5,8 +5,8 @@ ghost use Rattle.class_tests.specs.Tests.{end_after, end_of};
 
 use crate::case::Case;
 use crate::lines::take_line;
-use crate::said::Said;
 use crate::step::Step;
+use crate::test_said::TestSaid;
 use file_words::ended_lines;
 use std::alloc::{AllocError, Global};
 use verifier::VerifiedClass;
@@ -16,8 +16,9 @@ use verifier::VerifiedClass;
 pub enum TestEnd {
     /// Each line holds; so many said something.
     AllHold(usize),
-    /// The first line that says what isn't so: its number from 1, what it says, and what there is.
-    DiffersAt(usize, Said, Said),
+    /// The first line that says what isn't so: its number from 1, what it says, what there is, and
+    /// the case before the line.
+    DiffersAt(usize, TestSaid, TestSaid, Case),
     /// The first malformed line, by its number.
     BadAt(usize),
 }
@@ -37,7 +38,9 @@ fn take_lines(alloc: Global, class: &VerifiedClass, lines: &[&str]) -> Result<Te
                 case = next;
                 count += 1;
             }
-            Step::Differs(said, there) => return Ok(TestEnd::DiffersAt(number, said, there)),
+            Step::Differs(said, there) => {
+                return Ok(TestEnd::DiffersAt(number, said, there, case));
+            }
             Step::Bad => return Ok(TestEnd::BadAt(number)),
         }
     }

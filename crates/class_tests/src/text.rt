@@ -2,13 +2,13 @@
 ghost use Rattle.std.specs.Prelude.{◌≡◌, IfOk, string_bytes};
 ghost use Rattle.class_tests.specs.Text.{IsEndText, differs_text};
 
-use crate::bytes::Bytes;
-use crate::said::Said;
+use crate::test_bytes::TestBytes;
+use crate::test_said::TestSaid;
 use crate::tests::TestEnd;
 use std::alloc::{AllocError, Global};
 
-/// Bytes in hexadecimal, `-` if there are none.
-fn digits_of(alloc: Global, bytes: &Bytes) -> Result<String, AllocError> {
+/// TestBytes in hexadecimal, `-` if there are none.
+fn digits_of(alloc: Global, bytes: &TestBytes) -> Result<String, AllocError> {
     if bytes.items().is_empty() {
         return String::from_str(alloc, "-");
     }
@@ -16,16 +16,16 @@ fn digits_of(alloc: Global, bytes: &Bytes) -> Result<String, AllocError> {
 }
 
 /// What is said, or is there, as a text.
-fn said_text(alloc: Global, said: &Said) -> Result<String, AllocError> {
+fn said_text(alloc: Global, said: &TestSaid) -> Result<String, AllocError> {
     match said {
-        Said::Answer(code, output) => {
+        TestSaid::Answer(code, output) => {
             let (code, output) = (code.cast_signed(), digits_of(alloc, output)?);
             format!(in alloc; "code {code} output {output}")
         }
-        Said::Held(Some(bytes)) => digits_of(alloc, bytes),
-        Said::Held(None) => String::from_str(alloc, "none"),
-        Said::NoMethod => String::from_str(alloc, "no such method"),
-        Said::InputTooLong => String::from_str(alloc, "the input is too long"),
+        TestSaid::Held(Some(bytes)) => digits_of(alloc, bytes),
+        TestSaid::Held(None) => String::from_str(alloc, "none"),
+        TestSaid::NoMethod => String::from_str(alloc, "no such method"),
+        TestSaid::InputTooLong => String::from_str(alloc, "the input is too long"),
     }
 }
 
@@ -49,7 +49,7 @@ pub fn end_text(alloc: Global, end: &TestEnd) -> Result<String, AllocError>
     match end {
         TestEnd::AllHold(count) => format!(in alloc; "ok {count}\n"),
         TestEnd::BadAt(number) => format!(in alloc; "line {number}: bad\n"),
-        TestEnd::DiffersAt(number, said, there) => {
+        TestEnd::DiffersAt(number, said, there, _) => {
             let (said, there) = (said_text(alloc, said)?, said_text(alloc, there)?);
             differs_text(alloc, *number, &said, &there)
         }

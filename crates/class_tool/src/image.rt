@@ -18,8 +18,10 @@ pub const TEXT_LIMIT: usize = 16_777_216;
 
 /// A class that was read, from its image, or from a text, which is kept.
 #[derive(Drop)]
-pub(crate) enum Source {
+pub enum Source {
+    /// The class of an image.
     Image(ClassImage),
+    /// The class of a text, and the text.
     Text(ClassImage, String),
 }
 
@@ -28,7 +30,7 @@ impl Source {
     ghost use Rattle.class_tool.specs.Image.{class_of};
 
     /// The class.
-    pub(crate) fn class(&self) -> &ClassImage
+    pub fn class(&self) -> &ClassImage
         ensures { result.now ≡ class_of self.now }
     {
         match self {
@@ -162,7 +164,7 @@ pub fn load<F: Reads>(alloc: Global, files: &F, image: &str) -> Result<VerifiedC
 }
 
 /// The same, and what it was read from.
-pub(crate) fn load_with_source<F: Reads>(
+pub fn load_with_source<F: Reads>(
     alloc: Global,
     files: &F,
     image: &str,

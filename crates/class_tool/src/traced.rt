@@ -90,6 +90,32 @@ fn text_of(
     }
 }
 
+/// The text of the trace of a call of a safe class, as `run --trace` prints it, each step with its
+/// line if the class was read from a text; no text if the class has no such method, or the input is
+/// too long. It fails for want of memory alone.
+pub fn traced_call(
+    alloc: Global,
+    source: &Source,
+    name: &str,
+    start: &RunStart<'_>,
+) -> Result<String, Failure>
+    requires { AllByRecursion IsSafe (class_of source.now).methods }
+    ensures text { IfOk result (λ text. (m : ClassMethod) →
+        method_named (class_of source.now).methods name.now ≡ Some m → length start.now.input.now ≤ m.in_cap →
+        IsTraceText true m (option_copied start.now.object) start.now.caller start.now.input.now
+        (string_bytes text)) }
+    ensures fails { IfErr result (λ e. e ≡ Failure.NoMemory) }
+{
+    let Some(method) = method_in(source.class(), name) else {
+        return Ok(String::new(alloc));
+    };
+    if start.input.len() > usize::from(method.in_cap()) {
+        return Ok(String::new(alloc));
+    }
+    let lines = lines_of(alloc, source, name)?;
+    text_of(alloc, method, start, &lines)
+}
+
 /// The text of the trace of a call of a class, if one is asked for and the call will not be
 /// refused; else none.
 pub(crate) fn traced(
@@ -108,22 +134,11 @@ pub(crate) fn traced(
     if !asked.is_traced {
         return Ok(String::new(alloc));
     }
-    let Some(method) = method_in(source.class(), asked.method) else {
-        return Ok(String::new(alloc));
-    };
-    if input.len() > usize::from(method.in_cap()) {
-        return Ok(String::new(alloc));
-    }
-    let lines = lines_of(alloc, source, asked.method)?;
     let caller = asked.caller.get();
-    text_of(
-        alloc,
-        method,
-        &RunStart {
-            object,
-            caller,
-            input,
-        },
-        &lines,
-    )
+    let start = RunStart {
+        object,
+        caller,
+        input,
+    };
+    traced_call(alloc, source, asked.method, &start)
 }

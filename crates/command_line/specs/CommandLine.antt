@@ -61,7 +61,9 @@ run_line =
 
 -- `test`, which runs the tests of a class
 abbrev pub test_line : App
-test_line = with_rule (with_rule (new_app (codes "test")) (required_rule (codes "IN"))) (required_rule (codes "FILE"))
+test_line =
+    with_rule (with_rule (with_rule (with_rule (new_app (codes "test")) (required_rule (codes "IN")))
+    (required_rule (codes "FILE"))) (flag_rule (codes "trace"))) explain_rule
 
 -- `asm`, which makes an image of a text
 abbrev pub asm_line : App

@@ -115,7 +115,9 @@ fn test_command<'a>(alloc: Global) -> Result<Command<'a>, AllocError>
         "IN",
         "The file of the class: its image or text",
     );
-    with_arg(of_image, required(alloc, "FILE", help::TEST_FILE))
+    let of_tests = with_arg(of_image, required(alloc, "FILE", help::TEST_FILE));
+    let trace = flag(alloc, "trace", help::TEST_TRACE);
+    with_arg(with_arg(of_tests, trace), explain_flag(alloc))
 }
 
 fn asm_command<'a>(alloc: Global) -> Result<Command<'a>, AllocError>

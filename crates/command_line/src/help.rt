@@ -13,8 +13,9 @@ pub(crate) const RUN: &str = "Examples:
   radoscls run count.img count --save kept.txt
   radoscls run count.img count --load kept.txt --save kept.txt";
 
-pub(crate) const TEST: &str = "Example:
-  radoscls test count.img count.test";
+pub(crate) const TEST: &str = "Examples:
+  radoscls test count.img count.test
+  radoscls test count.txt count.test --trace";
 
 pub(crate) const ASM: &str = "Example:
   radoscls asm count.txt count.img";
@@ -52,6 +53,10 @@ pub(crate) const TEST_FILE: &str =
     'as N' (the client), 'call METHOD VALUE -> CODE [VALUE]', 'is data VALUE', 'is xattr NAME VALUE|none', \
     'is key NAME VALUE|none'; a VALUE is hexadecimal, - for no bytes, text:.., u8:.., u16:.., u32:.. or \
     u64:1,2.., or several joined by +";
+
+/// For the help of `test`.
+pub(crate) const TEST_TRACE: &str =
+    "Prints below a call that answers otherwise each instruction that it executed, as run --trace does";
 
 /// A file of calls and maps, for the help of `cluster`.
 pub(crate) const CLUSTER_FILE: &str =

@@ -108,17 +108,18 @@ pub record TakesCluster (p : Parsed) (c : Clustering) : Type 0 where
 abbrev pub TakesEach : Parsed → Text → Type 0
 TakesEach p image = (one_in p (codes "IN") ≡ Some image) × (is_set_in p (codes "all") ≡ true)
 
--- `test` takes the file IN of the class and the file FILE of its tests.
+-- `test` takes the file IN of the class and the file FILE of its tests, and whether --trace is there.
 pub record TakesTest (p : Parsed) (asked : Testing) : Type 0 where
   pub class : one_in p (codes "IN") ≡ Some asked.class.now
   pub file : one_in p (codes "FILE") ≡ Some asked.file.now
+  pub traced : asked.is_traced ≡ is_set_in p (codes "trace")
 
 -- a task is one of these; --explain has a failure explained, and --stats has a run measured
 abbrev pub TakesTask : Parsed → Task → Type 0
 TakesTask p (task.Class action is_explained) = TakesAction p action × (is_explained ≡ is_set_in p (codes "explain"))
 TakesTask p (task.Each image is_explained) = TakesEach p image.now × (is_explained ≡ is_set_in p (codes "explain"))
 TakesTask p (task.Run call is_explained) = TakesCall p call × (is_explained ≡ is_set_in p (codes "explain"))
-TakesTask p (task.Test asked) = TakesTest p asked
+TakesTask p (task.Test asked is_explained) = TakesTest p asked × (is_explained ≡ is_set_in p (codes "explain"))
 TakesTask p (task.Sim s) = TakesSim p s
 TakesTask p (task.Cluster c) = TakesCluster p c.clustering × (c.is_measured ≡ is_set_in p (codes "stats"))
 
@@ -135,7 +136,7 @@ abbrev pub name_for : Task → Text
 name_for (task.Class action is_explained) = subcommand_for action
 name_for (task.Each image is_explained) = codes "verify"
 name_for (task.Run call is_explained) = codes "run"
-name_for (task.Test asked) = codes "test"
+name_for (task.Test asked is_explained) = codes "test"
 name_for (task.Sim s) = codes "sim"
 name_for (task.Cluster c) = codes "cluster"
 

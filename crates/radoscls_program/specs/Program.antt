@@ -104,9 +104,10 @@ pub record IsEach (before after : Storage) (old new : Stream) (words : List Text
 pub record IsTestRun (before after : Storage) (old new : Stream) (words : List Text)
     (status : ExitStatus) : Type 0 where
   pub asked : Testing
-  pub named : AreFor words (task.Test asked)
+  pub is_explained : Bool
+  pub named : AreFor words (task.Test asked is_explained)
   pub left : after ≡ before
-  pub ended : TestEnds before.disk old new asked status
+  pub ended : TestEnds before.disk old new asked is_explained status
 
 -- The words name a file of events, and it was played with this end; no file changed.
 pub record IsPlayed (before after : Storage) (old new : Stream) (words : List Text) (status : ExitStatus) : Type 0 where
@@ -204,7 +205,8 @@ TaskEnds before after old new (task.Each image is_explained) status =
     (after ≡ before) × EachEnds before.disk old new image.now is_explained status
 TaskEnds before after old new (task.Run call is_explained) status =
     CallEnds before after old new call is_explained status
-TaskEnds before after old new (task.Test asked) status = (after ≡ before) × TestEnds before.disk old new asked status
+TaskEnds before after old new (task.Test asked is_explained) status =
+    (after ≡ before) × TestEnds before.disk old new asked is_explained status
 TaskEnds before after old new (task.Sim simulation) status =
     (after ≡ before) × SimEnds before.disk old new simulation status
 TaskEnds before after old new (task.Cluster asked) status =

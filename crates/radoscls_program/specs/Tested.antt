@@ -1,27 +1,59 @@
 -- The end of `test`, and the text that it printed.
-use Rattle.std.specs.Prelude.{◌≡◌, ◌⊎◌, ⊤, ℕ, List, Option}
+use Rattle.std.specs.Prelude.{◌≡◌, ◌≤◌, ◌⊎◌, ◌++◌, ⊤, ℕ, Bool, true, false, List, [], Option, Some, None, length}
 use Rattle.bpf_decode.specs.Class.{ClassMethod}
-use Rattle.class_tests.specs.Tests.{end_of}
+use Rattle.class_tests.specs.Tests.{call_at, end_of}
 use Rattle.class_tests.specs.Text.{IsEndText}
+use Rattle.class_tests.specs.declared.case.Case.{Case}
 use Rattle.class_tests.specs.declared.tests.TestEnd.{TestEnd}
 use Rattle.class_tests.specs.declared.tests.TestEnd.TheVariants.{AllHold, DiffersAt, BadAt}
 use Rattle.class_tool.specs.Assembly.{TextFails}
 use Rattle.class_tool.specs.Files.{Disk, Holds}
 use Rattle.class_tool.specs.Image.{IsSafeIn, LoadFails}
+use Rattle.class_tool.specs.RunReport.{IsTraceText}
 use Rattle.class_tool.specs.declared.failure.Failure.{Failure}
 use Rattle.class_tool.specs.declared.failure.Failure.TheVariants.{NoMemory}
-use Rattle.radoscls_program.specs.Streams.{IsPrinted, Lost, Stream, Took, failure_line}
+use Rattle.verifier.specs.Verified.{method_named}
+use Rattle.radoscls_program.specs.Streams.{IsTold, Lost, Stream, Took}
 use Rattle.radoscls_program.specs.declared.status.ExitStatus.{ExitStatus}
 use Rattle.radoscls_program.specs.declared.status.ExitStatus.TheVariants.{Done, Refused, Usage}
 use Rattle.radoscls_program.specs.declared.task.Testing.{Testing}
 
--- The tests in a file have that end on the class in another file, which is safe.
-pub record IsTested (disk : Option Disk) (asked : Testing) (end : TestEnd) : Type 0 where
+-- a call's trace, in the case before it; it isn't said what follows a line that makes none, or whose
+-- call is refused
+abbrev pub IsCallTrace : List ClassMethod → Case → Option (List ℕ × List ℕ) → List ℕ → Type 0
+IsCallTrace class case None text = text ≡ []
+IsCallTrace class case (Some call) text =
+    (m : ClassMethod) → method_named class call.0 ≡ Some m → length call.1 ≤ m.in_cap →
+    IsTraceText true m case.object case.caller call.1 text
+
+-- the trace of the call at which tests ended, if it answers otherwise than its line says
+abbrev pub IsTraceAt : List ClassMethod → List ℕ → TestEnd → List ℕ → Type 0
+IsTraceAt class tests (AllHold count) text = text ≡ []
+IsTraceAt class tests (DiffersAt number said there case) text = IsCallTrace class case (call_at tests number) text
+IsTraceAt class tests (BadAt number) text = text ≡ []
+
+-- the same, if it is asked for
+abbrev pub IsTraceBelow : Bool → List ClassMethod → List ℕ → TestEnd → List ℕ → Type 0
+IsTraceBelow false class tests end text = text ≡ []
+IsTraceBelow true class tests end text = IsTraceAt class tests end text
+
+-- the lines of an end, and below them the trace
+pub record AreEndLines (is_traced : Bool) (class : List ClassMethod) (tests : List ℕ) (end : TestEnd)
+    (lines : List ℕ) : Type 0 where
+  pub above : List ℕ
+  pub below : List ℕ
+  pub says : IsEndText end above
+  pub traced : IsTraceBelow is_traced class tests end below
+  pub same : lines ≡ above ++ below
+
+-- The tests in a file have that end on the class in another file, which is safe, and those lines.
+pub record IsTested (disk : Option Disk) (asked : Testing) (end : TestEnd) (lines : List ℕ) : Type 0 where
   pub class : List ClassMethod
   pub loaded : IsSafeIn disk asked.class.now class
   pub text : List ℕ
   pub held : Holds disk asked.file.now text
   pub same : end ≡ end_of class text
+  pub shown : AreEndLines asked.is_traced class text end lines
 
 -- There is no end: no safe class was read, or no text of tests, or memory was refused.
 abbrev pub TestingFails : Option Disk → Testing → Failure → Type 0
@@ -31,7 +63,7 @@ TestingFails disk asked failure =
 -- each line of the tests holds
 abbrev pub Passes : TestEnd → Type 0
 Passes (AllHold count) = ⊤
-Passes (DiffersAt number said there) = ⊥
+Passes (DiffersAt number said there case) = ⊥
 Passes (BadAt number) = ⊥
 
 -- a text was printed, and the status tells whether each line holds; or a beginning of it was
@@ -44,19 +76,19 @@ EndIsShown old new end text Usage = ⊥
 -- the tests came to an end, and that is shown
 pub record IsShownEnd (disk : Option Disk) (old new : Stream) (asked : Testing) (status : ExitStatus) : Type 0 where
   pub end : TestEnd
-  pub tested : IsTested disk asked end
-  pub text : List ℕ
-  pub says : IsEndText end text
-  pub shown : EndIsShown old new end text status
+  pub lines : List ℕ
+  pub tested : IsTested disk asked end lines
+  pub shown : EndIsShown old new end lines status
 
--- they came to none, and one line says why
-abbrev pub IsUntested : Option Disk → Stream → Stream → Testing → Type 0
-IsUntested disk old new asked =
-    (failure : Failure) × TestingFails disk asked failure × IsPrinted old new (failure_line failure)
+-- they came to none, and a line says why; with --explain a note follows
+abbrev pub IsUntested : Option Disk → Stream → Stream → Testing → Bool → Type 0
+IsUntested disk old new asked is_explained =
+    (failure : Failure) × TestingFails disk asked failure × IsTold old new failure is_explained
 
 -- The ends of `test`: each line holds, and a text that was printed says so; or a line is malformed
 -- or says what isn't so, a write or a flush failed, or there were no tests.
-abbrev pub TestEnds : Option Disk → Stream → Stream → Testing → ExitStatus → Type 0
-TestEnds disk old new asked Done = IsShownEnd disk old new asked Done
-TestEnds disk old new asked Refused = IsShownEnd disk old new asked Refused ⊎ IsUntested disk old new asked
-TestEnds disk old new asked Usage = ⊥
+abbrev pub TestEnds : Option Disk → Stream → Stream → Testing → Bool → ExitStatus → Type 0
+TestEnds disk old new asked is_explained Done = IsShownEnd disk old new asked Done
+TestEnds disk old new asked is_explained Refused =
+    IsShownEnd disk old new asked Refused ⊎ IsUntested disk old new asked is_explained
+TestEnds disk old new asked is_explained Usage = ⊥

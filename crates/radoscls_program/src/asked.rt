@@ -46,7 +46,13 @@ fn test_task<'a>(words: &ParsedWords<'a>) -> Result<Task<'a>, Mistake<'a>>
 {
     let class = wanted(words, "IN")?;
     let file = wanted(words, "FILE")?;
-    Ok(Task::Test(Testing { class, file }))
+    let is_traced = words.is_set("trace");
+    let asked = Testing {
+        class,
+        file,
+        is_traced,
+    };
+    Ok(Task::Test(asked, words.is_set("explain")))
 }
 
 /// `asm`.

@@ -171,7 +171,7 @@ fn do_task<R: AllocGlobal + Threads + Wait + Clock + Sync, F: Files, O: Output, 
         Task::Class(action, is_explained) => act(alloc, files, action, *is_explained, out, err),
         Task::Each(image, is_explained) => judge(alloc, files, image, *is_explained, out),
         Task::Run(call, is_explained) => act_call(alloc, files, call, *is_explained, out, err),
-        Task::Test(asked) => test(alloc, files, asked, out),
+        Task::Test(asked, is_explained) => test(alloc, files, asked, *is_explained, out),
         Task::Sim(simulation) => play(alloc, files, simulation, out),
         Task::Cluster(cluster) => measure(rt, files, cluster, out, err),
     }

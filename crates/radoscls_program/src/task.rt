@@ -9,6 +9,8 @@ pub(crate) struct Testing<'a> {
     pub(crate) class: &'a str,
     /// The file of its tests.
     pub(crate) file: &'a str,
+    /// True if a call that answers otherwise is traced.
+    pub(crate) is_traced: bool,
 }
 
 /// A file of calls and maps, to be played on a cluster in threads.
@@ -29,8 +31,8 @@ pub(crate) enum Task<'a> {
     Each(&'a str, bool),
     /// A call, whose values files may hold, and whether a failure is explained.
     Run(MethodCall<'a>, bool),
-    /// The tests of the class in a file, run.
-    Test(Testing<'a>),
+    /// The tests of the class in a file, run, and whether a failure is explained.
+    Test(Testing<'a>, bool),
     /// A file of events, played.
     Sim(Simulation<'a>),
     /// A file of calls and maps, played on a cluster in threads.

@@ -1,66 +1,114 @@
 //! `test`.
-ghost use Rattle.std.specs.Prelude.{IfErr, IfOk, string_bytes};
-ghost use Rattle.class_tests.specs.Text.{IsEndText};
+ghost use Rattle.std.specs.Prelude.{◌≡◌, IfErr, IfOk, List, ℕ, string_bytes};
+ghost use Rattle.std.specs.List.{AllByRecursion};
+ghost use Rattle.bpf_machine.specs.Safe.{IsSafe};
+ghost use Rattle.class_tool.specs.Image.{class_of};
 ghost use Rattle.radoscls_program.specs.Streams.{stream};
-ghost use Rattle.radoscls_program.specs.Tested.{EndIsShown, IsTested, TestEnds, TestingFails};
+ghost use Rattle.radoscls_program.specs.Tested.{AreEndLines, EndIsShown, IsTested, IsTraceBelow, TestEnds};
+ghost use Rattle.radoscls_program.specs.Tested.{TestingFails};
 
 use crate::status::ExitStatus;
 use crate::task::Testing;
-use crate::telling::refuse;
-use class_tests::{TestEnd, end_text, run_tests};
-use class_tool::{Failure, Output, Reads, load, read_text};
-use std::alloc::Global;
+use crate::telling::tell;
+use class_tests::{TestEnd, call_at, end_text, run_tests};
+use class_tool::{
+    Failed, Failure, Files, Output, Reads, RunStart, Source, load_with_source, read_text,
+    traced_call,
+};
+use std::alloc::{AllocError, Global};
 
-/// Runs the tests in a file on the class in another, if that is safe.
-fn tested<F: Reads>(alloc: Global, files: &F, asked: &Testing<'_>) -> Result<TestEnd, Failure>
-    ensures ok { IfOk result (IsTested (F.disk files.now) asked.now) }
-    ensures err { IfErr result (TestingFails (F.disk files.now) asked.now) }
+/// The trace of the call at which the tests in a text ended, if it is asked for.
+fn trace_below(
+    alloc: Global,
+    source: &Source,
+    text: &str,
+    end: &TestEnd,
+    is_traced: bool,
+) -> Result<String, Failure>
+    requires { AllByRecursion IsSafe (class_of source.now).methods }
+    ensures ok { IfOk result (λ t. IsTraceBelow is_traced (class_of source.now).methods text.now end.now
+        (string_bytes t)) }
+    ensures err { IfErr result (λ e. e ≡ Failure.NoMemory) }
 {
-    let class = load(alloc, files, asked.class)?;
-    let text = read_text(alloc, files, asked.file)?;
-    Ok(run_tests(alloc, &class, &text)?)
+    if !is_traced {
+        return Ok(String::new(alloc));
+    }
+    let TestEnd::DiffersAt(number, _, _, case) = end else {
+        return Ok(String::new(alloc));
+    };
+    let Some((method, input)) = call_at(alloc, text, *number)? else {
+        return Ok(String::new(alloc));
+    };
+    let start = RunStart {
+        object: case.object.as_ref(),
+        caller: case.caller,
+        input: input.items(),
+    };
+    traced_call(alloc, source, method, &start)
 }
 
-/// The end of the tests, and its text.
-fn told<F: Reads>(
+/// The lines of an end, and below them the trace, if it is asked for.
+fn end_lines(
+    alloc: Global,
+    source: &Source,
+    text: &str,
+    end: &TestEnd,
+    is_traced: bool,
+) -> Result<String, Failure>
+    requires { AllByRecursion IsSafe (class_of source.now).methods }
+    ensures ok { IfOk result (λ t. AreEndLines is_traced (class_of source.now).methods text.now end.now
+        (string_bytes t)) }
+    ensures err { IfErr result (λ e. e ≡ Failure.NoMemory) }
+{
+    let mut lines = end_text(alloc, end)?;
+    let below = trace_below(alloc, source, text, end, is_traced)?;
+    lines.push_str(&below)?;
+    Ok(lines)
+}
+
+/// Runs the tests in a file on the class in another, if that is safe: their end, and its lines.
+fn tested<F: Reads>(
     alloc: Global,
     files: &F,
     asked: &Testing<'_>,
-) -> Result<(TestEnd, String), Failure>
-    ensures ok { IfOk result (λ r. IsTested (F.disk files.now) asked.now r.0 × IsEndText r.0 (string_bytes r.1)) }
-    ensures err { IfErr result (TestingFails (F.disk files.now) asked.now) }
+) -> Result<(TestEnd, String), Failed>
+    ensures ok { IfOk result (λ r. IsTested (F.disk files.now) asked.now r.0 (string_bytes r.1)) }
+    ensures err { IfErr result (λ e. TestingFails (F.disk files.now) asked.now e.failure) }
 {
-    let end = tested(alloc, files, asked)?;
-    let text = end_text(alloc, &end)?;
-    Ok((end, text))
+    let (class, source) = load_with_source(alloc, files, asked.class)?;
+    let text = read_text(alloc, files, asked.file)?;
+    let end = run_tests(alloc, &class, &text)?;
+    let lines = end_lines(alloc, &source, &text, &end, asked.is_traced)?;
+    Ok((end, lines))
 }
 
-/// Prints the text of an end.
-fn show_end<O: Output>(end: &TestEnd, text: &str, out: &mut O) -> ExitStatus
+/// Prints the lines of an end.
+fn show_end<O: Output>(end: &TestEnd, lines: &str, out: &mut O) -> ExitStatus
     ensures { EndIsShown (stream O.printed O.failed out.old)
-        (stream O.printed O.failed out.new) end.now text.now result }
+        (stream O.printed O.failed out.new) end.now lines.now result }
 {
-    match out.print(text) {
+    match out.print(lines) {
         Ok(()) => match end {
             TestEnd::AllHold(_) => ExitStatus::Done,
-            TestEnd::DiffersAt(_, _, _) | TestEnd::BadAt(_) => ExitStatus::Refused,
+            TestEnd::DiffersAt(_, _, _, _) | TestEnd::BadAt(_) => ExitStatus::Refused,
         },
         Err(_) => ExitStatus::Refused,
     }
 }
 
 /// Runs the tests of a class, and prints that all hold, or the first that doesn't.
-pub(crate) fn test<F: Reads, O: Output>(
+pub(crate) fn test<F: Files, O: Output>(
     alloc: Global,
     files: &F,
     asked: &Testing<'_>,
+    is_explained: bool,
     out: &mut O,
 ) -> ExitStatus
     ensures { TestEnds (F.disk files.now) (stream O.printed O.failed out.old)
-        (stream O.printed O.failed out.new) asked.now result }
+        (stream O.printed O.failed out.new) asked.now is_explained result }
 {
-    match told(alloc, files, asked) {
-        Ok((end, text)) => show_end(&end, &text, out),
-        Err(failure) => refuse(failure, out),
+    match tested(alloc, files, asked) {
+        Ok((end, lines)) => show_end(&end, &lines, out),
+        Err(failed) => tell(alloc, files, &failed, is_explained, out),
     }
 }

@@ -1,15 +1,15 @@
 ghost use Rattle.std.specs.Prelude.{◌≡◌};
 ghost use Rattle.class_tests.specs.Cases.{is_same, are_held};
 
-use crate::bytes::Bytes;
+use crate::test_bytes::TestBytes;
 
 /// What a line says that there is, and what there is.
 #[derive(Drop)]
-pub enum Said {
+pub enum TestSaid {
     /// An answer: its code, of 64 bits, to be read as a signed number, and its output.
-    Answer(u64, Bytes),
+    Answer(u64, TestBytes),
     /// Data or a value; `None` if there is none.
-    Held(Option<Bytes>),
+    Held(Option<TestBytes>),
     /// The class has no method of that name.
     NoMethod,
     /// The input is longer than the method's in_cap.
@@ -17,7 +17,7 @@ pub enum Said {
 }
 
 /// True if both are none, or the same bytes.
-fn are_held(a: &Option<Bytes>, b: &Option<Bytes>) -> bool
+fn are_held(a: &Option<TestBytes>, b: &Option<TestBytes>) -> bool
     ensures { result ≡ are_held a.now b.now }
 {
     match (a, b) {
@@ -27,16 +27,16 @@ fn are_held(a: &Option<Bytes>, b: &Option<Bytes>) -> bool
     }
 }
 
-impl Said {
+impl TestSaid {
     /// True if a call's answer, data or a value is what was said. A refused call is never said.
-    pub(crate) fn is(&self, there: &Said) -> bool
+    pub(crate) fn is(&self, there: &TestSaid) -> bool
         ensures { result ≡ is_same self.now there.now }
     {
         match (self, there) {
-            (Said::Answer(code, output), Said::Answer(found, bytes)) => {
+            (TestSaid::Answer(code, output), TestSaid::Answer(found, bytes)) => {
                 *code == *found && output.are(bytes)
             }
-            (Said::Held(value), Said::Held(found)) => are_held(value, found),
+            (TestSaid::Held(value), TestSaid::Held(found)) => are_held(value, found),
             _ => false,
         }
     }

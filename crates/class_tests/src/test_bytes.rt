@@ -5,11 +5,11 @@ use std::marker::Model;
 
 /// A list of bytes. Contracts see the list.
 #[derive(Drop)]
-pub struct Bytes {
+pub struct TestBytes {
     items: Vec<u8>,
 }
 
-impl Model for Bytes {
+impl Model for TestBytes {
     ghost use Rattle.std.specs.Prelude.{List, ℕ};
 
     ghost Value = { List ℕ };
@@ -17,12 +17,12 @@ impl Model for Bytes {
     ghost view = { λ b. b.items.items };
 }
 
-impl Bytes {
+impl TestBytes {
     /// These bytes. It takes no memory.
-    pub(crate) fn new(items: Vec<u8>) -> Bytes
+    pub(crate) fn new(items: Vec<u8>) -> TestBytes
         ensures { result ≡ items.items }
     {
-        Bytes { items }
+        TestBytes { items }
     }
 
     /// The bytes, the first one first.
@@ -33,7 +33,7 @@ impl Bytes {
     }
 
     /// True if two have the same bytes.
-    pub(crate) fn are(&self, other: &Bytes) -> bool
+    pub(crate) fn are(&self, other: &TestBytes) -> bool
         ensures { result ≡ bytes_eq self.now other.now }
     {
         self.items == other.items
