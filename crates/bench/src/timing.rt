@@ -1,4 +1,4 @@
-ghost use Rattle.std.specs.Prelude.{◌≤◌};
+ghost use Rattle.std.specs.Prelude.{◌≡◌, ◌≤◌, ◌*◌, ◌/◌, ◌^◌, ◌-◌, min};
 
 use anyhow::Result;
 use std::alloc::Global;
@@ -68,9 +68,12 @@ impl Least {
         Least { picos: u64::MAX }
     }
 
-    /// Notes a measurement, in which that many took that many nanoseconds.
+    /// Notes a measurement, in which that many took that many nanoseconds: the least picoseconds of
+    /// one stay. A time over 2^128 picoseconds counts as that, and one of 2^64 or more as 2^64 - 1.
     pub fn note(&mut self, nanos: u128, count: usize)
         requires { 1 ≤ count }
+        ensures { self.new.picos ≡
+            min self.old.picos (min (min (nanos * 1000) (2 ^ 128 - 1) / count) (2 ^ 64 - 1)) }
     {
         let picos = nanos.saturating_mul(1000) / count as u128;
         self.picos = self.picos.min(picos.min(u128::from(u64::MAX)) as u64);
@@ -112,27 +115,5 @@ pub fn nanos_since<C: Clock>(clock: Option<&C>, start: Option<Instant>) -> Resul
     match (clock, start) {
         (Some(clock), Some(start)) => Ok(start.elapsed(clock)?.as_nanos()),
         _ => Ok(0),
-    }
-}
-
-#[cfg(test)]
-mod tests {
-    use super::Least;
-
-    /// Nanoseconds, how many took them, and the least picoseconds of one so far.
-    const NOTES: [(u128, usize, u64); 4] = [
-        (u128::MAX, 1, u64::MAX),
-        (3_000_000, 1_000, 3_000_000),
-        (7, 2, 3_500),
-        (1_000_000, 1_000, 3_500),
-    ];
-
-    #[test]
-    fn the_least_time_is_kept(rt: HostRuntime) {
-        let mut least = Least::new();
-        for (nanos, count, picos) in NOTES {
-            least.note(nanos, count);
-            assert_eq!(rt; least.picos, picos);
-        }
     }
 }
