@@ -3,12 +3,12 @@ from process_rows import Row
 
 # What each command is for, as the help has it, and the command's use.
 PURPOSES = {
-    "verify": ("Tells whether the methods of a class image are safe", "[OPTIONS] <IN>"),
-    "run": ("Runs a method of a class image beside an object", "[OPTIONS] <IN> <METHOD>"),
+    "verify": ("Tells whether the methods of a class are safe", "[OPTIONS] <IN>"),
+    "run": ("Runs a method of a class beside an object", "[OPTIONS] <IN> <METHOD>"),
     "test": ("Runs the tests of a class", "<IN> <FILE>"),
     "asm": ("Writes the image of a class from its text", "[OPTIONS] <IN> <OUT>"),
     "pack": ("Writes the image of a class from raw code", "[OPTIONS] <OUT> <METHOD>..."),
-    "dis": ("Prints the text of a class image", "[OPTIONS] <IN>"),
+    "dis": ("Prints the text of a class", "[OPTIONS] <IN>"),
     "sim": ("Plays a group of nodes from a file of events", "[OPTIONS] <FILE>"),
     "cluster": ("Plays clients' calls on a cluster in threads", "[OPTIONS] <FILE>"),
 }

@@ -28,7 +28,7 @@ fn verify_command<'a>(alloc: Global) -> Result<Command<'a>, AllocError>
 {
     let heading = Heading {
         name: "verify",
-        about: "Tells whether the methods of a class image are safe",
+        about: "Tells whether the methods of a class are safe",
         examples: help::VERIFY,
     };
     let of_image = file_command(
@@ -48,7 +48,7 @@ fn call_command<'a>(alloc: Global) -> Result<Command<'a>, AllocError>
 {
     let heading = Heading {
         name: "run",
-        about: "Runs a method of a class image beside an object",
+        about: "Runs a method of a class beside an object",
         examples: help::RUN,
     };
     let of_image = file_command(
@@ -165,7 +165,7 @@ fn dis_command<'a>(alloc: Global) -> Result<Command<'a>, AllocError>
 {
     let heading = Heading {
         name: "dis",
-        about: "Prints the text of a class image",
+        about: "Prints the text of a class",
         examples: help::DIS,
     };
     let of_image = file_command(
