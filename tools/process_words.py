@@ -5,7 +5,7 @@ from process_rows import Row
 PURPOSES = {
     "verify": ("Tells whether the methods of a class are safe", "[OPTIONS] <IN>"),
     "run": ("Runs a method of a class beside an object", "[OPTIONS] <IN> <METHOD>"),
-    "test": ("Runs the tests of a class", "<IN> <FILE>"),
+    "test": ("Runs the tests of a class", "[OPTIONS] <IN> <FILE>"),
     "asm": ("Writes the image of a class from its text", "[OPTIONS] <IN> <OUT>"),
     "pack": ("Writes the image of a class from raw code", "[OPTIONS] <OUT> <METHOD>..."),
     "dis": ("Prints the text of a class", "[OPTIONS] <IN>"),

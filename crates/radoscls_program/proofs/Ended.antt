@@ -50,10 +50,10 @@ ended before after old new words (task.Run call e) Done named (inr un) = absurd 
 ended before after old new words (task.Run call e) Refused named (inr un) =
     inr (inr (inr (inr (inr (inl (record { call = call; is_explained = e; named = named; unfilled = un.1 }))))))
 ended before after old new words (task.Run call e) Usage named (inr un) = absurd (let bad : Usage ≡ Refused = un.0 in cc)
-ended before after old new words (task.Test asked) Done named tested = inr (inr (inr (inr (record { asked = asked; named = named; left = tested.0; ended = tested.1 }))))
-ended before after old new words (task.Test asked) Refused named tested =
-    inr (inr (inr (inr (inr (inr (inr (record { asked = asked; named = named; left = tested.0; ended = tested.1 })))))))
-ended before after old new words (task.Test asked) Usage named tested = absurd tested.1
+ended before after old new words (task.Test asked e) Done named tested = inr (inr (inr (inr (record { asked = asked; is_explained = e; named = named; left = tested.0; ended = tested.1 }))))
+ended before after old new words (task.Test asked e) Refused named tested =
+    inr (inr (inr (inr (inr (inr (inr (record { asked = asked; is_explained = e; named = named; left = tested.0; ended = tested.1 })))))))
+ended before after old new words (task.Test asked e) Usage named tested = absurd tested.1
 ended before after old new words (task.Sim s) Done named played = inr (inl (record { simulation = s; named = named; left = played.0; ended = played.1 }))
 ended before after old new words (task.Sim s) Refused named played = inr (inr (inr (inl (record { simulation = s; named = named; left = played.0; ended = played.1 }))))
 ended before after old new words (task.Sim s) Usage named played = absurd played.1
