@@ -17,7 +17,7 @@ use Rattle.abstract_regs.specs.Seen.{seen}
 use Rattle.abstract_regs.proofs.LinkJoins.{joins_left, joins_right}
 use Rattle.abstract_regs.specs.Laws.{BelowKind, JoinCommutes, JoinAssociates, JoinOfSame, JoinIsAbove, JoinsHold}
 
-same_means : (r q : Region) → same_region r q ≡ true → r ≡ q
+pub same_means : (r q : Region) → same_region r q ≡ true → r ≡ q
 same_means Input Input e = refl
 same_means Output Output e = refl
 same_means Stack Stack e = refl
@@ -137,7 +137,7 @@ module _ (law : numbers.JoinOfSame) where
   pointer_of_same Output x = ap (λ n. Ptr Output (view n)) (law x)
   pointer_of_same Stack x = ap (λ n. Ptr Stack (view n)) (law x)
 
-  kind_of_same : (x : Kind) → join_kind (seen x) (seen x) ≡ seen x
+  pub kind_of_same : (x : Kind) → join_kind (seen x) (seen x) ≡ seen x
   kind_of_same code.Unset = refl
   kind_of_same (code.Num n) = ap (λ n. Num (view n)) (law n)
   kind_of_same (code.Ptr r n) = pointer_of_same r n

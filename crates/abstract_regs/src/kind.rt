@@ -1,4 +1,4 @@
-ghost use Rattle.std.specs.Prelude.{◌≡◌, Some, None};
+ghost use Rattle.std.specs.Prelude.{◌≡◌, IsTrue, Some, None};
 ghost use Rattle.std.specs.Option.{option_map};
 ghost use Rattle.abstract_regs.specs.Seen.{seen, seen_both, view_both};
 ghost use Rattle.abstract_regs.specs.Kind as plain;
@@ -70,6 +70,21 @@ impl Kind {
         match self {
             Kind::Ptr(_, _) => true,
             Kind::Unset | Kind::Num(_) => false,
+        }
+    }
+
+    /// True if both are known to be the same.
+    #[inline(always)]
+    pub(crate) fn is_same(&self, other: &Kind) -> bool
+        ensures { IsTrue result → seen self.now ≡ seen other.now }
+    {
+        match (self, other) {
+            (Kind::Unset, Kind::Unset) => true,
+            (Kind::Num(a), Kind::Num(b)) => is_same_number(a, b),
+            (Kind::Ptr(r, a), Kind::Ptr(q, b)) => is_same_region(*r, *q) && is_same_number(a, b),
+            (Kind::Unset, Kind::Num(_) | Kind::Ptr(_, _)) => false,
+            (Kind::Num(_), Kind::Unset | Kind::Ptr(_, _)) => false,
+            (Kind::Ptr(_, _), Kind::Unset | Kind::Num(_)) => false,
         }
     }
 
@@ -157,6 +172,7 @@ impl Kind {
     }
 
     /// Refines both kinds of a comparison along an edge; `same` says that both are of one register.
+    #[inline(always)]
     pub(crate) fn along(
         precision: Precision,
         bits: OpWidth,
@@ -242,6 +258,23 @@ impl Kind {
             }),
         }
     }
+}
+
+/// True if both numbers have the same four parts.
+#[inline(always)]
+fn is_same_number(x: &Number, y: &Number) -> bool
+    ensures { IsTrue result → view x.now ≡ view y.now }
+{
+    let (unsigned, signed, bits, half) = (x.unsigned(), x.signed(), x.bits(), x.half());
+    let others = (y.unsigned(), y.signed(), y.bits(), y.half());
+    unsigned.low == others.0.low
+        && unsigned.high == others.0.high
+        && signed.low == others.1.low
+        && signed.high == others.1.high
+        && bits.value == others.2.value
+        && bits.unknown == others.2.unknown
+        && half.low == others.3.low
+        && half.high == others.3.high
 }
 
 #[inline(always)]

@@ -4,6 +4,7 @@ ghost use Rattle.std.specs.Prelude.{◌≡◌, ◌≤◌, Some, IfOk, length, re
 ghost use Rattle.abstract_regs.specs.Frame.{join_each};
 ghost use Rattle.abstract_regs.specs.Moves.{EachFits};
 ghost use Rattle.abstract_regs.specs.Kind as plain;
+ghost use Rattle.abstract_regs.specs.Kind.{join_kind};
 ghost use Rattle.abstract_num.specs.Plain.{constant};
 ghost use Rattle.abstract_regs.specs.Seen.{seen, seen_each};
 ghost use Rattle.abstract_regs.specs.Slots.{overwritten, spoiled, meets};
@@ -11,7 +12,7 @@ ghost use Rattle.abstract_regs.specs.Slots.{overwritten, spoiled, meets};
 use crate::content::Content;
 use crate::kind::Kind;
 use crate::stack_span::StackSpan;
-use abstract_num::{any, constant, keeping_laws};
+use abstract_num::{any, constant, join_laws, keeping_laws};
 use std::alloc::{AllocError, Global};
 
 /// `count` slots with the number 0.
@@ -33,13 +34,26 @@ pub(crate) fn fit_all(kinds: &[Kind])
     keeping_laws();
 }
 
+/// Joins a kind in place. Most of two flows' kinds are equal: those are compared alone.
+#[inline(always)]
+fn join_one(kind: &mut Kind, other: &Kind)
+    ensures { seen kind.new ≡ join_kind (seen kind.old) (seen other.now) }
+{
+    // For the proof: the join of a number with itself is that number.
+    join_laws();
+    if kind.is_same(other) {
+        return;
+    }
+    *kind = kind.join(*other);
+}
+
 /// Joins kinds in place.
 pub(crate) fn join_all(kinds: &mut [Kind], others: &[Kind])
     requires { length kinds.old ≤ length others.now }
     ensures { seen_each kinds.new ≡ join_each (seen_each kinds.old) (seen_each others.now) }
 {
     for i in 0..kinds.len() {
-        kinds[i] = kinds[i].join(others[i]);
+        join_one(&mut kinds[i], &others[i]);
     }
 }
 

@@ -33,7 +33,7 @@ loop-i-preserved c =
     let xs = c.loop-i.kinds in
     let f = c.args.kinds.now in
     let g = c.args.others.now in
-    let k = c.join.result in
+    let k = c.join_one.new.kind in
     let a = c.index-kinds-i.result in
     let b = c.index-others-i.result in
     let lx = c.loop-i.invariant.long in
@@ -52,7 +52,7 @@ loop-i-preserved c =
           ap seen_each (take_more_set xs i k in_x)
           ∙ seen_push (take i xs) k
           ∙ ap (λ t. t ++ seen k ∷ []) c.loop-i.invariant.joined
-          ∙ ap (λ v. join_each (seen_each (take i f)) (seen_each (take i g)) ++ v ∷ []) (c.join.ensures ∙ ap (λ x. join_kind (seen x) (seen b)) (c.index-kinds-i.is ∙ here) ∙ ap (λ y. join_kind (seen (get_or f i a)) (seen y)) c.index-others-i.is)
+          ∙ ap (λ v. join_each (seen_each (take i f)) (seen_each (take i g)) ++ v ∷ []) (c.join_one.ensures ∙ ap (λ x. join_kind (seen x) (seen b)) here ∙ ap (λ y. join_kind (seen (get_or f i a)) (seen y)) c.index-others-i.is)
           ∙ sym (join_push (take i f) (take i g) (get_or f i a) (get_or g i b) (m ∙ sym n))
           ∙ ap (λ t. join_each (seen_each t) (seen_each (take i g ++ get_or g i b ∷ []))) (sym (take_more f i a in_f))
           ∙ ap (λ t. join_each (seen_each (take (i + 1) f)) (seen_each t)) (sym (take_more g i b in_g));
