@@ -15,4 +15,5 @@ mod Keeping
 mod LinkKeeping
 mod Known
 mod Places
+mod Firsts
 pub mod Flat

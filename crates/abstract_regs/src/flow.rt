@@ -4,13 +4,14 @@ ghost use Rattle.std.specs.Prelude.{◌≡◌, ℕ, ◌<◌, ◌+◌, ◌++◌, 
 ghost use Rattle.std.specs.Option.{option_map, option_and_then};
 ghost use Rattle.bpf_decode.specs.Instruction.{slot_count, byte_count};
 ghost use Rattle.bpf_decode.specs.Values.{extended};
-ghost use Rattle.abstract_num.specs.Plain.{view};
+ghost use Rattle.abstract_num.specs.Plain.{Gives, view};
+ghost use Rattle.abstract_num.specs.Edges.{along, first_of};
 ghost use Rattle.abstract_num.specs.Tighten.{tighten};
 ghost use Rattle.abstract_num.specs.declared.precision.Precision.{Precision};
 ghost use Rattle.abstract_num.specs.Transfer.{ranged, load_high};
 ghost use Rattle.abstract_regs.specs.Kind as plain;
 ghost use Rattle.abstract_regs.specs.Seen.{seen, seen_both};
-ghost use Rattle.abstract_regs.specs.Frame.{kind_at, kept_kind, operand_kind};
+ghost use Rattle.abstract_regs.specs.Frame.{kind_at, kept_kind, operand_kind, with_kind};
 ghost use Rattle.abstract_regs.specs.Kind.{alu_kind};
 ghost use Rattle.abstract_regs.specs.Links.{told};
 ghost use Rattle.abstract_regs.specs.Flow.{edge_to, computed, same_register, with_operand, with_both, along_edge};
@@ -18,11 +19,15 @@ ghost use Rattle.abstract_regs.specs.Flow.{loaded_kind, edges_of, flow};
 ghost use Rattle.abstract_regs.specs.Moves.{EachFits, Keeps};
 ghost use Rattle.abstract_regs.specs.Edged.{with_edges, refined};
 ghost use Rattle.abstract_regs.specs.declared.kind.Kinds.{Kinds};
+ghost use Rattle.bpf_decode.specs.declared.insn.Operand.TheVariants as Operand;
 
 use crate::edges::{Compared, Edges};
 use crate::frame::Frame;
 use crate::kind::{Kind, Kinds};
-use abstract_num::{Number, Precision, arithmetic, constant, keeping_laws, loaded, loaded_signed};
+use abstract_num::{
+    Number, Precision, arithmetic, constant, keeping_laws, loaded, loaded_signed, refine,
+};
+use bpf_decode::arithmetic::copied;
 use bpf_decode::{Arithmetic, Comparison, Insn, OpWidth, Operand, Register, Width, jump_target};
 
 /// True if a comparison is of a register with itself.
@@ -33,6 +38,24 @@ fn is_same_register(dst: Register, source: &Operand) -> bool
     match *source {
         Operand::Immediate(_) => false,
         Operand::Register(src) => dst.number() == src.number(),
+    }
+}
+
+/// What an edge of a comparison leaves of the first number.
+#[inline(always)]
+fn first_along(
+    precision: Precision,
+    bits: OpWidth,
+    comparison: Comparison,
+    taken: bool,
+    x: &Number,
+    y: Number,
+) -> Option<Number>
+    ensures { Gives (option_map first_of (along precision bits comparison taken (view x.now) (view y))) result }
+{
+    match refine(precision, bits, comparison, taken, *x, y) {
+        None => None,
+        Some((first, _)) => Some(first),
     }
 }
 
@@ -217,6 +240,9 @@ impl Frame {
     }
 
     /// Both edges of a comparison.
+    // Its places are many: in one function with the other instructions, each of those would clear
+    // them.
+    #[inline(never)]
     fn branch(
         &mut self,
         precision: Precision,
@@ -231,12 +257,73 @@ impl Frame {
             edge_to next (along_edge precision bits comparison false dst source.now self.old) ≡
             with_edges precision result place.new next self.new }
     {
+        if let (Kind::Num(x), Operand::Immediate(imm)) = (self.peek(dst), source) {
+            // Nothing is kept of what an edge leaves of an immediate.
+            let y = constant(copied(bits, i64::from(*imm).cast_unsigned()));
+            let taken = first_along(precision, bits, comparison, true, x, y);
+            let fallen = first_along(precision, bits, comparison, false, x, y);
+            return self.fork_first(precision, dst, *imm, target, taken, fallen, place);
+        }
         let same = is_same_register(dst, source);
         let x = self.at(dst);
         let y = self.compared(bits, source);
         let taken = Kind::along(precision, bits, comparison, true, same, &x, &y);
         let fallen = Kind::along(precision, bits, comparison, false, same, &x, &y);
         self.fork(precision, dst, source, target, taken, fallen, place)
+    }
+
+    /// Both edges of a comparison with an immediate, by the numbers that each leaves of the register.
+    #[inline(always)]
+    fn fork_first(
+        &mut self,
+        precision: Precision,
+        dst: Register,
+        imm: i32,
+        target: usize,
+        taken: Option<Number>,
+        fallen: Option<Number>,
+        place: &mut Kinds,
+    ) -> Edges
+        ensures { (next : ℕ) →
+            edge_to target (option_and_then (told precision dst (Operand.Immediate imm))
+            (option_map (with_kind self.old dst) (option_map plain.Num (option_map view taken)))) ++
+            edge_to next (option_and_then (told precision dst (Operand.Immediate imm))
+            (option_map (with_kind self.old dst) (option_map plain.Num (option_map view fallen)))) ≡
+            with_edges precision result place.new next self.new }
+    {
+        let source = &Operand::Immediate(imm);
+        match (taken, fallen) {
+            (None, None) => Edges::Leaves,
+            (None, Some(number)) => {
+                self.set(dst, Kind::Num(number));
+                if self.tell_both(precision, dst, source) {
+                    Edges::Falls
+                } else {
+                    Edges::Leaves
+                }
+            }
+            (Some(number), None) => {
+                self.set(dst, Kind::Num(number));
+                if self.tell_both(precision, dst, source) {
+                    Edges::Jumps(target)
+                } else {
+                    Edges::Leaves
+                }
+            }
+            (Some(number), Some(other)) => {
+                self.set(dst, Kind::Num(number));
+                place.dst = Kind::Num(other);
+                let compared = Compared {
+                    dst,
+                    source: *source,
+                };
+                if self.is_told(dst, source) {
+                    Edges::Forks(target, compared)
+                } else {
+                    Edges::Branches(target, compared)
+                }
+            }
+        }
     }
 
     /// Both edges, by the kinds that each leaves. If both are live, the place gets the kinds along

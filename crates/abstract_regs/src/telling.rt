@@ -217,6 +217,9 @@ impl Frame {
     ) -> bool
         ensures { told precision dst source.now self.old ≡ if_live result self.new }
     {
+        if !self.is_told(dst, source) {
+            return true;
+        }
         match *source {
             Operand::Immediate(_) => self.tell_from(precision, dst),
             Operand::Register(src) => {
