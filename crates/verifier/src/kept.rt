@@ -61,7 +61,7 @@ impl PendingFrames {
     {
         if slot < self.frames.len() {
             let kept = self.frames[slot].take();
-            let spare = self.spare.take();
+            let spare = taken_if(kept.is_none(), &mut self.spare);
             self.frames[slot] = Some(met(alloc, spare, kept, flow)?);
         }
         Ok(())
@@ -106,6 +106,12 @@ impl PendingFrames {
             self.spare = frame;
         }
     }
+}
+
+/// The spare frame if it is needed; else it stays.
+#[inline(always)]
+fn taken_if(needed: bool, spare: &mut Option<Box<Frame>>) -> Option<Box<Frame>> {
+    if needed { spare.take() } else { None }
 }
 
 /// A flow, joined in place with what has flowed there.
