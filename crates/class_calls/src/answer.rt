@@ -50,6 +50,7 @@ pub struct Answer {
 }
 
 /// The answer of a run with its list.
+#[inline(always)]
 fn said(listed: Listed) -> Answer
     ensures { Says listed result }
 {

@@ -45,6 +45,7 @@ fn number(error: MethodError) -> i32
 }
 
 /// Says what a call answered.
+#[inline(always)]
 pub(crate) fn tell(
     found: Result<Answer, MethodError>,
     answer: &mut ToldAnswer,
