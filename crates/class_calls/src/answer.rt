@@ -11,7 +11,7 @@ use verifier::VerifiedClass;
 
 /// What is asked of a class: a method on an object, for a client.
 #[derive(Clone, Copy)]
-pub struct Request<'a> {
+pub struct ClassCall<'a> {
     /// The method's name; any bytes.
     pub method: &'a [u8],
     /// The object's flat form.
@@ -85,7 +85,7 @@ pub fn call_on(
     alloc: Global,
     room: &mut Room,
     class: &VerifiedClass,
-    request: Request,
+    request: ClassCall,
 ) -> Result<Answer, MethodError>
     ensures ok { IfOk result
         (IsAnsweredBy class.now request.entry.method.now request.entry.object.now request.entry.caller
@@ -94,7 +94,7 @@ pub fn call_on(
         (RefusesMethod class.now request.entry.method.now request.entry.object.now request.entry.caller
         request.entry.input.now) }
 {
-    let Request {
+    let ClassCall {
         method,
         object,
         caller,

@@ -6,7 +6,7 @@ ghost use Rattle.verifier.specs.Verified.{method_named};
 ghost use Rattle.class_calls.specs.Answers.{IsAnsweredBy, IsLoaded, RefusesImage, RefusesMethod};
 ghost use Rattle.class_calls.specs.Handle.{IsPlace, declared_of, told, told_of};
 
-use crate::answer::{Answer, MethodError, Request, call_on};
+use crate::answer::{Answer, ClassCall, MethodError, call_on};
 use crate::class::{ClassError, judged, place_of, read};
 use bpf_decode::ClassImage;
 use footprint::{Parts, needed};
@@ -131,7 +131,7 @@ impl ClassHandle {
     }
 
     /// Calls a method of the class on an object in its flat form.
-    pub fn call(&mut self, alloc: Global, request: Request) -> Result<Answer, MethodError>
+    pub fn call(&mut self, alloc: Global, request: ClassCall) -> Result<Answer, MethodError>
         ensures ok { IfOk result
             (IsAnsweredBy self.old request.entry.method.now request.entry.object.now request.entry.caller
             request.entry.input.now) }

@@ -9,7 +9,7 @@ mod class;
 mod handle;
 mod laws;
 
-pub use answer::{Answer, MethodError, Request, call_on};
+pub use answer::{Answer, ClassCall, MethodError, call_on};
 pub use class::{ClassError, load, place_of};
 pub use handle::{ClassHandle, Declared};
 pub use laws::{lists_stand_over_others, one_answer, one_class, parts_may_be_left_out};

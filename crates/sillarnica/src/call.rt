@@ -7,7 +7,7 @@ use crate::told::{
     INPUT_TOO_LONG, MALFORMED, NO_MEMORY, NO_METHOD, NO_ROOM, ToldAnswer, ToldRefusal, tell_answer,
     tell_class,
 };
-use class_calls::{Answer, MethodError, Request, call_on, load};
+use class_calls::{Answer, ClassCall, MethodError, call_on, load};
 use interp::Room;
 use std::alloc::Global;
 
@@ -67,7 +67,7 @@ pub(crate) fn tell(
 pub(crate) fn call(
     alloc: Global,
     image: &[u8],
-    request: Request,
+    request: ClassCall,
     refusal: &mut ToldRefusal,
     answer: &mut ToldAnswer,
     out: &mut [u8],

@@ -15,7 +15,7 @@ mod told;
 mod verified;
 mod verify;
 
-use class_calls::Request;
+use class_calls::ClassCall;
 pub use pointer::ClassPointer;
 use std::alloc::Global;
 pub use told::{ToldAnswer, ToldMethod, ToldRefusal};
@@ -111,7 +111,7 @@ pub extern "C" fn sillarnica_call(
     ensures { TellsCall image.now method.now object.now caller input.now refusal.old refusal.new
         (record { answer = answer.old; out = out.old }) (record { answer = answer.new; out = out.new }) result }
 {
-    let request = Request {
+    let request = ClassCall {
         method,
         object,
         caller,
@@ -151,7 +151,7 @@ pub extern "C" fn sillarnica_verified_call(
         (record { answer = answer.old; out = out.old }) (record { answer = answer.new; out = out.new }) result }
     ensures held { verified.new.pointer.class ≡ verified.old.pointer.class }
 {
-    let request = Request {
+    let request = ClassCall {
         method,
         object,
         caller,

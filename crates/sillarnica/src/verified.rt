@@ -8,7 +8,7 @@ use crate::call::tell;
 use crate::method::{needs_of, tell_method};
 use crate::pointer::ClassPointer;
 use crate::told::{CLOSED, NO_MEMORY, NO_METHOD, ToldAnswer, ToldMethod, ToldRefusal, tell_class};
-use class_calls::{ClassHandle, Request};
+use class_calls::{ClassCall, ClassHandle};
 use std::alloc::Global;
 use std::mem::replace;
 
@@ -102,7 +102,7 @@ pub(crate) fn copy(alloc: Global, verified: &mut Verified, other: &mut Verified)
 pub(crate) fn call(
     alloc: Global,
     verified: &mut Verified,
-    request: Request,
+    request: ClassCall,
     answer: &mut ToldAnswer,
     out: &mut [u8],
 ) -> i32

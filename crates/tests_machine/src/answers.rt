@@ -1,6 +1,8 @@
 //! Each answer of a call on bytes, of the images of small classes.
 
-use class_calls::{Answer, ClassError, ClassHandle, MethodError, Request, call_on, load, place_of};
+use class_calls::{
+    Answer, ClassCall, ClassError, ClassHandle, MethodError, call_on, load, place_of,
+};
 use interp::Room;
 use std::alloc::Global;
 
@@ -58,8 +60,8 @@ fn of_class(error: ClassError) -> i32 {
     }
 }
 
-fn request<'a>(call: &'a Call, caller: u64) -> Request<'a> {
-    Request {
+fn request<'a>(call: &'a Call, caller: u64) -> ClassCall<'a> {
+    ClassCall {
         method: call.1,
         object: call.2,
         caller,

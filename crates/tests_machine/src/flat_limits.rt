@@ -3,7 +3,7 @@
 use crate::flat_objects::is_form;
 use crate::methods::image;
 use bpf_decode::write_image;
-use class_calls::{Answer, ClassHandle, Request};
+use class_calls::{Answer, ClassCall, ClassHandle};
 use std::alloc::Global;
 use std::process::Abort;
 
@@ -111,7 +111,7 @@ fn answered(rt: &impl Abort, alloc: Global, row: &Row) -> Option<Answer> {
     let image = write_image(alloc, &image).ok()?;
     let form = form(alloc, row.2)?;
     let mut class = ClassHandle::open(alloc, &image).ok()?;
-    let request = Request {
+    let request = ClassCall {
         method: b"f",
         object: &form,
         caller: 1,
