@@ -60,8 +60,14 @@ verify cut --explain
 => 1 line 1: 1 Word // line 1: before // wanted: first an instruction's word, or a label `name:`, `.method` or
     `.rules` // see docs/ASSEMBLY.md, 1 Word
 pack out f:r:0:0:cut --explain
-=> 1 image refused after 0 methods: 1 Truncated // method f, cut //
+=> 1 image refused after 0 methods: 1 Truncated // method f, IN 0, OUT 0, cut //
     it ends within a field: it was cut, or is none; code has 8 bytes a slot
+pack out f:r:0:0:code F:r:0:5000:code --explain
+=> 1 image refused after 1 methods: 7 Name // method F, IN 0, OUT 5000, code //
+    a method's name has 1 to 64 of a-z, 0-9 and _
+pack out f:r:0:5000:code --explain
+=> 1 image refused after 0 methods: 10 Limit // method f, IN 0, OUT 5000, code //
+    a class has 1 to 32 methods, of 1 to 4096 slots; IN and OUT are at most 4096, by rule set 3 65535
 """
 
 # Honest mistakes: texts, what is explained of each, and the change that it leads to, which is accepted.
@@ -296,74 +302,274 @@ mended by jeq r2 => mov r4, 0 / jeq r2
 # Mistakes in texts, as those of classes: what is said of each, and a text that is accepted.
 TEXT_MISTAKES = r"""
 .method f r 8 0 / ldxw r0, [r1 + 4] / exit
-=> 1 line 2: 2 Operand // line 2: ldxw r0, [r1 + 4] // form: `ldxw r0, [r1+4]` //
-    wanted: the operands of the word, in its form // see docs/ASSEMBLY.md, 2 Operand
+=> 1 line 2: 2 Operand // line 2: ldxw r0, [r1 + 4] // operand 2, `[r1 + 4]`: no blank stands within it: write
+    `[r1+4]` // form: `ldxw r0, [r1+4]` // wanted: the operands of the word, in its form // see docs/ASSEMBLY.md, 2
+    Operand
 mended by r1 + 4 => r1+4
 .method f r 8 0 / ldxw r0, r1 / exit
-=> 1 line 2: 2 Operand // line 2: ldxw r0, r1 // form: `ldxw r0, [r1+4]` //
-    wanted: the operands of the word, in its form // see docs/ASSEMBLY.md, 2 Operand
+=> 1 line 2: 2 Operand // line 2: ldxw r0, r1 // operand 2, `r1`: a place in memory stands in brackets, as `[r1+4]`
+    // form: `ldxw r0, [r1+4]` // wanted: the operands of the word, in its form // see docs/ASSEMBLY.md, 2 Operand
 mended by r0, r1 => r0, [r1+4]
+.method f r 8 0 / ldxw r0, 4(r1) / exit
+=> 1 line 2: 2 Operand // line 2: ldxw r0, 4(r1) // operand 2, `4(r1)`: a place in memory is written as `[r1+4]`;
+    the word tells how many bytes // form: `ldxw r0, [r1+4]` // wanted: the operands of the word, in its form // see
+    docs/ASSEMBLY.md, 2 Operand
+mended by 4(r1) => [r1+4]
+.method f r 8 0 / ldxw r0, [4+r1] / exit
+=> 1 line 2: 2 Operand // line 2: ldxw r0, [4+r1] // operand 2, `[4+r1]`: the register stands before the offset, as
+    `[r1+4]` // form: `ldxw r0, [r1+4]` // wanted: the operands of the word, in its form // see docs/ASSEMBLY.md, 2
+    Operand
+mended by 4+r1 => r1+4
+.method f r 8 0 / ldxw r0, [r1, 4] / exit
+=> 1 line 2: 2 Operand // line 2: ldxw r0, [r1, 4] // within `[` and `]` stand a register and an offset, and no
+    comma, as `[r1+4]` // form: `ldxw r0, [r1+4]` // wanted: the operands of the word, in its form // see
+    docs/ASSEMBLY.md, 2 Operand
+mended by r1, 4 => r1+4
+.method f r 8 0 / ldxw r0, [r1+] / exit
+=> 1 line 2: 2 Operand // line 2: ldxw r0, [r1+] // operand 2, `[r1+]`: the offset is missing after its sign //
+    form: `ldxw r0, [r1+4]` // wanted: the operands of the word, in its form // see docs/ASSEMBLY.md, 2 Operand
+mended by r1+ => r1+0
+.method f r 8 0 / ldxb r0, [r1+r2] / exit
+=> 1 line 2: 2 Operand // line 2: ldxb r0, [r1+r2] // operand 2, `[r1+r2]`: an offset is a number, and alone: add a
+    register to a copy of the other one before, by `add` // form: `ldxb r0, [r1+4]` // wanted: the operands of the
+    word, in its form // see docs/ASSEMBLY.md, 2 Operand
+mended by ldxb r0, [r1+r2] => and r2, 7 / add r1, r2 / ldxb r0, [r1+0]
+.method f r 8 0 / ldxb r0, [r1+32768] / exit
+=> 1 line 2: 3 Range // line 2: ldxb r0, [r1+32768] // operand 2, `[r1+32768]`: out of range: -32768 to 32767 //
+    form: `ldxb r0, [r1+4]` // wanted: a number within its field, 1 to 4096 slots in a method, 1 to 32 methods //
+    see docs/ASSEMBLY.md, 3 Range
+mended by 32768 => 7
+.method f r 8 0 / ldxb r0, [r1+4 / exit
+=> 1 line 2: 2 Operand // line 2: ldxb r0, [r1+4 // operand 2, `[r1+4`: within `[` and `]` stand a register and an
+    offset, and no comma, as `[r1+4]` // form: `ldxb r0, [r1+4]` // wanted: the operands of the word, in its form //
+    see docs/ASSEMBLY.md, 2 Operand
+mended by r1+4 => r1+4]
 .method f r 0 8 / stxb r2, [r3+0] / mov r0, 0 / exit
-=> 1 line 2: 2 Operand // line 2: stxb r2, [r3+0] // form: `stxb [r10-8], r2` //
-    wanted: the operands of the word, in its form // see docs/ASSEMBLY.md, 2 Operand
+=> 1 line 2: 2 Operand // line 2: stxb r2, [r3+0] // operand 1, `r2`: a place in memory stands in brackets, as
+    `[r1+4]` // operand 2, `[r3+0]`: no register: these are r0 to r10 // form: `stxb [r10-8], r2` // wanted: the
+    operands of the word, in its form // see docs/ASSEMBLY.md, 2 Operand
 mended by r2, [r3+0] => [r3+0], r2
 .method f r 0 0 / mov r1, 0 / mov r2, r10 / add r2, -8 / mov r3, 8 / call read / exit
-=> 1 line 6: 2 Operand // line 6: call read // form: `call 2` // read is `call 2` //
-    wanted: the operands of the word, in its form // see docs/ASSEMBLY.md, 2 Operand
+=> 1 line 6: 2 Operand // line 6: call read // operand 1, `read`: a helper is written as its number: write `call 2`
+    // form: `call 2` // wanted: the operands of the word, in its form // see docs/ASSEMBLY.md, 2 Operand
 mended by call read => call 2
+.method f r 0 0 / mov r1, 0 / mov r2, r10 / add r2, -8 / mov r3, 8 / call raed / exit
+=> 1 line 6: 2 Operand // line 6: call raed // operand 1, `raed`: no number: decimal, or `0x` and hexadecimal
+    digits; the nearest helper is `read`: write `call 2` // form: `call 2` // wanted: the operands of the word, in
+    its form // see docs/ASSEMBLY.md, 2 Operand
+mended by call raed => call 2
+.method f r 0 0 / call cls_cxx_stat / mov r0, 0 / exit
+=> 1 line 2: 2 Operand // line 2: call cls_cxx_stat // operand 1, `cls_cxx_stat`: a helper is written as its number:
+    write `call 1` // form: `call 2` // wanted: the operands of the word, in its form // see docs/ASSEMBLY.md, 2
+    Operand
+mended by cls_cxx_stat => 1
 .method f r 0 0 / mov r0, -EBUSY / exit
-=> 1 line 2: 2 Operand // line 2: mov r0, -EBUSY // form: `mov r1, r2` or `mov r1, -5` //
-    -EBUSY: a method answers the number -16 // wanted: the operands of the word, in its form //
-    see docs/ASSEMBLY.md, 2 Operand
+=> 1 line 2: 2 Operand // line 2: mov r0, -EBUSY // operand 2, `-EBUSY`: an error is written as its number: write
+    `-16` // form: `mov r1, r2` or `mov r1, -5` // wanted: the operands of the word, in its form // see
+    docs/ASSEMBLY.md, 2 Operand
 mended by -EBUSY => -16
 .method f r 0 0 / mov w0, 0 / exit
-=> 1 line 2: 2 Operand // line 2: mov w0, 0 // form: `mov r1, r2` or `mov r1, -5` //
-    wanted: the operands of the word, in its form // see docs/ASSEMBLY.md, 2 Operand
-mended by w0 => r0
+=> 1 line 2: 2 Operand // line 2: mov w0, 0 // operand 1, `w0`: no register: the word tells that 32 bits are meant,
+    as `mov32 r0, 5` // form: `mov r1, r2` or `mov r1, -5` // wanted: the operands of the word, in its form // see
+    docs/ASSEMBLY.md, 2 Operand
+mended by mov w0 => mov32 r0
+.method f r 0 0 / mov r0, 1.5 / exit
+=> 1 line 2: 2 Operand // line 2: mov r0, 1.5 // operand 2, `1.5`: numbers are whole: no point // form: `mov r1, r2`
+    or `mov r1, -5` // wanted: the operands of the word, in its form // see docs/ASSEMBLY.md, 2 Operand
+mended by 1.5 => 1
+.method f r 0 0 / mov r0, 0X1F / exit
+=> 1 line 2: 2 Operand // line 2: mov r0, 0X1F // operand 2, `0X1F`: a hexadecimal number begins with `0x`, with a
+    small x // form: `mov r1, r2` or `mov r1, -5` // wanted: the operands of the word, in its form // see
+    docs/ASSEMBLY.md, 2 Operand
+mended by 0X1F => 0x1F
+.method f r 0 0 / mov r0, 007 / exit
+=> 1 line 2: 2 Operand // line 2: mov r0, 007 // operand 2, `007`: a number has no leading zero // form: `mov r1,
+    r2` or `mov r1, -5` // wanted: the operands of the word, in its form // see docs/ASSEMBLY.md, 2 Operand
+mended by 007 => 7
+.method f r 0 0 / mov r0, +7 / exit
+=> 1 line 2: 2 Operand // line 2: mov r0, +7 // operand 2, `+7`: no `+` stands before a number here // form: `mov
+    r1, r2` or `mov r1, -5` // wanted: the operands of the word, in its form // see docs/ASSEMBLY.md, 2 Operand
+mended by +7 => 7
+.method f r 0 0 / mov r0, #7 / exit
+=> 1 line 2: 2 Operand // line 2: mov r0, #7 // operand 2, `#7`: nothing but a `-` stands before a number // form:
+    `mov r1, r2` or `mov r1, -5` // wanted: the operands of the word, in its form // see docs/ASSEMBLY.md, 2 Operand
+mended by #7 => 7
+.method f r 0 0 / mov r0, -0 / exit
+=> 1 line 2: 2 Operand // line 2: mov r0, -0 // operand 2, `-0`: 0 has no `-` // form: `mov r1, r2` or `mov r1, -5`
+    // wanted: the operands of the word, in its form // see docs/ASSEMBLY.md, 2 Operand
+mended by -0 => 0
+.method f r 0 8 / stb [r3+0], 'h' / mov r0, 0 / exit
+=> 1 line 2: 2 Operand // line 2: stb [r3+0], 'h' // operand 2, `'h'`: a letter is written as its number: write
+    `104` // form: `stb [r10-8], 5` // wanted: the operands of the word, in its form // see docs/ASSEMBLY.md, 2
+    Operand
+mended by 'h' => 104
+.method f r 0 0 / mov r0, 4294967295 / exit
+=> 1 line 2: 3 Range // line 2: mov r0, 4294967295 // operand 2, `4294967295`: out of range: -2147483648 to
+    2147483647; `lddw r1, ..` takes 64 bits // form: `mov r1, r2` or `mov r1, -5` // wanted: a number within its
+    field, 1 to 4096 slots in a method, 1 to 32 methods // see docs/ASSEMBLY.md, 3 Range
+mended by mov r0, 4294967295 => lddw r0, 4294967295
+.method f r 0 0 / mov r11, 0 / mov r0, 0 / exit
+=> 1 line 2: 3 Range // line 2: mov r11, 0 // operand 1, `r11`: registers are r0 to r10 // form: `mov r1, r2` or
+    `mov r1, -5` // wanted: a number within its field, 1 to 4096 slots in a method, 1 to 32 methods // see
+    docs/ASSEMBLY.md, 3 Range
+mended by r11 => r9
+.method f r 0 0 / mov r0 0 / exit
+=> 1 line 2: 2 Operand // line 2: mov r0 0 // `mov` wants 2 operands, with commas between them; here it has 1 //
+    form: `mov r1, r2` or `mov r1, -5` // wanted: the operands of the word, in its form // see docs/ASSEMBLY.md, 2
+    Operand
+mended by r0 0 => r0, 0
 .method f r 8 0 / mov r0, 0 / jeq r2, 0, 1 / mov r0, 1 / exit
-=> 1 line 3: 2 Operand // line 3: jeq r2, 0, 1 // form: `jeq r2, 15, +3` or `jeq r2, r3, end` //
-    wanted: the operands of the word, in its form // see docs/ASSEMBLY.md, 2 Operand
+=> 1 line 3: 2 Operand // line 3: jeq r2, 0, 1 // operand 3, `1`: a distance or an offset has its sign, as `+3` //
+    form: `jeq r2, 15, +3` or `jeq r2, r3, end` // wanted: the operands of the word, in its form // see
+    docs/ASSEMBLY.md, 2 Operand
 mended by jeq r2, 0, 1 => jeq r2, 0, +1
+.method f r 8 0 / mov r0, 0 / jeq r2, 0, .L1 / mov r0, 1 / l1: / exit
+=> 1 line 3: 2 Operand // line 3: jeq r2, 0, .L1 // operand 3, `.L1`: no label: one is a letter of a to z, then any
+    of a to z, 0 to 9 and _ // form: `jeq r2, 15, +3` or `jeq r2, r3, end` // wanted: the operands of the word, in
+    its form // see docs/ASSEMBLY.md, 2 Operand
+mended by .L1 => l1
+.method f r 8 0 / mov r0, 0 / jeq r2, 0 / exit
+=> 1 line 3: 2 Operand // line 3: jeq r2, 0 // `jeq` wants 3 operands, with commas between them; here it has 2 //
+    form: `jeq r2, 15, +3` or `jeq r2, r3, end` // wanted: the operands of the word, in its form // see
+    docs/ASSEMBLY.md, 2 Operand
+mended by r2, 0 => r2, 0, +0
 .method f r 0 0 / mov r0, 0 / exit r0
 => 1 line 3: 2 Operand // line 3: exit r0 // form: `exit` alone // wanted: the operands of the word, in its form //
     see docs/ASSEMBLY.md, 2 Operand
 mended by exit r0 => exit
 .method F ro 0 0 / mov r0, 0 / exit
-=> 1 line 1: 2 Operand // line 1: .method F ro 0 0 // form: `.method name rw 8 8` //
-    wanted: the operands of the word, in its form // see docs/ASSEMBLY.md, 2 Operand
+=> 1 line 1: 2 Operand // line 1: .method F ro 0 0 // operand 1, `F`: no method's name: 1 to 64 of a to z, 0 to 9
+    and _ // operand 2, `ro`: no flags: r (reads), w (writes) or rw // form: `.method name rw 8 8` // wanted: the
+    operands of the word, in its form // see docs/ASSEMBLY.md, 2 Operand
 mended by F ro => f r
+.method f, r, 0, 0 / mov r0, 0 / exit
+=> 1 line 1: 2 Operand // line 1: .method f, r, 0, 0 // `.method` wants 4 operands, with blanks and no commas
+    between them; here it has 7 // form: `.method name rw 8 8` // wanted: the operands of the word, in its form //
+    see docs/ASSEMBLY.md, 2 Operand
+mended by f, r, 0, 0 => f r 0 0
+.method f r 0 / mov r0, 0 / exit
+=> 1 line 1: 2 Operand // line 1: .method f r 0 // `.method` wants 4 operands, with blanks and no commas between
+    them; here it has 3 // form: `.method name rw 8 8` // wanted: the operands of the word, in its form // see
+    docs/ASSEMBLY.md, 2 Operand
+mended by f r 0 => f r 0 0
+.method f r 0 70000 / mov r0, 0 / exit
+=> 1 line 1: 3 Range // line 1: .method f r 0 70000 // operand 4, `70000`: out of range: IN and OUT are 0 to 4096,
+    by rule set 3 to 65535 // form: `.method name rw 8 8` // wanted: a number within its field, 1 to 4096 slots in a
+    method, 1 to 32 methods // see docs/ASSEMBLY.md, 3 Range
+mended by 70000 => 4096
+.method f r 0 5000 / mov r0, 0 / exit
+=> 1 line 1: 3 Range // line 1: .method f r 0 5000 // IN and OUT are at most 4096: smaller ones, or `.rules 3` on
+    the first line, with at most 65535 // wanted: a number within its field, 1 to 4096 slots in a method, 1 to 32
+    methods // see docs/ASSEMBLY.md, 3 Range
+mended by .method => .rules 3 / .method
 .rules 1 / .method f r 0 0 / mov r0, 0 / exit
-=> 1 line 1: 2 Operand // line 1: .rules 1 // form: `.rules 2` or `.rules 3` //
-    wanted: the operands of the word, in its form // see docs/ASSEMBLY.md, 2 Operand
+=> 1 line 1: 2 Operand // line 1: .rules 1 // operand 1, `1`: 2 or 3; a class of rule set 1 has no such line //
+    form: `.rules 2` or `.rules 3` // wanted: the operands of the word, in its form // see docs/ASSEMBLY.md, 2
+    Operand
 mended by rules 1 => rules 2
-.method f r 0 0 / mov r0, 0 / goto end / end: / exit
-=> 1 line 3: 1 Word // line 3: goto end // write `ja end` //
+.method f r 0 0 / .rules 2 / mov r0, 0 / exit
+=> 1 line 2: 1 Word // line 2: .rules 2 // `.rules` stands once, above all lines but comments and empty ones //
     wanted: first an instruction's word, or a label `name:`, `.method` or `.rules` // see docs/ASSEMBLY.md, 1 Word
+mended by .method f r 0 0 / .rules 2 => .rules 2 / .method f r 0 0
+mov r0, 0 / exit
+=> 1 line 1: 1 Word // line 1: mov r0, 0 // it stands before the first `.method`: write `.method name rw 8 8` above
+    it // wanted: first an instruction's word, or a label `name:`, `.method` or `.rules` // see docs/ASSEMBLY.md, 1
+    Word
+mended by mov r0 => .method f rw 8 8 / mov r0
+.method f r 0 0 / mov r0, 0 / goto end / end: / exit
+=> 1 line 3: 1 Word // line 3: goto end // write `ja end` // wanted: first an instruction's word, or a label
+    `name:`, `.method` or `.rules` // see docs/ASSEMBLY.md, 1 Word
 mended by goto => ja
 .method f r 0 0 / r0 = 0 / exit
-=> 1 line 2: 1 Word // line 2: r0 = 0 // write a word first, as `mov r0, 0` or `add r0, r1` //
-    wanted: first an instruction's word, or a label `name:`, `.method` or `.rules` // see docs/ASSEMBLY.md, 1 Word
+=> 1 line 2: 1 Word // line 2: r0 = 0 // write `mov r0, 0` // wanted: first an instruction's word, or a label
+    `name:`, `.method` or `.rules` // see docs/ASSEMBLY.md, 1 Word
 mended by r0 = 0 => mov r0, 0
+.method f r 0 0 / w0 = 7 / exit
+=> 1 line 2: 1 Word // line 2: w0 = 7 // write `mov32 r0, 7` // wanted: first an instruction's word, or a label
+    `name:`, `.method` or `.rules` // see docs/ASSEMBLY.md, 1 Word
+mended by w0 = 7 => mov32 r0, 7
+.method f r 8 0 / r0 = *(u32 *)(r1 + 4) / exit
+=> 1 line 2: 1 Word // line 2: r0 = *(u32 *)(r1 + 4) // write `ldxw r0, [r1+4]` // wanted: first an instruction's
+    word, or a label `name:`, `.method` or `.rules` // see docs/ASSEMBLY.md, 1 Word
+mended by r0 = *(u32 *)(r1 + 4) => ldxw r0, [r1+4]
+.method f r 0 8 / *(u64 *)(r3 + 0) = r2 / r0 = 0 / exit
+=> 1 line 2: 1 Word // line 2: *(u64 *)(r3 + 0) = r2 // write `stxdw [r3+0], r2` // wanted: first an instruction's
+    word, or a label `name:`, `.method` or `.rules` // see docs/ASSEMBLY.md, 1 Word
+mended by *(u64 *)(r3 + 0) = r2 / r0 = 0 => stxdw [r3+0], r2 / mov r0, 0
 .method f r 8 0 / mov r0, 0 / if r2 == 0 goto end / mov r0, 1 / end: / exit
-=> 1 line 3: 1 Word // line 3: if r2 == 0 goto end // write a jump as `jeq r2, 15, end` //
-    wanted: first an instruction's word, or a label `name:`, `.method` or `.rules` // see docs/ASSEMBLY.md, 1 Word
+=> 1 line 3: 1 Word // line 3: if r2 == 0 goto end // write `jeq r2, 0, end` // wanted: first an instruction's word,
+    or a label `name:`, `.method` or `.rules` // see docs/ASSEMBLY.md, 1 Word
 mended by if r2 == 0 goto end => jeq r2, 0, end
 .method f r 0 0 / mov r0, 0 / return
-=> 1 line 3: 1 Word // line 3: return // write `exit`, after `mov r0, 0` //
-    wanted: first an instruction's word, or a label `name:`, `.method` or `.rules` // see docs/ASSEMBLY.md, 1 Word
+=> 1 line 3: 1 Word // line 3: return // write `exit`, after `mov r0, 0` // wanted: first an instruction's word, or
+    a label `name:`, `.method` or `.rules` // see docs/ASSEMBLY.md, 1 Word
 mended by return => exit
 .method f r 8 0 / ldr r0, [r1+0] / exit
-=> 1 line 2: 1 Word // line 2: ldr r0, [r1+0] // write `ldxdw r0, [r1+0]` //
-    wanted: first an instruction's word, or a label `name:`, `.method` or `.rules` // see docs/ASSEMBLY.md, 1 Word
+=> 1 line 2: 1 Word // line 2: ldr r0, [r1+0] // write `ldxdw r0, [r1+0]` // wanted: first an instruction's word, or
+    a label `name:`, `.method` or `.rules` // see docs/ASSEMBLY.md, 1 Word
 mended by ldr => ldxdw
+.method f r 0 0 / MOV r0, 0 / exit
+=> 1 line 2: 1 Word // line 2: MOV r0, 0 // the nearest word is `mov` // wanted: first an instruction's word, or a
+    label `name:`, `.method` or `.rules` // see docs/ASSEMBLY.md, 1 Word
+mended by MOV => mov
+.method f r 0 0 / mvo r0, 0 / exit
+=> 1 line 2: 1 Word // line 2: mvo r0, 0 // the nearest word is `mov` // wanted: first an instruction's word, or a
+    label `name:`, `.method` or `.rules` // see docs/ASSEMBLY.md, 1 Word
+mended by mvo => mov
+.method f r 8 0 / mov r0, 0 / jmp end / end: / exit
+=> 1 line 3: 1 Word // line 3: jmp end // write `ja end` // wanted: first an instruction's word, or a label `name:`,
+    `.method` or `.rules` // see docs/ASSEMBLY.md, 1 Word
+mended by jmp => ja
+.method f r 8 0 / mov r0, 0 / ja end / end / exit
+=> 1 line 3: 4 Label // line 3: ja end // the method has no label `end`: write `end:` alone in line 4 // wanted:
+    each label once in its method, and the methods in the order of their names // see docs/ASSEMBLY.md, 4 Label
+mended by end / end => end / end:
+.method f r 8 0 / mov r0, 0 / ja end / end : / exit
+=> 1 line 3: 4 Label // line 3: ja end // the method has no label `end`: write `end:` alone in line 4 // wanted:
+    each label once in its method, and the methods in the order of their names // see docs/ASSEMBLY.md, 4 Label
+mended by end : => end:
+.method f r 8 0 / mov r0, 0 / ja end / end: exit
+=> 1 line 3: 4 Label // line 3: ja end // the method has no label `end`: write `end:` alone in line 4 // wanted:
+    each label once in its method, and the methods in the order of their names // see docs/ASSEMBLY.md, 4 Label
+mended by end: exit => end: / exit
+.method f r 8 0 / mov r0, 0 / ja end / End: / exit
+=> 1 line 3: 4 Label // line 3: ja end // the method has no label `end`: write `end:` alone in line 4 // wanted:
+    each label once in its method, and the methods in the order of their names // see docs/ASSEMBLY.md, 4 Label
+mended by End: => end:
+.method f r 8 0 / mov r0, 0 / ja edn / end: / exit
+=> 1 line 3: 4 Label // line 3: ja edn // the method has no label `edn`; the nearest one is `end` // wanted: each
+    label once in its method, and the methods in the order of their names // see docs/ASSEMBLY.md, 4 Label
+mended by edn => end
+.method f r 8 0 / mov r0, 0 / ja done / exit
+=> 1 line 3: 4 Label // line 3: ja done // the method has no label `done`: write `done:` above the instruction //
+    wanted: each label once in its method, and the methods in the order of their names // see docs/ASSEMBLY.md, 4
+    Label
+mended by exit => done: / exit
+.method f r 8 0 / mov r0, 0 / ja end / end: / end: / exit
+=> 1 line 5: 4 Label // line 5: end: // `end:` stands in line 4 too: another name for one of them // wanted: each
+    label once in its method, and the methods in the order of their names // see docs/ASSEMBLY.md, 4 Label
+mended by end: / end: => end:
 .method f r 0 0 / # nothing / mov r0, 0 / exit
-=> 1 line 2: 1 Word // line 2: # nothing // write a comment after `;` //
-    wanted: first an instruction's word, or a label `name:`, `.method` or `.rules` // see docs/ASSEMBLY.md, 1 Word
+=> 1 line 2: 1 Word // line 2: # nothing // write a comment after `;` // wanted: first an instruction's word, or a
+    label `name:`, `.method` or `.rules` // see docs/ASSEMBLY.md, 1 Word
 mended by # => ;
 .text / .method f r 0 0 / mov r0, 0 / exit
-=> 1 line 1: 1 Word // line 1: .text // write `.method name rw 8 8` before a method's code //
-    wanted: first an instruction's word, or a label `name:`, `.method` or `.rules` // see docs/ASSEMBLY.md, 1 Word
+=> 1 line 1: 1 Word // line 1: .text // write `.method name rw 8 8` before a method's code // wanted: first an
+    instruction's word, or a label `name:`, `.method` or `.rules` // see docs/ASSEMBLY.md, 1 Word
 mended by .text / => ; /
+.method g r 0 0 / mov r0, 0 / exit / .method f r 0 0 / mov r0, 0 / exit
+=> 1 line 4: 4 Label // line 4: .method f r 0 0 // methods stand in the order of their names, each once, and this
+    one is not above `g` // wanted: each label once in its method, and the methods in the order of their names //
+    see docs/ASSEMBLY.md, 4 Label
+mended by .method g r => .method e r
+.method f r 0 0 / .method g r 0 0 / mov r0, 0 / exit
+=> 1 line 1: 3 Range // line 1: .method f r 0 0 // no instruction stands below it: a method ends with `exit` //
+    wanted: a number within its field, 1 to 4096 slots in a method, 1 to 32 methods // see docs/ASSEMBLY.md, 3 Range
+mended by f r 0 0 => f r 0 0 / mov r0, 0 / exit
+.method f r 0 0 / ; mov r0, 0 / ; exit
+=> 1 line 1: 3 Range // line 1: .method f r 0 0 // no line has an instruction: a method ends with `exit` // wanted:
+    a number within its field, 1 to 4096 slots in a method, 1 to 32 methods // see docs/ASSEMBLY.md, 3 Range
+mended by ; mov r0, 0 / ; exit => mov r0, 0 / exit
 """
 
 # Texts that end or begin with what can't be seen.
@@ -452,7 +658,7 @@ def mistakes(table):
     for text, answer, change in zip(lines[::3], lines[1::3], lines[2::3], strict=True):
         yield from rows_of(f"verify - --explain / {text}\n{answer}")
         old, _, new = change.removeprefix("mended by ").partition(" => ")
-        yield Row("verify - --explain", lambda printed: printed.startswith("f ok "),
+        yield Row("verify - --explain", lambda printed: " ok " in printed,
                   stdin=lines_of(text.replace(old, new)).encode())
 
 
@@ -464,6 +670,17 @@ LAST = lines_of(
     "refused method 0 slot 4095: 15 ReturnsPointer // method f, IN 4096, OUT 4096 // exit // r0 = input + 0 // "
     "wanted: a number in register 0 // see docs/VERIFIER.md, 15 ReturnsPointer // "
     "`mov r0, 0` before it, or another number; output goes by `call 13` // line 4098: exit")
+
+# Texts past a limit, and what is said of each.
+RANGE = ("wanted: a number within its field, 1 to 4096 slots in a method, 1 to 32 methods // "
+         "see docs/ASSEMBLY.md, 3 Range")
+LONG_TEXTS = [
+    (".method f r 0 0\n" + "mov r0, 0\n" * 4096 + "exit\n",
+     "line 4098: 3 Range // line 4098: exit // it passes the 4,096 slots of a method, of which `lddw` takes two // "
+     + RANGE),
+    ("".join(f".method m{n:02} r 0 0\nmov r0, 0\nexit\n" for n in range(33)),
+     "line 97: 3 Range // line 97: .method m32 r 0 0 // it is the 33rd method: a class has at most 32 // " + RANGE),
+]
 
 IMAGE_WANTED = "wanted: an image, which begins with RCL1, RCL2 or RCL3, or a class's text in UTF-8 // see docs/IMAGE.md"
 EXIT = bytes.fromhex("b700000000000000 9500000000000000")
@@ -481,41 +698,57 @@ def image_of(*methods, magic=b"RCL1"):
 
 # Damaged images, and what is said of each.
 IMAGES = [
-    (b"RCL1", "0 methods: 1 Truncated // it ends within a field: it was cut, or is none; code has 8 bytes a slot"),
+    (b"RCL1",
+     "0 methods: 1 Truncated // 4 bytes, the first: 52 43 4c 31 // 0 methods end at byte 8 // it ends within a "
+     "field: it was cut, or is none; code has 8 bytes a slot"),
     (image_of(method_of(b"f", EXIT))[:-3],
-     "0 methods: 1 Truncated // it ends within a field: it was cut, or is none; code has 8 bytes a slot"),
+     "0 methods: 1 Truncated // 30 bytes, the first: 52 43 4c 31 01 00 00 00 // method 0, at byte 8: `f` of 1 "
+     "bytes, flags 1, IN 0, OUT 0, slots 2 // it ends within a field: it was cut, or is none; code has 8 bytes "
+     "a slot"),
     (image_of(method_of(b"f", EXIT), magic=b"RCL9"),
-     "0 methods: 2 Magic // "
-     "its first bytes aren't RCL1, RCL2 or RCL3, or the two after the count of methods aren't zero"),
+     "0 methods: 2 Magic // 33 bytes, the first: 52 43 4c 39 01 00 00 00 // 0 methods end at byte 8 // its "
+     "first bytes aren't RCL1, RCL2 or RCL3, or the two after the count of methods aren't zero"),
     (image_of(method_of(b"f", bytes.fromhex("db12000000000000") + EXIT)),
-     "0 methods, slot 0: 3 Opcode // method 0 slot 0: db 12 00 00 00 00 00 00: atomics aren't taken // "
-     "no operation of the language has this first byte"),
+     "0 methods, slot 0: 3 Opcode // method 0 slot 0, at byte 17: db 12 00 00 00 00 00 00: atomics aren't "
+     "taken // no operation of the language has this first byte"),
     (image_of(method_of(b"f", EXIT), method_of(b"g", EXIT[:8] + bytes.fromhex("8d00000000000000") + EXIT)),
-     "1 methods, slot 1: 3 Opcode // method 1 slot 1: 8d 00 00 00 00 00 00 00: calls of a register aren't taken // "
-     "no operation of the language has this first byte"),
+     "1 methods, slot 1: 3 Opcode // method 1 slot 1, at byte 50: 8d 00 00 00 00 00 00 00: calls of a register "
+     "aren't taken // no operation of the language has this first byte"),
     (image_of(method_of(b"f", bytes.fromhex("3000000000000000") + EXIT)),
-     "0 methods, slot 0: 3 Opcode // method 0 slot 0: 30 00 00 00 00 00 00 00: loads from a packet aren't taken // "
+     "0 methods, slot 0: 3 Opcode // method 0 slot 0, at byte 17: 30 00 00 00 00 00 00 00: loads from a packet "
+     "aren't taken // no operation of the language has this first byte"),
+    (image_of(method_of(b"f", EXIT) + b"\0\0", method_of(b"g", bytes.fromhex("c312000000000000") + EXIT) + b"\0\0",
+              magic=b"RCL3"),
+     "1 methods, slot 0: 3 Opcode // method 1 slot 0, at byte 44: c3 12 00 00 00 00 00 00: atomics aren't taken // "
      "no operation of the language has this first byte"),
     (image_of(method_of(b"f", EXIT + b"\xff" * 8)),
-     "0 methods, slot 2: 3 Opcode // method 0 slot 2: ff ff ff ff ff ff ff ff // "
-     "no operation of the language has this first byte"),
+     "0 methods, slot 2: 3 Opcode // method 0 slot 2, at byte 33: ff ff ff ff ff ff ff ff: opcode ff // no "
+     "operation of the language has this first byte"),
     (image_of(method_of(b"f", bytes.fromhex("b70b000000000000") + EXIT)),
-     "0 methods, slot 0: 4 Register // method 0 slot 0: b7 0b 00 00 00 00 00 00 // "
+     "0 methods, slot 0: 4 Register // method 0 slot 0, at byte 17: b7 0b 00 00 00 00 00 00: dst 11, src 0 // "
      "registers are r0 to r10: the second byte has dst in its low four bits, src in its high four"),
     (image_of(method_of(b"f", bytes.fromhex("9500010000000000") + EXIT)),
-     "0 methods, slot 0: 5 NonzeroField // method 0 slot 0: 95 00 01 00 00 00 00 00 // "
-     "a field that the operation doesn't use isn't zero, or its src, offset or imm selects no operation"),
+     "0 methods, slot 0: 5 NonzeroField // method 0 slot 0, at byte 17: 95 00 01 00 00 00 00 00: dst 0, src 0 "
+     "// a field that the operation doesn't use isn't zero, or its src, offset or imm selects no operation"),
     (image_of(method_of(b"f", EXIT + bytes.fromhex("1800000001000000"))),
-     "0 methods, slot 2: 6 WideHalf // method 0 slot 2: 18 00 00 00 01 00 00 00 // "
-     "a wide load has a second slot, in which all but the number's high half is zero"),
-    (image_of(method_of(b"F", EXIT)), "0 methods: 7 Name // a method's name has 1 to 64 of a-z, 0-9 and _"),
+     "0 methods, slot 2: 6 WideHalf // method 0 slot 2, at byte 33: 18 00 00 00 01 00 00 00: dst 0, src 0 // a "
+     "wide load has a second slot, in which all but the number's high half is zero"),
+    (image_of(method_of(b"F", EXIT)),
+     "0 methods: 7 Name // 33 bytes, the first: 52 43 4c 31 01 00 00 00 // method 0, at byte 8: `F` of 1 "
+     "bytes, flags 1, IN 0, OUT 0, slots 2 // a method's name has 1 to 64 of a-z, 0-9 and _"),
     (image_of(method_of(b"g", EXIT), method_of(b"f", EXIT)),
-     "1 methods: 8 Order // methods stand in the order of their names, each once"),
-    (image_of(method_of(b"f", EXIT, flags=4)), "0 methods: 9 Flags // flags are 1 (r), 2 (w) or 3 (rw)"),
+     "1 methods: 8 Order // 58 bytes, the first: 52 43 4c 31 02 00 00 00 // method 1, at byte 33: `f` of 1 "
+     "bytes, flags 1, IN 0, OUT 0, slots 2 // methods stand in the order of their names, each once"),
+    (image_of(method_of(b"f", EXIT, flags=4)),
+     "0 methods: 9 Flags // 33 bytes, the first: 52 43 4c 31 01 00 00 00 // method 0, at byte 8: `f` of 1 "
+     "bytes, flags 4, IN 0, OUT 0, slots 2 // flags are 1 (r), 2 (w) or 3 (rw)"),
     (image_of(method_of(b"f", EXIT, slots=0)),
-     "0 methods: 10 Limit // "
-     "a class has 1 to 32 methods, of 1 to 4096 slots; IN and OUT are at most 4096, by rule set 3 65535"),
-    (image_of(method_of(b"f", EXIT)) + b"\0", "1 methods: 11 Trailing // bytes follow the last method"),
+     "0 methods: 10 Limit // 33 bytes, the first: 52 43 4c 31 01 00 00 00 // method 0, at byte 8: `f` of 1 "
+     "bytes, flags 1, IN 0, OUT 0, slots 0 // a class has 1 to 32 methods, of 1 to 4096 slots; IN and OUT are "
+     "at most 4096, by rule set 3 65535"),
+    (image_of(method_of(b"f", EXIT)) + b"\0",
+     "1 methods: 11 Trailing // 34 bytes, the first: 52 43 4c 31 01 00 00 00 // 1 methods end at byte 33 // "
+     "bytes follow the last method"),
 ]
 
 EXPLAINED_ROWS = [
@@ -525,5 +758,6 @@ EXPLAINED_ROWS = [
     *(Row("verify - --explain", lines_of(said), "", 1, stdin=text) for text, said in UNSEEN),
     *(Row("verify - --all --explain", lines_of(f"image refused after {said} // {IMAGE_WANTED}"), "", 1, stdin=image)
       for image, said in IMAGES),
+    *(Row("verify - --explain", lines_of(said), "", 1, stdin=text.encode()) for text, said in LONG_TEXTS),
     Row("verify - --explain", LAST, "", 1, stdin=LAST_TEXT.encode(), slow=True),
 ]

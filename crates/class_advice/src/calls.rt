@@ -3,33 +3,8 @@
 use crate::advice::Advice;
 use bpf_decode::Insn;
 use std::alloc::AllocError;
+use text_advice::call_of;
 use verifier::{Callee, callee_of};
-
-/// The name of a helper, and its arguments in registers from 1 on.
-#[rattlefmt::skip]
-pub(crate) fn call_of(helper: u32) -> Option<(&'static str, &'static str)> {
-    match helper {
-        1 => Some(("stat", "")),
-        2 => Some(("read", "offset, to, room")),
-        3 => Some(("write", "offset, bytes, length")),
-        4 => Some(("truncate", "length")),
-        5 => Some(("remove", "")),
-        6 => Some(("getxattr", "name, length, to, room")),
-        7 => Some(("setxattr", "name, length, value, length")),
-        8 => Some(("rmxattr", "name, length")),
-        9 => Some(("map_get", "key, length, to, room")),
-        10 => Some(("map_set", "key, length, value, length")),
-        11 => Some(("map_rm", "key, length")),
-        12 => Some(("map_next", "bytes, length, to, room")),
-        13 => Some(("out_len", "length")),
-        14 => Some(("create", "exclusive")),
-        15 => Some(("caller", "")),
-        16 => Some(("compare", "bytes, length, bytes, length")),
-        17 => Some(("copy", "to, room, bytes, length")),
-        18 => Some(("xattr_next", "bytes, length, to, room")),
-        _ => None,
-    }
-}
 
 /// The argument's register that advice is of, if it is of one.
 #[rattlefmt::skip]

@@ -7,14 +7,11 @@
 mod advice;
 mod advise;
 mod calls;
-mod forms;
 mod known;
 mod note;
 mod read;
 mod room;
-mod source;
 mod touched;
 mod ways;
 
 pub use note::refusal_note;
-pub use source::{fault_text, source_text};

@@ -4,11 +4,11 @@ ghost use Rattle.class_tool.specs.declared.failure.Failure.TheVariants.{NoMemory
 use crate::action::RawMethod;
 use crate::failure::Failure;
 use crate::image::Source;
-use crate::image_note::push_fault;
-use bpf_decode::{DecodeError, IMAGE_LIMIT, ImageError};
-use class_advice::{fault_text, refusal_note, source_text};
+use bpf_decode::IMAGE_LIMIT;
+use class_advice::refusal_note;
 use interp::CallError;
 use std::alloc::{AllocError, AllocFailed, Global};
+use text_advice::{PackedMethod, fault_text, image_text, packed_text, source_text};
 use verifier::{Refusal, Rule};
 
 /// What a failure is about, as far as its explanation needs it.
@@ -22,8 +22,9 @@ pub(crate) enum About {
     Image(Vec<u8>),
     /// A class that is refused.
     Class(Source),
-    /// A method's name and the file of its raw code, of those that are packed; or all of them.
-    Method(String, String),
+    /// A method's name, the file of its raw code, IN and OUT, of those that are packed; or all of
+    /// them.
+    Method(String, String, u16, u16),
     Methods,
 }
 
@@ -68,35 +69,6 @@ impl<T: Drop> From<AllocFailed<T>> for Failed {
     fn from(_error: AllocFailed<T>) -> Failed {
         Failed::from(Failure::NoMemory)
     }
-}
-
-/// What is wanted of a file that is read as an image.
-const IMAGE_WANTED: &str =
-    "  wanted: an image, which begins with RCL1, RCL2 or RCL3, or a class's text in UTF-8\n  see docs/IMAGE.md\n";
-
-/// The note of bytes that are no image; nothing if memory was refused.
-fn image_note(alloc: Global, error: &ImageError, bytes: &[u8]) -> Result<String, AllocError> {
-    let mut note = String::new(alloc);
-    if let DecodeError::NoMemory = error.error {
-        return Ok(note);
-    }
-    push_fault(&mut note, error, Some(bytes))?;
-    note.push_str(IMAGE_WANTED)?;
-    Ok(note)
-}
-
-/// The note of a method that was not packed, or of methods that are no class.
-fn method_note(
-    alloc: Global,
-    error: &ImageError,
-    method: Option<(&str, &str)>,
-) -> Result<String, AllocError> {
-    let mut note = String::new(alloc);
-    if let Some((name, file)) = method {
-        write!(note, "  method {name}, {file}\n")?;
-    }
-    push_fault(&mut note, error, None)?;
-    Ok(note)
 }
 
 /// The note of a refused call: what it must have.
@@ -146,11 +118,17 @@ impl Failed {
             (Failure::Verdict(refusal), About::Class(source)) => {
                 verdict_note(alloc, source, &refusal)
             }
-            (Failure::Image(error), About::Image(bytes)) => image_note(alloc, &error, bytes),
-            (Failure::Image(error), About::Method(name, file)) => {
-                method_note(alloc, &error, Some((name, file)))
+            (Failure::Image(error), About::Image(bytes)) => image_text(alloc, &error, bytes),
+            (Failure::Image(error), About::Method(name, file, in_cap, out_cap)) => {
+                let packed = PackedMethod {
+                    name,
+                    file,
+                    in_cap: *in_cap,
+                    out_cap: *out_cap,
+                };
+                packed_text(alloc, &error, Some(packed))
             }
-            (Failure::Image(error), About::Methods) => method_note(alloc, &error, None),
+            (Failure::Image(error), About::Methods) => packed_text(alloc, &error, None),
             (failure, _) => String::from_str(alloc, call_wanted(failure)),
         }
     }
@@ -176,7 +154,7 @@ pub(crate) fn about_method(alloc: Global, raws: &[RawMethod<'_>], failure: Failu
         String::from_str(alloc, raw.name),
         String::from_str(alloc, raw.code),
     ) {
-        (Ok(name), Ok(file)) => About::Method(name, file),
+        (Ok(name), Ok(file)) => About::Method(name, file, raw.in_cap, raw.out_cap),
         _ => About::Nothing,
     }
 }

@@ -15,7 +15,6 @@ mod failure;
 mod files;
 mod given;
 mod image;
-mod image_note;
 mod input;
 mod log;
 mod output;
