@@ -572,6 +572,24 @@ mended by f r 0 0 => f r 0 0 / mov r0, 0 / exit
 mended by ; mov r0, 0 / ; exit => mov r0, 0 / exit
 """
 
+# Texts of which more than one line is wrong, and each is told.
+EACH_LINE = r"""
+verify - --all --explain / .method f r 0 0 / mvo r0, 0 / jmp end / add r0, 1.5 / end: / exit / .method F r 0 0 /
+    exit / .method g r 0 0 / end: / end: / ja ned / exit
+=> 1 line 2: 1 Word // line 2: mvo r0, 0 // the nearest word is `mov` // wanted: first an instruction's word, or a
+    label `name:`, `.method` or `.rules` // see docs/ASSEMBLY.md, 1 Word / line 3: 1 Word // line 3: jmp end //
+    write `ja end` // wanted: first an instruction's word, or a label `name:`, `.method` or `.rules` // see
+    docs/ASSEMBLY.md, 1 Word / line 4: 2 Operand // line 4: add r0, 1.5 // operand 2, `1.5`: numbers are whole: no
+    point // form: `add r1, r2` or `add r1, -5` // wanted: the operands of the word, in its form // see
+    docs/ASSEMBLY.md, 2 Operand / line 7: 2 Operand // line 7: .method F r 0 0 // operand 1, `F`: no method's name:
+    1 to 64 of a to z, 0 to 9 and _ // form: `.method name rw 8 8` // wanted: the operands of the word, in its form
+    // see docs/ASSEMBLY.md, 2 Operand / line 11: 4 Label // line 11: end: // `end:` stands in line 10 too: another
+    name for one of them // wanted: each label once in its method, and the methods in the order of their names //
+    see docs/ASSEMBLY.md, 4 Label / line 12: 4 Label // line 12: ja ned // the method has no label `ned`; the
+    nearest one is `end` // wanted: each label once in its method, and the methods in the order of their names //
+    see docs/ASSEMBLY.md, 4 Label
+"""
+
 # Texts that end or begin with what can't be seen.
 WORD = "wanted: first an instruction's word, or a label `name:`, `.method` or `.rules` // see docs/ASSEMBLY.md, 1 Word"
 OPERAND = "wanted: the operands of the word, in its form // see docs/ASSEMBLY.md, 2 Operand"
@@ -752,7 +770,7 @@ IMAGES = [
 ]
 
 EXPLAINED_ROWS = [
-    *rows_of(EXPLAINED), *mistakes(MISTAKES), *mistakes(TEXT_MISTAKES), *rows_of(SIM_MISTAKES),
+    *rows_of(EXPLAINED), *mistakes(MISTAKES), *mistakes(TEXT_MISTAKES), *rows_of(EACH_LINE), *rows_of(SIM_MISTAKES),
     *(Row("sim - --explain", lines_of(f"line 1: bad // {said} // see docs/PROGRAM.md, sim"), "", 1, stdin=text)
       for text, said in SIM_LINES),
     *(Row("verify - --explain", lines_of(said), "", 1, stdin=text) for text, said in UNSEEN),

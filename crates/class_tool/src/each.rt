@@ -137,8 +137,8 @@ impl Judged<'_> {
 }
 
 /// The verdict of each method of the class that a file holds, with a note below each refusal, if
-/// that is asked for. It costs what `verify` does of an accepted class, and that again for each
-/// refusal that is explained.
+/// that is asked for; a text that is no class's fails with a note on each wrong line. It costs what
+/// `verify` does of an accepted class, and that again for each refusal that is explained.
 pub fn verify_each<F: Reads>(
     alloc: Global,
     files: &F,
@@ -148,7 +148,10 @@ pub fn verify_each<F: Reads>(
     ensures ok { IfOk result (AreVerdicts (F.disk files.now) image.now is_explained) }
     ensures err { IfErr result (λ e. ReadFails (F.disk files.now) image.now e.failure) }
 {
-    let source = read_source(alloc, files, image)?;
+    let source = match read_source(alloc, files, image) {
+        Ok(source) => source,
+        Err(failed) => return Err(failed.of_each_line()),
+    };
     let judged = Judged {
         alloc,
         source: &source,

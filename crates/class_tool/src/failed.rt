@@ -8,7 +8,7 @@ use bpf_decode::IMAGE_LIMIT;
 use class_advice::refusal_note;
 use interp::CallError;
 use std::alloc::{AllocError, AllocFailed, Global};
-use text_advice::{PackedMethod, fault_text, image_text, packed_text, source_text};
+use text_advice::{PackedMethod, fault_text, faults_text, image_text, packed_text, source_text};
 use verifier::{Refusal, Rule};
 
 /// What a failure is about, as far as its explanation needs it.
@@ -18,6 +18,8 @@ pub(crate) enum About {
     Nothing,
     /// A text that is no class's.
     Text(String),
+    /// The same, and each wrong line is explained.
+    EachLine(String),
     /// Bytes that are no image.
     Image(Vec<u8>),
     /// A class that is refused.
@@ -107,6 +109,22 @@ pub(crate) fn verdict_note(
 }
 
 impl Failed {
+    ghost use Rattle.std.specs.Prelude.{◌≡◌};
+
+    /// The same failure, whose note has each wrong line of a text, and not the first alone.
+    pub fn of_each_line(self) -> Failed
+        ensures { result.failure ≡ self.failure }
+    {
+        let Failed { failure, about } = self;
+        match about {
+            About::Text(text) => Failed {
+                failure,
+                about: About::EachLine(text),
+            },
+            about => Failed { failure, about },
+        }
+    }
+
     /// The note below the failure's line; nothing if there is nothing to add. Of a file that
     /// couldn't be read or written it is `fault`, what the files tell of it.
     pub fn note(&self, alloc: Global, fault: Option<String>) -> Result<String, AllocError> {
@@ -115,6 +133,7 @@ impl Failed {
                 Ok(fault.unwrap_or_else(|| String::new(alloc)))
             }
             (Failure::Text(error), About::Text(text)) => fault_text(alloc, text, &error),
+            (Failure::Text(error), About::EachLine(text)) => faults_text(alloc, text, &error),
             (Failure::Verdict(refusal), About::Class(source)) => {
                 verdict_note(alloc, source, &refusal)
             }
