@@ -28,7 +28,7 @@ work=$(mktemp -d /tmp/sillarnica-ceph.XXXXXX)
 cluster=$work/cluster ported=$work/ported libraries=/usr/lib/$(uname -m)-linux-gnu
 folder=$libraries/rados-classes
 # Classes that are installed, and files in the folder that are none, besides `counter`, a package.
-natives=(helpers count lock.2 third) odd=(cut none bpf.old link)
+natives=(helpers count lock.2 environment third) odd=(cut none bpf.old link)
 # The tests take the cluster and the command from here, and nothing of the caller's settings.
 export CEPH_CONF=$cluster/ceph.conf RADOSBPF=/usr/bin/radosbpf PYTHONDONTWRITEBYTECODE=1
 unset CLASSES LISTED STORE EXTRA
@@ -161,7 +161,7 @@ make_images() {
         cmp "$work/$name.img" "$here/classes/$name.img"
         want "$name.img is the image of $name.txt" $? 0
     done
-    for name in helpers third; do
+    for name in helpers third environment; do
         "$radoscls" asm "$here/tests/$name.txt" "$work/images/$name.img" || stop_at "radoscls makes no images"
     done
     cp "$here/classes/lock.img" "$top/examples/count.img" "$work/images"
@@ -266,7 +266,7 @@ try_install() {
     done
     rm "$work/images/lock.2.img"
     want "the lines of a class of rule set 3" "$(sed '$d' "$work/log")" "$("$radoscls" verify "$work/images/third.img")"
-    want "installed" "$(radosbpf installed)" "$(for name in count counter helpers lock.2 third; do
+    want "installed" "$(radosbpf installed)" "$(for name in count counter environment helpers lock.2 third; do
         echo "$name $(sha256sum < "$folder/$name.img" | cut -c 1-64)"
     done)"
     install_of "a cut image" "1 refused: image refused after 0 methods: 1 Truncated" install "$work/cut.img"
@@ -370,7 +370,7 @@ try_rights() {
     bpf "with bpf on it" "0 " load "$object" lock "$lock"
     bpf "an image in a request" "1 refused -95: the OSD has no class bpf, or no such method of it: those for classes \
 that are sent are off unless asked for" call "$object" @"$lock" lock --input 6d65
-    want "the check finds what osd.2 lacks" "$(said radosbpf check bpf | tr ',' '\n' | grep -c '^ *1* *osd.2 class .* isn.t there')" 7
+    want "the check finds what osd.2 lacks" "$(said radosbpf check bpf | tr ',' '\n' | grep -c '^ *1* *osd.2 class .* isn.t there')" 8
     touch "$folder/bpf.sent"
     ceph_within 60 config set osd osd_class_load_list \
         "$(ceph_within 60 config get osd osd_class_load_list) ${natives[*]} ${odd[*]}"

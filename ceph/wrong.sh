@@ -22,7 +22,7 @@ work=$(mktemp -d /tmp/sillarnica-wrong.XXXXXX)
 trap 'rm -rf "$work"' EXIT
 bad=0
 mkdir "$work/images"
-for name in helpers third; do "$radoscls" asm "$here/tests/$name.txt" "$work/images/$name.img" || exit 1; done
+for name in helpers third environment; do "$radoscls" asm "$here/tests/$name.txt" "$work/images/$name.img" || exit 1; done
 cp "$here/classes/lock.img" "$top/examples/count.img" "$work/images"
 
 # build NAME SANITIZERS: what the folder $work/NAME/ceph has, over what was built for `right`.

@@ -294,6 +294,12 @@ def try_c(pages):
             holds(pages, f"{name}.img", f"{name}.test")
         pages.folder = pages.work
         holds(pages, "account.img", "examples/c/account.test")
+        touched = "radoscls run touch.img touch --object - --xattr 0x0074696d65=15cd5b0700000000"
+        method = shown(pages.text, "and the answer is -ENOENT:", 1, 7)
+        (pages.work / "touch.c").write_text("\n".join(["#include <sillarnica/class.h>", *method]) + "\n")
+        pages.row(touched, instead=f"{tool} touch.c -o touch.img")
+        pages.answers("radoscls run touch.img touch", "code -2", "output -", "object absent")
+        pages.answers(touched, "code 0", "output -", "object 0 2 0")
     pages.on("docs/FROM_C.md", pages.work, "cc")
     pages.row("cc -g -fsanitize=address,undefined -I examples/c/include examples/c/account.c examples/c/class_native.c -o account", "none")
     pages.row("./account deposit 6400000000000000 withdraw 6500000000000000", "all", 1, 4)

@@ -85,8 +85,8 @@ int make_call(cls_method_context_t context, ceph::bufferlist &in, ceph::bufferli
     request asked;
     ceph::bufferlist held;
     slice image;
-    uint64_t caller = 0;
-    object_view object(is_behind(context));
+    origin who;
+    object_view object(is_behind(context), nullptr);
     bytes flat;
     answer found{};
     asked.from = from;
@@ -94,12 +94,12 @@ int make_call(cls_method_context_t context, ceph::bufferlist &in, ceph::bufferli
     if (result < 0)
         return result;
     made.called = called_by(asked);
-    if ((result = find_image(context, asked, held, image)) < 0 || (result = find_caller(context, caller)) < 0)
+    if ((result = find_image(context, asked, held, image)) < 0 || (result = find_origin(context, who)) < 0)
         return result;
     if ((result = read_object(context, image, asked, object)) < 0)
         return result;
     object.put_flat(flat);
-    if ((result = ask(image, asked, flat, caller, found)) < 0)
+    if ((result = ask(image, asked, flat, who.number, found)) < 0)
         return result;
     return give_answer(context, found, object, as, out, made);
 }

@@ -5,7 +5,6 @@
 namespace {
 
 constexpr size_t FRAME = 16;
-constexpr uint8_t CLIENT_TYPE = 8; // CEPH_ENTITY_TYPE_CLIENT
 
 // Whether a code can be an operation's result. It has 32 bits, a client takes -4095 to -1 alone for
 // errors, and the OSD never answers an operation with -11 or -115 (refusals.h).
@@ -52,19 +51,6 @@ int refusal_of(int32_t said) {
     case SILLARNICA_NO_MEMORY: return NO_MEMORY;
     default: return BROKEN; // the object's spelling is the plug-in's own, and the buffer is large enough
     }
-}
-
-// The OSD writes an `entity_inst_t`: a type in one byte, the number in 8 bytes from the 8th on, and
-// an address, for which there is more than enough room.
-int find_caller(cls_method_context_t context, uint64_t &caller) {
-    alignas(16) unsigned char entity[512] = {};
-    if (cls_get_request_origin(context, entity) < 0)
-        return NO_CLIENT;
-    uint64_t number = reader{{entity + 8, 8}}.number(8);
-    if (entity[0] != CLIENT_TYPE || number < 1 || number > UINT32_MAX)
-        return NO_CLIENT;
-    caller = number;
-    return 0;
 }
 
 int give_answer(cls_method_context_t context, const answer &found, object_view &object, kind as, ceph::bufferlist &out,

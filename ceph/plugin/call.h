@@ -53,10 +53,6 @@ template <class Call> int32_t ask_library(Call call, answer &found) {
 // The refusal of an answer of the library; 0 of a good one.
 int refusal_of(int32_t said);
 
-// The caller's number, as the client says it of itself: the OSD doesn't compare it with the number
-// of the session that it authenticated. So it is a help against mistakes, not against attackers.
-int find_caller(cls_method_context_t context, uint64_t &caller);
-
 // Gives an answer back: tests that it can be given, makes its edits of the object that was handed to the
 // library, and puts its output. The operation's result.
 int give_answer(cls_method_context_t context, const answer &found, object_view &object, kind as, ceph::bufferlist &out,

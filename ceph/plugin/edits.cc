@@ -15,6 +15,7 @@ enum edit_kind : unsigned {
     REMOVE_KEY,
     SET_LENGTH,
     WRITE,
+    SET_HEADER, // none of the library's: SET_XATTR or REMOVE_XATTR of `\0header`, without bytes then
 };
 
 struct edit {
@@ -39,24 +40,31 @@ edit next_edit(reader &in) {
     return found;
 }
 
-int test_edit(const edit &one) {
+// Whether an edit is the header's, where the method is shown the environment.
+bool is_of_header(const edit &one, bool is_shown) {
+    return is_shown && one.is_of_xattr() && one.name == HEADER_NAME;
+}
+
+int test_edit(const edit &one, bool is_shown) {
     if (one.kind < CREATE || one.kind > WRITE || one.number > DATA_LIMIT)
         return BROKEN;
-    if (!one.is_of_xattr())
+    if (!one.is_of_xattr() || is_of_header(one, is_shown))
         return 0;
-    if (is_own(one.name))
+    if (is_own(one.name) || (is_shown && is_of_environment(one.name)))
         return NAME_IS_OURS;
     // The OSD's call takes a name that a NUL byte ends.
     return one.name.find('\0') == std::string::npos ? 0 : NAME_WITH_NUL;
 }
 
-int read_edits(slice written, std::vector<edit> &edits) {
+int read_edits(slice written, bool is_shown, std::vector<edit> &edits) {
     reader in{written};
     while (in.rest.length) {
         edit found = next_edit(in);
-        int result = in.short_of ? BROKEN : test_edit(found);
+        int result = in.short_of ? BROKEN : test_edit(found, is_shown);
         if (result < 0)
             return result;
+        if (is_of_header(found, is_shown))
+            found.kind = SET_HEADER;
         edits.push_back(std::move(found));
     }
     return 0;
@@ -104,6 +112,7 @@ int make_edit(cls_method_context_t context, const edit &one) {
     case REMOVE_KEY: return cls_cxx_map_remove_key(context, one.name);
     case SET_LENGTH: return cls_cxx_truncate(context, int(one.number));
     case WRITE: return cls_cxx_write(context, int(one.number), int(one.bytes.length), &list);
+    case SET_HEADER: return cls_cxx_map_write_header(context, &list);
     default: return BROKEN;
     }
 }
@@ -125,7 +134,7 @@ int make_in_order(cls_method_context_t context, const std::vector<edit> &edits) 
 
 int make_edits(cls_method_context_t context, object_view &object, slice written) {
     std::vector<edit> edits;
-    int result = read_edits(written, edits);
+    int result = read_edits(written, object.shows_environment(), edits);
     if (result < 0)
         return result;
     size_t start = beginning(edits);

@@ -129,15 +129,15 @@ int native_class::run(unsigned method, const bytes &object, uint64_t caller, sli
 
 int native_class::call(unsigned method, cls_method_context_t context, ceph::bufferlist &in, ceph::bufferlist &out,
                        account &made) {
-    uint64_t caller = 0;
-    object_view object(is_behind(context));
+    origin who;
+    object_view object(is_behind(context), &who);
     bytes flat;
     answer found{};
-    int result = find_caller(context, caller);
+    int result = find_origin(context, who);
     if (result < 0 || (result = object.read(context, needs[method])) < 0)
         return result;
     object.put_flat(flat);
-    if ((result = run(method, flat, caller, slice_of(in), found)) < 0)
+    if ((result = run(method, flat, who.number, slice_of(in), found)) < 0)
         return result;
     return give_answer(context, found, object, {methods[method].may_change, false}, out, made);
 }

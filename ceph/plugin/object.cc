@@ -24,7 +24,6 @@ int test_entries(const values &entries, size_t most) {
 
 // The map's order is that of unsigned bytes, as the flat form wants.
 void put_entries(bytes &flat, values &entries) {
-    put_number(flat, entries.size(), 2);
     for (auto &[name, value] : entries) {
         put_number(flat, name.size(), 1);
         put_bytes(flat, {reinterpret_cast<const uint8_t *>(name.data()), name.size()});
@@ -75,7 +74,18 @@ int object_view::read_xattrs(cls_method_context_t context) {
             own.insert(xattrs.extract(at++));
         else
             ++at;
-    return test_entries(xattrs, XATTR_LIMIT);
+    // That a method's code names the header can't be told from that it touches xattrs.
+    if (caller &&
+        ((result = read_header(context)) < 0 || (result = make_environment(context, *caller, header, environment)) < 0))
+        return result;
+    result = test_entries(environment, XATTR_LIMIT);
+    return result < 0 ? result : test_entries(xattrs, XATTR_LIMIT - environment.size());
+}
+
+int object_view::read_header(cls_method_context_t context) {
+    int result = has_header ? 0 : none_if_made(behind, cls_cxx_map_read_header(context, &header));
+    has_header |= result >= 0;
+    return result;
 }
 
 int object_view::read_keys(cls_method_context_t context) {
@@ -109,13 +119,16 @@ void object_view::put_flat(bytes &flat) {
         return;
     put_number(flat, data.length(), 4);
     put_bytes(flat, slice_of(data));
+    put_number(flat, environment.size() + xattrs.size(), 2);
+    put_entries(flat, environment); // its names begin with the least byte, and no xattr's does
     put_entries(flat, xattrs);
+    put_number(flat, keys.size(), 2);
     put_entries(flat, keys);
 }
 
 int object_view::make_without(cls_method_context_t context, const std::vector<std::string> &names) {
     int result = read(context, NEEDS_ALL);
-    if (result < 0 || (result = cls_cxx_map_read_header(context, &header)) < 0)
+    if (result < 0 || (result = read_header(context)) < 0)
         return result;
     for (auto &name : names)
         if (!xattrs.erase(name) && !own.erase(name))
@@ -140,7 +153,7 @@ int object_view::write(cls_method_context_t context) {
 }
 
 int remove_own_xattr(cls_method_context_t context, const std::string &name) {
-    object_view object(false);
+    object_view object(false, nullptr);
     int result = object.read(context, NEEDS_ALL);
     if (result == DATA_TOO_LONG || result == TOO_MUCH || result == -EOPNOTSUPP) {
         ceph::bufferlist none;

@@ -2,10 +2,8 @@
 #pragma once
 
 #include "bytes.h"
+#include "environment.h"
 #include "osd.h"
-
-#include <map>
-#include <string>
 
 constexpr size_t DATA_LIMIT = 65536, XATTR_LIMIT = 32, KEY_LIMIT = 1024, NAME_LIMIT = 64, VALUE_LIMIT = 4096;
 
@@ -14,8 +12,6 @@ constexpr unsigned NEEDS_DATA = 1, NEEDS_XATTRS = 2, NEEDS_KEYS = 4, NEEDS_ALL =
 
 // Xattrs whose names begin so hold the loaded classes. No method sees, sets or removes one.
 constexpr char OWN_PREFIX[] = "bpf.";
-
-using values = std::map<std::string, ceph::bufferlist>;
 
 // Whether a name is the plug-in's own.
 bool is_own(const std::string &name);
@@ -28,7 +24,9 @@ bool is_behind(cls_method_context_t context);
 // those left them, and all else is as it was before the operation.
 class object_view {
 public:
-    explicit object_view(bool behind) : behind(behind) {}
+    // With a caller the xattrs that a method sees begin with the environment of its call (environment.h); without one
+    // there is none, as of the class `bpf`. It has to be known when xattrs are read.
+    object_view(bool behind, const origin *caller) : behind(behind), caller(caller) {}
 
     // Reads whether there is an object, and of these parts what wasn't read yet. Refused, of parts that
     // are asked for alone: DATA_TOO_LONG; TOO_MUCH; and data behind another step, NOT_FIRST.
@@ -46,20 +44,24 @@ public:
     // earlier steps wrote isn't shown, and would be lost. Refused as `read` of all parts.
     int make_without(cls_method_context_t context, const std::vector<std::string> &names);
 
+    bool shows_environment() const { return caller; }
+
     const bool behind; // other steps
 
 private:
     int read_size(cls_method_context_t context);
     int read_data(cls_method_context_t context);
     int read_xattrs(cls_method_context_t context);
+    int read_header(cls_method_context_t context);
     int read_keys(cls_method_context_t context);
     int write(cls_method_context_t context);
 
-    bool is_found = false, is_there = false;
+    const origin *const caller;
+    bool is_found = false, is_there = false, has_header = false;
     uint64_t size = 0;
     unsigned have = 0; // the parts that were read
     ceph::bufferlist data, header;
-    values xattrs, own, keys;
+    values xattrs, environment, own, keys;
 };
 
 // Removes an xattr of the plug-in's, as an operation's first step. Of an object that can't be made again,

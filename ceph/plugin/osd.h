@@ -13,6 +13,8 @@
 
 extern "C" int cls_get_request_origin(cls_method_context_t context, void *entity);
 int cls_current_subop_num(cls_method_context_t context);
+uint64_t cls_current_version(cls_method_context_t context);
+int cls_gen_random_bytes(char *to, int length);
 int cls_cxx_getxattrs(cls_method_context_t context, std::map<std::string, ceph::bufferlist> *xattrs);
 int cls_cxx_map_get_vals(cls_method_context_t context, const std::string &after, const std::string &prefix,
                          uint64_t most, std::map<std::string, ceph::bufferlist> *values, bool *more);

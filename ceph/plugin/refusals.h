@@ -17,7 +17,8 @@ enum refusal : int {
     TOO_MUCH = -E2BIG,           // -7: over 32 xattrs or 1,024 keys, a name over 64 bytes, or a value over 4,096
     CLASS_REFUSED = -ENOEXEC,    // -8: the image, or its class, is refused; `verify` says why
     NO_MEMORY = -ENOMEM,         // -12
-    NAME_IS_OURS = -EACCES,      // -13: the method sets or removes an xattr whose name begins with `bpf.`
+    NAME_IS_OURS = -EACCES,      // -13: the method sets or removes an xattr whose name begins with `bpf.`; or an entry
+                                 // of its call's environment other than the omap's header
     BAD_REQUEST = -EINVAL,       // -22: the bytes are no request; the input is longer than an installed method takes
     DATA_TOO_LONG = -EFBIG,      // -27: the object has more than 65,536 bytes of data, and they are needed
     NO_ROOM_FOR_IMAGE = -ENOSPC, // -28: the images beside the object would have more than 65,536 bytes together

@@ -40,14 +40,20 @@ def lasting(edits):
 
 def removed(edits):
     """The xattrs whose last lasting edit is a removal."""
-    last = {one[2]: one[0] for one in lasting(edits) if is_of_xattr(one)}
+    last = {one[2]: one[0] for one in lasting(edits) if is_of_xattr(one) and not is_of_header(one)}
     return sorted(name for name, kind in last.items() if kind == "unset")
 
 
-def refusal_of_edits(edits, seen, behind):
+def is_of_header(one):
+    return is_of_xattr(one) and one[2] == model.HEADER
+
+
+def refusal_of_edits(edits, seen, behind, is_native):
     """Why a list isn't made, or None."""
     for one in filter(is_of_xattr, edits):
-        if one[2].startswith(b"bpf."):
+        if is_native and is_of_header(one):
+            continue
+        if one[2].startswith((b"bpf.", b"\0") if is_native else b"bpf."):
             return -13
         if b"\0" in one[2]:
             return -84
@@ -64,9 +70,13 @@ def gone(edits, seen):
     return [name for name in removed(edits) if lasting(edits) == edits and name in seen.xattrs]
 
 
-def answer(way, method, data, seen, caller, limit, behind=False):
-    """Result, output and edits of a call of a method of an accepted class, on what the OSD shows of the object."""
+def answer(way, method, data, seen, caller, limit, behind=False, environment=None):
+    """Result, output and edits of a call of a method of an accepted class, on what the OSD shows of the object. An
+    installed class is shown an environment, too.
+    """
     parts = model.parts_of(method)
+    if environment and seen and "xattrs" in parts:
+        seen = model.Object(seen.data, {**seen.xattrs, **environment}, seen.keys)
     if behind and "data" in parts and seen and seen.data:
         return -114, b"", []
     refused = limits(seen, parts)
@@ -82,7 +92,7 @@ def answer(way, method, data, seen, caller, limit, behind=False):
         return -105, b"", []
     if not framed and (not -4095 <= found.code < 1 << 31 or found.code in (-11, -115)):
         return -75, b"", []
-    refused = refusal_of_edits(found.edits, seen, behind)
+    refused = refusal_of_edits(found.edits, seen, behind, environment is not None)
     if refused:
         return refused, b"", []
     if framed:
@@ -100,8 +110,17 @@ def shown(before, left):
 def kept(edits, held):
     """What is held where a list is made over it: an object that is removed takes its classes along."""
     whole, classes = held or (None, {})
-    after = model.fold(edits, whole)
+    after = model.fold([one for one in edits if not is_of_header(one)], whole)
     return after and (after, {} if ("remove",) in edits else classes)
+
+
+def header_after(edits, header):
+    """The omap's header where a list is made."""
+    for one in edits:
+        header = b"" if one == ("remove",) else header
+        if is_of_header(one):
+            header = one[3] if one[0] == "set" else b""
+    return header
 
 
 def parse(data):
@@ -156,13 +175,13 @@ def native_name(cls):
     return "lock.2" if cls == b"lock" else cls.decode()
 
 
-def native(method, data, held, caller, limit=64, behind=False, left=None):
+def native(method, data, held, caller, environment, limit=64, behind=False, left=None):
     """The same of a method of an installed class: it is called by its own name, with its input alone."""
     whole, reads = held[0] if held else None, method.flags == 1
     if reads and whole is None and not behind:
         return -2, b"", held, []
     seen = shown(whole, left[0] if left else None) if behind else whole
-    result, output, edits = answer("see" if reads else "run", method, data, seen, caller, limit, behind)
+    result, output, edits = answer("see" if reads else "run", method, data, seen, caller, limit, behind, environment)
     # a class of Ceph's answers so to what it can't decode
     result = -22 if result == -90 else result
     if result < 0:
@@ -179,6 +198,8 @@ def hex_of(name):
 
 def line_of(one):
     kind, *rest = one
+    if is_of_header(one):
+        return "set header"
     if kind in ("create", "remove"):
         return kind
     if kind == "length":
@@ -194,7 +215,7 @@ def changes(edits):
     made = [
         one
         for at, one in enumerate(edits)
-        if not is_of_xattr(one) or (one[0] == "set" and (at < start or one[2] not in names))
+        if not is_of_xattr(one) or is_of_header(one) or (one[0] == "set" and (at < start or one[2] not in names))
     ]
     lines, keys = [], set()
     for one, following in zip(made, [*made[1:], ("end",)]):
@@ -208,19 +229,19 @@ def changes(edits):
     return lines
 
 
-def reads_of(parts, whole):
+def reads_of(parts, whole, is_native=False):
     """The reads of parts of an object."""
     lines = []
     if whole and "data" in parts and whole.data:
         lines.append(f"read 0 {len(whole.data)}")
     if whole and "xattrs" in parts:
-        lines.append("xattrs")
+        lines += ["xattrs", "header", "random 16"] if is_native else ["xattrs"]
     if whole and "keys" in parts:
         lines.append(f"keys - {model.KEY_LIMIT}")
     return lines
 
 
-def remade(after, classes, header=b""):
+def remade(after, classes, header):
     """An object that is removed and made again."""
     lines = ["remove", "create"] + ([f"write 0 {len(after.data)}"] if after.data else [])
     names = [*sorted(after.xattrs), *sorted(b"bpf." + name for name in classes)]
@@ -228,14 +249,15 @@ def remade(after, classes, header=b""):
     return lines + ([" ".join(["set keys", *map(hex_of, sorted(after.keys))])] if after.keys else [])
 
 
-def trace(parts, seen, edits, classes):
+def trace(parts, seen, edits, classes, is_native, header):
     """All that a call that is answered asks of the OSD, but for the class and the caller: it reads the parts that the
     method needs, and no other.
     """
-    lines, names = ["stat"] + reads_of(parts, seen), gone(edits, seen) if seen else []
+    lines, names = ["stat"] + reads_of(parts, seen, is_native), gone(edits, seen) if seen else []
     if names:
         without = seen.copy()
         for name in names:
             del without.xattrs[name]
-        lines += reads_of(model.PARTS.keys() - set(parts), seen) + ["header"] + remade(without, classes)
+        lines += reads_of(model.PARTS.keys() - set(parts), seen) + ([] if is_native else ["header"])
+        lines += remade(without, classes, header)
     return lines + changes(edits)

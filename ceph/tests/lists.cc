@@ -24,7 +24,7 @@ struct row {
     const char *list;   // in hexadecimal, with blanks
     int result;
     const char *calls; // the changes that the OSD is asked for, and reads behind the first ones, with commas
-    const char *after;
+    const char *after; // null: whatever it is
 };
 
 // Numbers of 8 bytes, and of 4.
@@ -106,6 +106,8 @@ const row ROWS[] = {
     {"a name that begins so, but for the dot", ".", nullptr, "03 0400 62706678 0000", 0, "set xattr 62706678",
      ". bpfx="},
     {"a name with a NUL byte", ".", nullptr, SET_K "03 0300 610062 0000", NAME_WITH_NUL, "", ""},
+    {"the header's name, where it isn't shown", ".", nullptr, SET_K "03 0700 00686561646572 0000", NAME_WITH_NUL, "",
+     ""},
     {"a key of the plug-in's", ".", nullptr, "05 0500 6270662e78 0000", 0, "set keys 6270662e78", ". bpf.x:"},
     // no lists
     {"no such edit: 0", ".", nullptr, SET_A "00", BROKEN, "", ""},
@@ -116,6 +118,37 @@ const row ROWS[] = {
     {"a write that is cut", ".", nullptr, "08" N(00) L(02) "61", BROKEN, "", ""},
     {"a length past the limit", ".", nullptr, "07 0100010000000000", BROKEN, "", ""},
     {"a place past the limit", ".", nullptr, "08 0000000001000000" L(01) "61", BROKEN, "", ""},
+};
+
+// The same of an installed class, whose method is shown the environment of its call. A name with a NUL byte before it.
+#define HEADER "0700 00686561646572 "
+#define SET_HEADER "03" HEADER "0200 6e77 "
+#define RM_HEADER "04" HEADER
+const row SHOWN[] = {
+    {"the header", ". !hd", nullptr, SET_HEADER, 0, "set header", ". !nw"},
+    {"the header of an absent object", "-", nullptr, "01" SET_HEADER, 0, "create,set header", ". !nw"},
+    {"the header among keys", ". a=1 !hd", nullptr, SET_K SET_HEADER SET_M, 0, "set keys 6b,set header,set keys 6d",
+     ". a=1 k:v m:v !nw"},
+    {"the header goes", ". k:v !hd", nullptr, RM_HEADER, 0, "set header", ". k:v"},
+    {"the header without bytes", ". !hd", nullptr, "03" HEADER "0000", 0, "set header", "."},
+    {"the header goes and is set", ". !hd", nullptr, RM_HEADER SET_HEADER, 0, "set header,set header", ". !nw"},
+    {"the header, and the object goes", ". !hd", nullptr, SET_HEADER "02", 0, "set header,remove", "-"},
+    {"the header of an object that is made again", ". a=1 !hd", nullptr, "02 01" SET_HEADER SET_A, 0,
+     "remove,create,set header,set xattr 61", ". a=1 !nw"},
+    {"the header, and an xattr goes", ". a=1 b=2 !hd", nullptr, SET_HEADER RM_A SET_K, 0,
+     "keys - 1024,remove,create,set xattr 62,set header,set header,set keys 6b", ". b=2 k:v !nw"},
+    {"an xattr goes, and the header stays", ". a=1 !hd", nullptr, RM_A, 0, "keys - 1024,remove,create,set header",
+     ". !hd"},
+    {"the header behind another step", ". !hd", ". a=1 !hd", SET_HEADER, 0, "set header", ". a=1 !nw"},
+    {"the header goes behind another step", "-", ". a=1 !hd", SET_A RM_HEADER, 0, "set xattr 61,set header", ". a=1"},
+    {"the time", ".", nullptr, SET_A "03 0500 0074696d65 0100 31", NAME_IS_OURS, "", ""},
+    {"the time goes", ".", nullptr, SET_HEADER "04 0500 0074696d65", NAME_IS_OURS, "", ""},
+    {"another such name", ".", nullptr, SET_K "03 0100 00 0000", NAME_IS_OURS, "", ""},
+    {"a name that the header's begins", ".", nullptr, "03 0800 0068656164657273 0000", NAME_IS_OURS, "", ""},
+    {"a name of the plug-in's", ".", nullptr, "03 0500 6270662e78 0000", NAME_IS_OURS, "", ""},
+    {"a name with a NUL byte", ".", nullptr, SET_HEADER "03 0300 610062 0000", NAME_WITH_NUL, "", ""},
+    {"a key of that name", ".", nullptr, "05 0500 0074696d65 0000", 0, "set keys 0074696d65", nullptr},
+    {"no such edit: 9", ".", nullptr, SET_A "09" HEADER "0000", BROKEN, "", ""},
 };
 // clang-format on
 
@@ -155,18 +188,18 @@ std::string calls_made() {
     return made;
 }
 
-bool is_right(const row &one) {
+bool is_right(const row &one, const origin *caller) {
     now = state();
     now.before = object_of(one.before);
     now.left = now.after = object_of(one.left ? one.left : one.before);
     now.step = one.left ? 1 : 0;
-    object_view view(is_behind(&now));
+    object_view view(is_behind(&now), caller);
     bytes list = bytes_of(one.list);
     int result = view.read(&now, NEEDS_XATTRS);
     now.trace.clear();
     if (result >= 0)
         result = make_edits(&now, view, {list.data(), list.size()});
-    bool is_kept = result < 0 || now.after == object_of(one.after);
+    bool is_kept = result < 0 || !one.after || now.after == object_of(one.after);
     if (result == one.result && calls_made() == one.calls && is_kept && now.misuse.empty())
         return true;
     printf("BAD  %s: %d %s%s%s\n", one.what, result, calls_made().c_str(), is_kept ? "" : ", and another object, ",
@@ -178,9 +211,12 @@ bool is_right(const row &one) {
 
 int main() {
     size_t right = 0;
+    origin caller;
     for (auto &one : ROWS)
-        right += is_right(one);
-    size_t wrong = std::size(ROWS) - right;
+        right += is_right(one, nullptr);
+    for (auto &one : SHOWN)
+        right += is_right(one, &caller);
+    size_t wrong = std::size(ROWS) + std::size(SHOWN) - right;
     printf("%s  lists of edits: %zu right, %zu wrong\n", wrong ? "BAD" : "ok ", right, wrong);
     return wrong ? 1 : 0;
 }

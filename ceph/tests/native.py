@@ -11,10 +11,13 @@ import ctypes
 import hashlib
 import os
 import struct
+import subprocess
 import sys
+import tempfile
+import time
 
 import osd
-from model import Object
+from model import Object, address_of
 from osd import request
 
 
@@ -36,6 +39,7 @@ def rows():
     counted = Object(b"", {}, {b"n": number(1)})
     longest = Object(b"text", {b"x": b"x" * 4096}, {b"k": b"2"})
     written = Object(b"text", {b"x": b"1", b"new": b"v"}, {b"k": b"2"})
+    many = lambda count: Object(b"", {b"%02d" % n: b"v" for n in range(count)})
     return [
         ("a change of an absent object", None, "count", "count", b"", 1, number(1), counted),
         ("a read", text, "helpers", "read", number(1) + number(2), 2, b"ex", text),
@@ -58,13 +62,37 @@ def rows():
         ("an answer of over 16 KB", Object(), "helpers", "fill", LONG, 0, b"", Object(5 * LONG)),
         ("rule set 3: the longest input and output", text, "third", "copy", LONGEST, 65535, LONGEST, text),
         ("rule set 3: an input one byte past it", text, "third", "copy", LONGEST + b"\0", -22, b"", text),
-        ("rule set 3: the first xattr", text, "third", "next", b"", 1, b"x", text),
+        ("rule set 3: the first xattr", text, "third", "next", b"\0\xff", 1, b"x", text),
         ("rule set 3: the last one", text, "third", "next", b"x", -61, b"", text),
         ("rule set 3: two texts", text, "third", "order", b"\2ab".ljust(64, b"\0") + b"\2b", 1, b"", text),
         ("rule set 3: a value that is too long", text, "third", "set", b"x" * 4097, -27, b"", text),
         ("rule set 3: the longest value", text, "third", "set", b"x" * 4096, 0, b"", longest),
         ("an object that is too long", Object(bytes(65537)), "helpers", "stat", b"", -27, b"", Object(bytes(65537))),
+        # the environment: its names, what can't be set, and that its entries count
+        *((f"after {name}", text, "third", "next", name, len(after), after, text) for name, after in NAMES),
+        ("the same bytes twice", text, "environment", "same", b"", 1, b"", text),
+        ("the time is set", text, "helpers", "setxattr", setter(b"\0time", b"v"), -13, b"", text),
+        ("the time goes", text, "helpers", "rmxattr", b"\0time", -13, b"", text),
+        ("a new such name is set", text, "helpers", "setxattr", setter(b"\0", b"v"), -13, b"", text),
+        ("it is set behind other edits", text, "helpers", "mix", b"\1\1\0abbcb\1" + bytes(24), -13, b"", text),
+        ("no header goes", text, "helpers", "rmxattr", b"\0header", -61, b"", text),
+        ("of an absent object, behind no step", None, "environment", "same", b"", -2, b"", None),
+        ("27 xattrs", many(27), "helpers", "getxattr", b"26", 1, b"v", many(27)),
+        ("a 28th, for the method", many(27), "helpers", "setxattr", setter(b"28"), -28, b"", many(27)),
+        ("a header as a 28th", many(27), "environment", "header", b"v", -28, b"", many(27)),
+        ("28 xattrs", many(28), "helpers", "getxattr", b"26", -7, b"", many(28)),
     ]
+
+
+# Each name of the environment, and the one after it, of an object whose first xattr is `x`.
+NAMES = [
+    (b"", b"\0address"),
+    (b"\0address", b"\0entity"),
+    (b"\0entity", b"\0random"),
+    (b"\0random", b"\0time"),
+    (b"\0time", b"\0version"),
+    (b"\0version", b"x"),
+]
 
 
 def try_rows(backend, tally):
@@ -141,6 +169,65 @@ def try_stand_in(backend, tally, images, folder):
     tally.want("the log of a call by bpf", backend.log, [line])
     backend.call("o", "exec", request(b"helpers", b"st\0at", b"", False))
     tally.want("the log of a strange name", backend.log, ["5 bpf.exec helpers.?: refused -38"])
+
+
+def entry(backend, oid, name, **words):
+    """The value of an entry of the environment, or a negative number."""
+    result, output = backend.call(oid, "getxattr", b"\0" + name, cls="helpers", **words)
+    return result if result < 0 else output
+
+
+def try_environment(backend, tally, header_of, set_header):
+    """What a call says of itself, and the omap's header."""
+    whole = Object(b"text", {b"x": b"1"}, {b"k": b"2"})
+    backend.put("env", whole)
+    tally.want("no header", (entry(backend, "env", b"header"), header_of("env")), (-61, b""))
+    found = backend.call("env", "header", b"new", cls="environment")
+    whole.keys.update({b"head": b"new", b"header": b"new"})
+    tally.want("the header is set", (found, backend.get("env")), ((3, b"new"), whole))
+    tally.want("the header that was set", header_of("env"), b"new")
+    tally.want("it is read", entry(backend, "env", b"header"), b"new")
+    tally.want("it is listed", backend.call("env", "next", b"\0entity", cls="third"), (7, b"\0header"))
+    set_header("env", b"other")
+    tally.want("another's is read", entry(backend, "env", b"header"), b"other")
+    tally.want("an xattr goes", backend.call("env", "rmxattr", b"x", cls="helpers"), (0, b""))
+    tally.want("the header stays", header_of("env"), b"other")
+    tally.want("the header goes", backend.call("env", "rmxattr", b"\0header", cls="helpers"), (0, b""))
+    tally.want("it is gone", (entry(backend, "env", b"header"), header_of("env")), (-61, b""))
+    set_header("env", b"h" * 4096)
+    tally.want("the longest header", entry(backend, "env", b"header"), b"h" * 4096)
+    set_header("env", b"h" * 4097)
+    tally.want("a byte too many", entry(backend, "env", b"time"), -7)
+    tally.want("where no xattr is asked for", backend.call("env", "stat", cls="helpers"), (4, b""))
+    backend.put("env", None)
+    data = setter(b"\0header", b"v")
+    tally.want("of an absent object", backend.call("env", "setxattr", data, cls="helpers"), (0, b""))
+    tally.want("its header", (header_of("env"), backend.get("env")), (b"v", Object()))
+
+
+def try_stood_in(backend, tally):
+    """The values of entries, of calls that only a stand-in of an OSD brings about."""
+    backend.put("o", Object(b"text", {b"x": b"1"}), (), b"hd")
+    wanted = backend.environment(b"hd")
+    found = {name: entry(backend, "o", name[1:]) for name in wanted}
+    tally.want("each entry", found, wanted)
+    tally.want("an address of IPv4", found[b"\0address"].hex(), IPV4)
+    six = struct.pack("<IIH", 2, 1, 10) + b"\x1a\x90" + bytes(4) + bytes(range(16)) + bytes(4)
+    tally.want("an address of IPv6", entry(backend, "o", b"address", sender=six).hex(), IPV6)
+    tally.want("no address", entry(backend, "o", b"address", sender=b""), address_of(b""))
+    left = Object(b"text"), {}, b"new"
+    tally.want("as before, behind a step", entry(backend, "o", b"header", step=1, left=left), b"hd")
+    tally.want("removed before", entry(backend, "o", b"time", step=1, left=None), -2)
+    backend.put("o", None)
+    tally.want("made before", entry(backend, "o", b"time", step=1, left=left), struct.pack("<Q", osd.TIME))
+    backend.put("o", None)
+    tally.want("its header", entry(backend, "o", b"header", step=1, left=left), -61)
+
+
+# By hand, after the rows of ceph/plugin/environment.h.
+IPV4 = "01" "0101" "1c000000" "03000000" "40e20100" "10000000" "0200" "0007" "0a010203" + "00" * 8
+IPV6 = "01" "0101" "28000000" "02000000" "01000000" "1c000000" "0a00" "1a90" "00000000"
+IPV6 += bytes(range(16)).hex() + "00" * 4
 
 
 def exec_of(session, oid, method, data=b"", cls="counter"):
@@ -241,6 +328,33 @@ def try_snapshot(backend, tally):
     other.close()
 
 
+def try_clocks(backend, tally):
+    """The entries of a real call, beside what the client knows."""
+    c, whole = backend.c, Object(b"text", {b"x": b"1"}, {b"k": b"2"})
+    c.rados_get_last_version.restype = ctypes.c_uint64
+    backend.put("env", whole)
+    number_of = lambda name: struct.unpack("<Q", entry(backend, "env", name))[0]
+    before, found, after = time.time(), number_of(b"time") / 1e9, time.time()
+    tally.want("the time", before - 1 < found < after + 1, True)
+    tally.want("it goes on", number_of(b"time") / 1e9 > found, True)
+    drawn = {entry(backend, "env", b"random") for _ in range(20)}
+    tally.want("random bytes", (len(drawn), {len(each) for each in drawn}), (20, {16}))
+    tally.want("the entity", entry(backend, "env", b"entity"), b"client.%d" % backend.number())
+    versions = []
+    for _ in range(3):
+        backend.call("env", "map_set", setter(b"k", b"3"), cls="helpers")
+        made = c.rados_get_last_version(backend.io)
+        versions.append(number_of(b"version"))
+        tally.want("the version of a change", versions[-1], made)
+    tally.want("it rises", versions == sorted(set(versions)), True)
+    found, addresses = entry(backend, "env", b"address"), ctypes.c_char_p()
+    tally.want("the client's addresses", c.rados_getaddrs(backend.pool.cluster, ctypes.byref(addresses)), 0)
+    _, nonce, length, family = struct.unpack_from("<IIIH", found, 7)
+    port, *parts = struct.unpack_from(">HBBBB", found, 21)
+    text = b"%d.%d.%d.%d:%d/%d" % (*parts, port, nonce)
+    tally.want("the address", (family, length, text), (2, 16, addresses.value))
+
+
 def try_coded(tally):
     """In an erasure-coded pool xattrs work, and nothing else."""
     coded = osd.Cluster(sys.argv[3], "coded")
@@ -248,7 +362,34 @@ def try_coded(tally):
     tally.want("erasure-coded: an xattr", coded.call("o", "getxattr", b"x", cls="helpers"), (1, b"1"))
     tally.want("erasure-coded: the length", coded.call("o", "stat", cls="helpers"), (-95, b""))
     tally.want("erasure-coded: a key", coded.call("o", "add", number(1), cls="counter"), (-95, b""))
+    tally.want("erasure-coded: the time", len(entry(coded, "o", b"time")), 8)
+    tally.want("erasure-coded: no header", entry(coded, "o", b"header"), -61)
+    data = setter(b"\0header", b"v")
+    tally.want("erasure-coded: the header", coded.call("o", "setxattr", data, cls="helpers"), (-95, b""))
     coded.close()
+
+
+def stood_in_header(backend):
+    """Two functions: what an object's header is, and that sets it."""
+    return (
+        lambda oid: backend.objects[oid][2],
+        lambda oid, header: backend.objects.update({oid: (*backend.objects[oid][:2], header)}),
+    )
+
+
+def header_by_rados(conf):
+    """The same by Ceph's command: librados has no call in C."""
+
+    def rados(*words):
+        command = ["rados", "-c", conf, "-p", "bpf", *words]
+        subprocess.run(command, stdout=subprocess.DEVNULL, stderr=subprocess.DEVNULL, timeout=120, check=True)
+
+    def header_of(oid):
+        with tempfile.NamedTemporaryFile() as file:
+            rados("getomapheader", oid, file.name)
+            return file.read()
+
+    return header_of, lambda oid, header: rados("setomapheader", oid, header.decode())
 
 
 def try_cluster(backend, tally, conf, user, keyring):
@@ -257,21 +398,25 @@ def try_cluster(backend, tally, conf, user, keyring):
     try_version(backend, tally)
     try_snapshot(backend, tally)
     try_coded(tally)
+    try_clocks(backend, tally)
 
 
 def main(words):
     images = osd.images_in(words[0])
     tally, backend = osd.Tally(f"installed classes, {words[1]}"), osd.open_from(words[1:])
     try_rows(backend, tally)
-    wanted = {name: sum_of(images[name]).encode() + b" ok" for name in (b"helpers", b"count", b"third")}
+    wanted = {name: sum_of(images[name]).encode() + b" ok" for name in (b"helpers", b"count", b"third", b"environment")}
     wanted[b"bpf"] = b"- ok"
     if words[1] == "stand-in":
         cut = images[b"helpers"][:40]
         wanted.update({b"cut": sum_of(cut).encode() + b" refused", b"none": b"- refused"})
     try_classes(backend, tally, images, wanted)
     if words[1] == "stand-in":
+        try_environment(backend, tally, *stood_in_header(backend))
+        try_stood_in(backend, tally)
         try_stand_in(backend, tally, images, os.path.normpath(words[3]))
     else:
+        try_environment(backend, tally, *header_by_rados(words[2]))
         try_cluster(backend, tally, *words[2:])
     backend.close()
     tally.end()

@@ -22,6 +22,9 @@ import model  # noqa: E402
 STALLED = 300  # seconds, in which a test's next call is answered, also on a machine that others use
 REPLY_LIMIT = 64  # osd_max_write_op_reply_len, as it is shipped
 SAME = object()  # what earlier steps left is what was before
+# Where the stand-in's calls come from, in an OSD's memory: type 3, a nonce, IPv4's family, port, address.
+SENDER = struct.pack("<IIH", 3, 123456, 2) + b"\0\7" + bytes((10, 1, 2, 3)) + bytes(8)
+TIME, VERSION = 1700000000123456789, 77
 
 
 def load_command():
@@ -78,6 +81,7 @@ class StandIn:
         limit=REPLY_LIMIT,
         kind=8,
         number=None,
+        sender=SENDER,
         failing=0,
         growth=0,
         new=0,
@@ -87,7 +91,7 @@ class StandIn:
         with its classes and header.
         """
         caller = self.client if number is None else number
-        fields = struct.pack("<BQIIIII", kind, caller, step, limit, failing, growth, new)
+        fields = self._sender(kind, caller, sender) + struct.pack("<IIIII", step, limit, failing, growth, new)
         asked = self._call(cls, method, data, fields, self.whole(oid))
         if step:
             asked += self._object(self.whole(oid) if left is SAME else left)
@@ -115,10 +119,17 @@ class StandIn:
         """How many of such calls, made by threads at once, are answered other than by one alone. A call is the object,
         class, method and request.
         """
-        fields = struct.pack("<BQIIIII", 8, self.client, 0, REPLY_LIMIT, 0, 0, 0)
+        fields = self._sender(8, self.client, SENDER) + struct.pack("<IIIII", 0, REPLY_LIMIT, 0, 0, 0)
         made = [self._call(cls, method, data, fields, self.whole(oid)) for oid, cls, method, data in calls]
         self._write(b"\1" + struct.pack("<III", threads, times, len(made)) + b"".join(made))
         return struct.unpack("<I", self._read(4))[0]
+
+    def environment(self, header=b""):
+        """What an installed class sees besides the object."""
+        return model.environment(self.client, SENDER, TIME, VERSION, header)
+
+    def _sender(self, kind, caller, sender):
+        return struct.pack("<BQ", kind, caller) + self._bytes(sender) + struct.pack("<QQ", TIME, VERSION)
 
     def _write(self, out):
         self.process.stdin.write(out)

@@ -57,14 +57,14 @@ class Caller:
         self.backend, self.images, self.radoscls, self.tally = backend, images, radoscls, tally
         self.chance, self.made, self.slowest = osd.seeded(seed), 0, 0
         self.names = [f"random.{seed}.{n}" for n in range(5)]
-        self.held = {}
+        self.held, self.headers = {}, {}
         for name in self.names:
             self.begin(name)
 
     def begin(self, name):
         """The object anew, with all classes beside it."""
         whole = osd.some_object(self.chance)
-        self.held[name] = None if whole is None else (whole, dict(self.images))
+        self.held[name], self.headers[name] = None if whole is None else (whole, dict(self.images)), b""
         self.backend.put(name, whole, self.images)
 
     def go(self):
@@ -82,7 +82,8 @@ class Caller:
         before = held[0].copy() if held else None
         steps = self.steps(held)
         if way == "native":
-            found, wanted = self.native(oid, cls, method, data, held, steps)
+            environment = self.environment(self.headers[oid])
+            found, wanted = self.native(oid, cls, method, data, held, environment, steps)
         else:
             way += "_sent" * sent
             asked = osd.request(image if sent else cls, method, data, sent)
@@ -95,8 +96,10 @@ class Caller:
         self.tally.want(what, found, (result, b"" if result < 0 else output))
         self.tally.want(f"the object after {what}", self.backend.get(oid), after[0] if after else None)
         if isinstance(self.backend, osd.StandIn):
-            self.look(what, found, expected.model.methods_of(image).get(method), held, edits, steps)
-        self.held[oid] = after
+            method = expected.model.methods_of(image).get(method)
+            self.look(what, found, method, held, edits, steps, self.headers[oid], way == "native")
+        header = b"" if steps and found[0] >= 0 else self.headers[oid]
+        self.held[oid], self.headers[oid] = after, after and expected.header_after(edits, header) or b""
         self.made += 1
         if steps:
             return
@@ -126,16 +129,22 @@ class Caller:
         """The same for the stand-in."""
         return {"step": 1, "left": steps["left"] and (*steps["left"], b"")} if steps else {}
 
-    def native(self, oid, cls, method, data, held, steps):
+    def native(self, oid, cls, method, data, held, environment, steps):
         """A call of the class by its own name."""
         name = expected.native_name(cls)
         found = self.timed(oid, method.decode() or "none", data, cls=name, **self.words(steps))
         declared = expected.model.methods_of(self.images[cls]).get(method)
         if declared is None:
             return found, (-95, b"", held, [])
-        return found, expected.native(declared, data, held, self.backend.number(), **steps)
+        return found, expected.native(declared, data, held, self.backend.number(), environment, **steps)
 
-    def look(self, what, found, method, held, edits, steps):
+    def environment(self, header):
+        """In a cluster all but its names and the header can't be foretold, and no call asks for more of it."""
+        if isinstance(self.backend, osd.StandIn):
+            return self.backend.environment(header)
+        return expected.model.environment(self.backend.number(), b"", 0, 0, header)
+
+    def look(self, what, found, method, held, edits, steps, header, is_native):
         """What the call asked of the OSD, and what it wrote into the log."""
         trace = [line for line in self.backend.trace if line != "origin" and not line.startswith("xattr ")]
         levels = [line.split()[0] for line in self.backend.log]
@@ -146,7 +155,8 @@ class Caller:
         parts, (whole, classes) = expected.model.parts_of(method), held or (None, {})
         left = steps.get("left")
         seen = expected.shown(whole, left and left[0]) if steps else whole
-        self.tally.want(f"reads and changes of {what}", trace, expected.trace(parts, seen, edits, classes))
+        words = parts, seen, edits, classes, is_native, header
+        self.tally.want(f"reads and changes of {what}", trace, expected.trace(*words))
         length = len(expected.model.spelled(edits))
         self.tally.want(f"edits of {what}", self.backend.log[0].rsplit(" ", 1)[1], str(length))
 

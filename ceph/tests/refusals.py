@@ -332,29 +332,31 @@ def try_failing(backend, tally, images, whole):
     asked += [("classes", b""), ("stats", b"")]
     asked = [(whole, *each, "bpf") for each in asked]
     asked += [(Object(bytes(65537)), "unload", load_request(b"lock"), "bpf"), (whole, "count", b"", "count")]
+    asked += [(whole, "header", b"new", "environment"), (whole, "same", b"", "environment")]
     for whole, way, data, cls in asked:
         call = lambda **failing: backend.call("o", way, data, cls=cls, **failing)
+        kept = whole and (whole, images, b"header")
         for _ in range(2):  # the first one may take memory that stays
             backend.put("o", whole, images, b"header")
             tally.want(f"{way} {data[:30]}", call()[0] >= 0, True)
         for new in range(1, backend.news + 1):
             backend.put("o", whole, images, b"header")
             what = f"{way} {data[:30]}, operator new {new} fails"
-            tally.want(what, (call(new=new)[0], backend.whole("o")), (-12, (whole, images, b"header")))
+            tally.want(what, (call(new=new)[0], backend.whole("o")), (-12, kept))
         backend.put("o", whole, images, b"header")
         call()
         for growth in range(1, backend.growths + 1):
             backend.put("o", whole, images, b"header")
             result, _ = call(growth=growth)
             what = f"{way} {data[:30]}, growth {growth} of the library's memory fails"
-            tally.want(what, (result, backend.whole("o")), (-12, (whole, images, b"header")))
+            tally.want(what, (result, backend.whole("o")), (-12, kept))
         backend.put("o", whole, images, b"header")
         call()
         for failing in range(1, backend.osd_calls + 1):
             backend.put("o", whole, images, b"header")
             result, _ = call(failing=failing)
             what = f"{way} {data[:30]}, the OSD's call {failing} fails"
-            tally.want(what, (result < 0, backend.whole("o")), (True, (whole, images, b"header")))
+            tally.want(what, (result < 0, backend.whole("o")), (True, kept))
 
 
 def try_cluster(backend, tally, images):

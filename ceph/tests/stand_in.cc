@@ -10,7 +10,8 @@
 //     u8 1, u32 threads, u32 times, u32 count, call ..
 //                       as many threads make the calls so often, each thread its own of them, all at
 //                       once; the answer is u32 how many were answered other than by one thread
-//     call:    bytes class, bytes method, bytes request, u8 the caller's type, u64 its number, u32
+//     call:    bytes class, bytes method, bytes request, u8 the caller's type, u64 its number, bytes
+//              its address in the OSD's memory, u64 the time in nanoseconds, u64 the version, u32
 //              step of the operation, u32 osd_max_write_op_reply_len, and, of which 0 is none: u32
 //              which call of the OSD's fails, u32 which growth of the library's memory, u32 which
 //              `operator new` of the plug-in; the object as it was before the operation; and, if it isn't the
@@ -21,7 +22,8 @@
 //              often the library's memory grew, u32 how often `operator new` was called, bytes what
 //              the plug-in did that no OSD allows, bytes a line for each call of the OSD's that reads
 //              or changes the object, bytes a line for each line of the log: level, blank, text
-// Before the first call it writes such lines of the log, of the opening of the classes.
+// Before the first call it writes such lines of the log, of the opening of the classes. Random bytes are 1, 2 and so
+// on, counted on through one call.
 #include "../plugin/bytes.h"
 #include "../plugin/osd.h"
 
@@ -34,6 +36,7 @@
 #include <dlfcn.h>
 #include <new>
 #include <set>
+#include <sys/syscall.h>
 #include <thread>
 #include <unistd.h>
 
@@ -71,7 +74,9 @@ struct state {
     object before, left, after;
     bool may_read_alone = false, has_changed = false, is_in_plugin = false;
     uint8_t caller_type = 0;
-    uint64_t caller_number = 0;
+    uint64_t caller_number = 0, time = 0, version = 0;
+    std::string address;
+    uint8_t drawn = 0; // random bytes
     unsigned step = 0, reply_limit = 0, failing = 0, calls = 0, refused_growth = 0, growths = 0;
     unsigned refused_new = 0, news = 0;
     std::string misuse, trace, log;
@@ -182,6 +187,15 @@ void *__wrap_realloc(void *old, size_t size) {
     return ++now.growths == now.refused_growth ? nullptr : realloc(old, size);
 }
 
+// The time of day is the call's; other clocks, which the engine's counters take, go on.
+int __wrap_clock_gettime(clockid_t clock, timespec *to) {
+    if (clock != CLOCK_REALTIME)
+        return int(syscall(SYS_clock_gettime, clock, to));
+    to->tv_sec = time_t(now.time / 1000000000);
+    to->tv_nsec = long(now.time % 1000000000);
+    return 0;
+}
+
 int cls_log(int level, const char *format, ...) {
     outside here;
     char line[4096];
@@ -207,9 +221,22 @@ int cls_get_request_origin(cls_method_context_t, void *entity) {
     auto *bytes = static_cast<uint8_t *>(entity);
     bytes[0] = now.caller_type;
     memcpy(bytes + 8, &now.caller_number, 8);
-    memset(bytes + 16, 0x5a, 136); // an address
+    memcpy(bytes + 16, now.address.data(), now.address.size());
     return 0;
 }
+}
+
+uint64_t cls_current_version(cls_method_context_t) {
+    return now.version;
+}
+
+int cls_gen_random_bytes(char *to, int length) {
+    outside here;
+    if (reads("random " + std::to_string(length)))
+        return -EIO;
+    for (int i = 0; i < length; i++)
+        to[i] = char(++now.drawn);
+    return 0;
 }
 
 int cls_register_cxx_method(cls_handle_t handle, const char *method, int flags, cls_method_cxx_call_t call,
@@ -463,6 +490,9 @@ one_call get_call() {
     made.request = get_bytes();
     made.with.caller_type = uint8_t(get_number(1));
     made.with.caller_number = get_number(8);
+    made.with.address = get_bytes();
+    made.with.time = get_number(8);
+    made.with.version = get_number(8);
     made.with.step = unsigned(get_number(4));
     made.with.reply_limit = unsigned(get_number(4));
     made.with.failing = unsigned(get_number(4));

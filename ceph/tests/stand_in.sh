@@ -27,7 +27,8 @@ flags=(-std=c++17 -g1 -O0 -fPIC -Wall -Wextra -Werror "-fsanitize=$sanitizers" -
     "-I$SILLARNICA_INCLUDE" "${of_objects[@]}")
 
 jobs=()
-for file in "$plugin"/{engine,classes,native,bpf,call,edits,object,sum,stub} "${programs[@]/#/$plugin/../tests/}"; do
+for file in "$plugin"/{engine,classes,native,bpf,call,edits,object,environment,sum,stub} \
+    "${programs[@]/#/$plugin/../tests/}"; do
     object=$out/$(basename "$file").o
     is_old=
     for source in "$file.cc" "$plugin"/*.h "$plugin/../tests/stand_in.cc"; do
@@ -40,13 +41,14 @@ done
 for job in "${jobs[@]}"; do wait "$job"; done
 
 $compiler -shared "-fsanitize=$sanitizers" -o "$classes/sillarnica_engine.so" \
-    "$out"/{engine,classes,native,bpf,call,edits,object,sum}.o "$SILLARNICA_ARCHIVE" "$SILLARNICA_LIBC" \
-    -Wl,--wrap=malloc,--wrap=realloc -Wl,-soname,sillarnica_engine.so -Wl,--version-script="$plugin/engine.map"
+    "$out"/{engine,classes,native,bpf,call,edits,object,environment,sum}.o "$SILLARNICA_ARCHIVE" "$SILLARNICA_LIBC" \
+    -Wl,--wrap=malloc,--wrap=realloc,--wrap=clock_gettime -Wl,-soname,sillarnica_engine.so \
+    -Wl,--version-script="$plugin/engine.map"
 $compiler -shared "-fsanitize=$sanitizers" -o "$classes/libcls_bpf.so" "$out/stub.o" "$classes/sillarnica_engine.so" \
     -Wl,-rpath,'$ORIGIN' -Wl,--version-script="$plugin/stub.map"
 for program in "${programs[@]}"; do
     parts=("$out/$program.o")
-    if [ "$program" = lists ]; then parts+=("$out"/{edits,object}.o); fi
+    if [ "$program" = lists ]; then parts+=("$out"/{edits,object,environment}.o); fi
     $compiler "-fsanitize=$sanitizers" "${of_program[@]}" -o "$out/$program" "${parts[@]}" -rdynamic -ldl -lpthread \
         -L"$libraries/ceph" -l:libceph-common.so.2 -Wl,-rpath,"$libraries/ceph"
 done

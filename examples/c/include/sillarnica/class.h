@@ -101,6 +101,37 @@ HELPER(17, cls_copy, void *to, u64 room, const void *from, u64 length)        /*
 HELPER(18, cls_xattr_next, const void *name, u64 length, void *to, u64 room)  /* the length of the least xattr above it */
 #undef HELPER
 
+/* The environment of a call, as a class that is installed in an OSD of Ceph has it: entries beside the object's xattrs, whose
+   names begin with a NUL byte, read by cls_getxattr. Elsewhere there are none, and these answer -ENODATA; of an absent object
+   -ENOENT. They count among the 32 xattrs; a list of xattrs begins after them, from the two bytes 00 ff. But for
+   the header none can be set or removed (docs/CEPH.md). */
+
+INLINE s64 call_number(const char *name, u64 length)
+{
+    u64 value;
+    s64 got = cls_getxattr(name, length, &value, sizeof value);
+    return got < 0 ? got : (s64)value;
+}
+
+/* The time of day by the primary's clock, in nanoseconds since 1970. */
+INLINE s64 call_time(void) { return call_number("\0time", 5); }
+
+/* The version of the newest change in the object's placement group. */
+INLINE s64 call_version(void) { return call_number("\0version", 8); }
+
+/* 16 random bytes, the same through one call: 16. */
+INLINE s64 call_random(void *to) { return cls_getxattr("\0random", 7, to, 16); }
+
+/* The caller, as "client.4123": the length, at most 17. */
+INLINE s64 call_entity(void *to, u64 room) { return cls_getxattr("\0entity", 7, to, room); }
+
+/* The caller's address in Ceph's encoding: the length, 35 of IPv4 and 47 of others. */
+INLINE s64 call_address(void *to, u64 room) { return cls_getxattr("\0address", 8, to, room); }
+
+/* The omap's header: the length, or -ENODATA of none. A header without bytes is none. */
+INLINE s64 get_header(void *to, u64 room) { return cls_getxattr("\0header", 7, to, room); }
+INLINE s64 set_header(const void *value, u64 count) { return cls_setxattr("\0header", 7, value, count); }
+
 /* clang forgets what it knows of x, and keeps it in one register, so that what is checked is what is used. */
 #define OPAQUE(x) __asm__ volatile("" : "+r"(x))
 
