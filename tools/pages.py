@@ -295,10 +295,10 @@ def try_c(pages):
         pages.folder = pages.work
         holds(pages, "account.img", "examples/c/account.test")
         touched = "radoscls run touch.img touch --object - --xattr 0x0074696d65=15cd5b0700000000"
-        method = shown(pages.text, "and the answer is -ENOENT:", 1, 7)
+        method = shown(pages.text, "so a method asks for an object:", 1, 9)
         (pages.work / "touch.c").write_text("\n".join(["#include <sillarnica/class.h>", *method]) + "\n")
         pages.row(touched, instead=f"{tool} touch.c -o touch.img")
-        pages.answers("radoscls run touch.img touch", "code -2", "output -", "object absent")
+        pages.answers("radoscls run touch.img touch", "code -55", "output -", "object absent")
         pages.answers(touched, "code 0", "output -", "object 0 2 0")
     pages.on("docs/FROM_C.md", pages.work, "cc")
     pages.row("cc -g -fsanitize=address,undefined -I examples/c/include examples/c/account.c examples/c/class_native.c -o account", "none")

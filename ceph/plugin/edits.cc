@@ -137,6 +137,8 @@ int make_edits(cls_method_context_t context, object_view &object, slice written)
     int result = read_edits(written, object.shows_environment(), edits);
     if (result < 0)
         return result;
+    if (object.is_made() && !edits.empty())
+        edits.insert(edits.begin(), {CREATE, {}, {}, 0});
     size_t start = beginning(edits);
     std::set<std::string> removed = removed_from(edits, start);
     // An object that the call removed or created has no xattr of before.

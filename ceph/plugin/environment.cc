@@ -6,7 +6,7 @@
 #include <sys/socket.h>
 #include <time.h>
 
-const std::string HEADER_NAME("\0header", 7);
+const std::string HEADER_NAME("\0header", 7), MADE_NAME("\0made", 5);
 
 namespace {
 

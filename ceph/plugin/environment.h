@@ -4,6 +4,7 @@
 //     \0address   the caller's address, in Ceph's encoding
 //     \0entity    the caller, as `client.4123`
 //     \0header    the omap's header; there is no such entry if it has no bytes. It alone can be set and removed
+//     \0made      nothing, of an object that is made for the call (WITH_OBJECT); there is no such entry else
 //     \0random    16 random bytes, the same through one call
 //     \0time      u64 nanoseconds since 1970, by the clock of the OSD, which is the object's primary
 //     \0version   u64 the version of the newest change in the object's placement group
@@ -14,6 +15,8 @@
 
 #include "bytes.h"
 #include "osd.h"
+
+#include <cerrno>
 
 using values = std::map<std::string, ceph::bufferlist>;
 
@@ -31,8 +34,12 @@ int find_origin(cls_method_context_t context, origin &who);
 // Whether a name is kept for the environment.
 bool is_of_environment(const std::string &name);
 
-// The name of the omap's header.
-extern const std::string HEADER_NAME;
+// Names of two entries.
+extern const std::string HEADER_NAME, MADE_NAME;
+
+// The code by which a method that may change asks for an object, where there is none: it is called again upon one
+// without data, xattrs and keys, but with an environment. That object is made if the second call changes anything.
+constexpr int64_t WITH_OBJECT = -ENOANO;
 
 // The entries of a call upon an object that is there, with this header.
 int make_environment(cls_method_context_t context, const origin &who, const ceph::bufferlist &header, values &shown);

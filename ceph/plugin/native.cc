@@ -139,5 +139,14 @@ int native_class::call(unsigned method, cls_method_context_t context, ceph::buff
     object.put_flat(flat);
     if ((result = run(method, flat, who.number, slice_of(in), found)) < 0)
         return result;
+    if (found.code == WITH_OBJECT && methods[method].may_change && object.is_absent()) {
+        uint64_t steps = found.steps;
+        if ((result = object.make(context)) < 0)
+            return result;
+        object.put_flat(flat);
+        if ((result = run(method, flat, who.number, slice_of(in), found)) < 0)
+            return result;
+        found.steps += steps;
+    }
     return give_answer(context, found, object, {methods[method].may_change, false}, out, made);
 }

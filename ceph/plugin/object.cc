@@ -111,6 +111,13 @@ int object_view::read(cls_method_context_t context, unsigned parts) {
     return 0;
 }
 
+int object_view::make(cls_method_context_t context) {
+    is_there = was_made = true;
+    have = NEEDS_ALL;
+    environment[MADE_NAME];
+    return make_environment(context, *caller, header, environment);
+}
+
 void object_view::put_flat(bytes &flat) {
     flat.clear();
     flat.reserve(data.length() + 4096);

@@ -32,6 +32,11 @@ public:
     // are asked for alone: DATA_TOO_LONG; TOO_MUCH; and data behind another step, NOT_FIRST.
     int read(cls_method_context_t context, unsigned parts);
 
+    // Of one that was read and is absent, with a caller: an object for its call (WITH_OBJECT).
+    int make(cls_method_context_t context);
+    bool is_absent() const { return is_found && !is_there; }
+    bool is_made() const { return was_made; }
+
     // The flat form of `sillarnica.h`; what wasn't read is empty.
     void put_flat(bytes &flat);
 
@@ -57,7 +62,7 @@ private:
     int write(cls_method_context_t context);
 
     const origin *const caller;
-    bool is_found = false, is_there = false, has_header = false;
+    bool is_found = false, is_there = false, was_made = false, has_header = false;
     uint64_t size = 0;
     unsigned have = 0; // the parts that were read
     ceph::bufferlist data, header;

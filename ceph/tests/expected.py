@@ -175,13 +175,24 @@ def native_name(cls):
     return "lock.2" if cls == b"lock" else cls.decode()
 
 
+def asks_for_object(method, data, caller):
+    """Whether a method's code of an absent object is WITH_OBJECT."""
+    return len(data) <= method.in_cap and model.call(method, None, caller, data).code == -55
+
+
 def native(method, data, held, caller, environment, limit=64, behind=False, left=None):
     """The same of a method of an installed class: it is called by its own name, with its input alone."""
     whole, reads = held[0] if held else None, method.flags == 1
     if reads and whole is None and not behind:
         return -2, b"", held, []
     seen = shown(whole, left[0] if left else None) if behind else whole
-    result, output, edits = answer("see" if reads else "run", method, data, seen, caller, limit, behind, environment)
+    words = "see" if reads else "run", method, data
+    result, output, edits = answer(*words, seen, caller, limit, behind, environment)
+    if seen is None and not reads and asks_for_object(method, data, caller):
+        environment = {**environment, b"\0made": b""}
+        environment.pop(model.HEADER, None)
+        result, output, edits = answer(*words, model.Object(), caller, limit, behind, environment)
+        edits = edits and [("create",), *edits]
     # a class of Ceph's answers so to what it can't decode
     result = -22 if result == -90 else result
     if result < 0:

@@ -39,6 +39,7 @@ def rows():
     counted = Object(b"", {}, {b"n": number(1)})
     longest = Object(b"text", {b"x": b"x" * 4096}, {b"k": b"2"})
     written = Object(b"text", {b"x": b"1", b"new": b"v"}, {b"k": b"2"})
+    timed = Object(b"text", {b"x": b"1", b"time": b"time"}, {b"k": b"2"})
     many = lambda count: Object(b"", {b"%02d" % n: b"v" for n in range(count)})
     return [
         ("a change of an absent object", None, "count", "count", b"", 1, number(1), counted),
@@ -77,6 +78,8 @@ def rows():
         ("it is set behind other edits", text, "helpers", "mix", b"\1\1\0abbcb\1" + bytes(24), -13, b"", text),
         ("no header goes", text, "helpers", "rmxattr", b"\0header", -61, b"", text),
         ("of an absent object, behind no step", None, "environment", "same", b"", -2, b"", None),
+        ("an object is made", None, "environment", "made", b"", 1, b"", Object(b"", {b"time": b"time"})),
+        ("no object is made", text, "environment", "made", b"", 0, b"", timed),
         ("27 xattrs", many(27), "helpers", "getxattr", b"26", 1, b"v", many(27)),
         ("a 28th, for the method", many(27), "helpers", "setxattr", setter(b"28"), -28, b"", many(27)),
         ("a header as a 28th", many(27), "environment", "header", b"v", -28, b"", many(27)),
@@ -220,6 +223,11 @@ def try_stood_in(backend, tally):
     tally.want("removed before", entry(backend, "o", b"time", step=1, left=None), -2)
     backend.put("o", None)
     tally.want("made before", entry(backend, "o", b"time", step=1, left=left), struct.pack("<Q", osd.TIME))
+    backend.put("o", None)
+    tally.want("made for the call", backend.call("o", "made", cls="environment"), (1, b""))
+    lines = ["origin", "stat", "random 16", "create", "set xattr 74696d65"]
+    steps = "10 environment.made: code 1, steps 42, bytes: input 0, output 0, edits 13"
+    tally.want("its reads and changes", (backend.trace, backend.log), (lines, [steps]))
     backend.put("o", None)
     tally.want("its header", entry(backend, "o", b"header", step=1, left=left), -61)
 

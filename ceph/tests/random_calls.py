@@ -97,7 +97,7 @@ class Caller:
         self.tally.want(f"the object after {what}", self.backend.get(oid), after[0] if after else None)
         if isinstance(self.backend, osd.StandIn):
             method = expected.model.methods_of(image).get(method)
-            self.look(what, found, method, held, edits, steps, self.headers[oid], way == "native")
+            self.look(what, found, method, data, held, edits, steps, self.headers[oid], way == "native")
         header = b"" if steps and found[0] >= 0 else self.headers[oid]
         self.held[oid], self.headers[oid] = after, after and expected.header_after(edits, header) or b""
         self.made += 1
@@ -144,7 +144,7 @@ class Caller:
             return self.backend.environment(header)
         return expected.model.environment(self.backend.number(), b"", 0, 0, header)
 
-    def look(self, what, found, method, held, edits, steps, header, is_native):
+    def look(self, what, found, method, data, held, edits, steps, header, is_native):
         """What the call asked of the OSD, and what it wrote into the log."""
         trace = [line for line in self.backend.trace if line != "origin" and not line.startswith("xattr ")]
         levels = [line.split()[0] for line in self.backend.log]
@@ -156,8 +156,11 @@ class Caller:
         left = steps.get("left")
         seen = expected.shown(whole, left and left[0]) if steps else whole
         words = parts, seen, edits, classes, is_native, header
-        self.tally.want(f"reads and changes of {what}", trace, expected.trace(*words))
-        length = len(expected.model.spelled(edits))
+        is_made = is_native and not seen and expected.asks_for_object(method, data, self.backend.number())
+        wanted = expected.trace(*words)
+        wanted[1:1] = ["random 16"] if is_made else []
+        self.tally.want(f"reads and changes of {what}", trace, wanted)
+        length = len(expected.model.spelled(edits[is_made is True :]))
         self.tally.want(f"edits of {what}", self.backend.log[0].rsplit(" ", 1)[1], str(length))
 
     def beside(self, what, image, method, data, before, found, result, after):

@@ -333,6 +333,7 @@ def try_failing(backend, tally, images, whole):
     asked = [(whole, *each, "bpf") for each in asked]
     asked += [(Object(bytes(65537)), "unload", load_request(b"lock"), "bpf"), (whole, "count", b"", "count")]
     asked += [(whole, "header", b"new", "environment"), (whole, "same", b"", "environment")]
+    asked.append((None, "made", b"", "environment"))
     for whole, way, data, cls in asked:
         call = lambda **failing: backend.call("o", way, data, cls=cls, **failing)
         kept = whole and (whole, images, b"header")

@@ -103,7 +103,7 @@ HELPER(18, cls_xattr_next, const void *name, u64 length, void *to, u64 room)  /*
 
 /* The environment of a call, as a class that is installed in an OSD of Ceph has it: entries beside the object's xattrs, whose
    names begin with a NUL byte, read by cls_getxattr. Elsewhere there are none, and these answer -ENODATA; of an absent object
-   -ENOENT. They count among the 32 xattrs; a list of xattrs begins after them, from the two bytes 00 ff. But for
+   -ENOENT (see WITH_OBJECT). They count among the 32 xattrs; a list of xattrs begins after them, from the two bytes 00 ff. But for
    the header none can be set or removed (docs/CEPH.md). */
 
 INLINE s64 call_number(const char *name, u64 length)
@@ -131,6 +131,12 @@ INLINE s64 call_address(void *to, u64 room) { return cls_getxattr("\0address", 8
 /* The omap's header: the length, or -ENODATA of none. A header without bytes is none. */
 INLINE s64 get_header(void *to, u64 room) { return cls_getxattr("\0header", 7, to, room); }
 INLINE s64 set_header(const void *value, u64 count) { return cls_setxattr("\0header", 7, value, count); }
+
+/* The code by which a method that may write asks for an object, where there is none: an OSD calls it again upon one without
+   data, xattrs and keys, but with an environment, to which the entry "\0made" belongs then. The object is made if that call
+   changes anything. Elsewhere the code is the answer. */
+#define WITH_OBJECT (-ENOANO)
+INLINE u64 is_made(void) { return cls_getxattr("\0made", 5, "", 0) == 0; }
 
 /* clang forgets what it knows of x, and keeps it in one register, so that what is checked is what is used. */
 #define OPAQUE(x) __asm__ volatile("" : "+r"(x))
