@@ -7,21 +7,25 @@ and the lock as Ceph's clients call it, librados and the command `rados`.
 CONF is that of a cluster of ceph/ports.sh; each class gets so many calls.
 """
 
+import base64
 import ctypes
 import json
 import os
+import struct
 import subprocess
 import sys
+import time
 
 import osd
-from model import Object, methods_of
+from model import Object, methods_of, parts_of
 
 sys.path.insert(0, os.path.join(osd.here, "..", "..", "examples", "ceph"))
 
 import check  # noqa: E402
 
 SIZE = ctypes.c_size_t
-RENEW = 1  # LIBRADOS_LOCK_FLAG_RENEW
+RENEW, MUST_RENEW = 1, 2  # LIBRADOS_LOCK_FLAG_..
+ENTRIES = 5  # of the environment, without a header
 
 
 def held(whole):
@@ -29,38 +33,113 @@ def held(whole):
     return None if whole is None else Object(whole.data, whole.xattrs, whole.keys)
 
 
+def text_of(session):
+    """A client's address as librados has it."""
+    found = ctypes.c_char_p()
+    assert session.c.rados_getaddrs(session.pool.cluster, ctypes.byref(found)) == 0
+    return found.value.decode()
+
+
+def address_of(text):
+    """In Ceph's encoding."""
+    kind, text = (int(text[1]), text[3:]) if text[0] == "v" else (3, text)
+    host, nonce = text.split("/")
+    host, port = host.split(":")
+    socket = struct.pack("<H", 2) + struct.pack(">H", int(port)) + bytes(map(int, host.split("."))) + bytes(8)
+    return b"\1" + check.versioned(struct.pack("<III", kind, int(nonce), 16) + socket)
+
+
+def drawn_for(whole):
+    """The random bytes that a version's tag was made of."""
+    try:
+        tag = check.read_version(check.Decoder(whole.xattrs[b"ceph.objclass.version"], 128))[1]
+        return base64.b64decode(tag, validate=True)[:16].ljust(16, b"\0")
+    except (AttributeError, KeyError, ValueError, check.Fail):
+        return bytes(16)
+
+
+def with_times(wanted, found, slack):
+    """An object whose lockers expire when they do in another, if that isn't earlier, nor later by more than this."""
+    moment = lambda value: struct.unpack_from("<II", value, 6)
+    for name in wanted.xattrs if wanted and found else ():
+        try:
+            ours, theirs = (check.read_lock(check.Decoder(whole.xattrs[name], 4000)) for whole in (wanted, found))
+        except (KeyError, check.Fail):
+            continue
+        for key, value in ours[0].items():
+            other = theirs[0].get(key, value)
+            later = (moment(other)[0] - moment(value)[0]) * 10**9 + moment(other)[1] - moment(value)[1]
+            if 0 < later <= slack:
+                ours[0][key] = value[:6] + other[6:14] + value[14:]
+        wanted.xattrs[name] = check.write_lock(*ours)
+    return wanted
+
+
 class Native(check.Play):
     """The random calls of a class, made in the cluster, by three sessions."""
+
+    entries = ENTRIES
 
     def __init__(self, which, image, sessions, tally):
         super().__init__(which)
         self.which, self.methods, self.tally = which, methods_of(image), tally
         self.sessions = dict(zip(check.CLIENTS, sessions))
+        self.addresses = {client: address_of(text_of(session)) for client, session in self.sessions.items()}
+
+    def answer(self, model, before, client, method, given, environment):
+        """The model's, of an installed class."""
+        declared = self.methods[method.encode()]
+        if declared.flags == 1 and before is None:
+            return None, -check.ENOENT, b""  # the OSD answers a read of an absent object
+        if before and "xattrs" in parts_of(declared) and len(before.xattrs) + ENTRIES > check.XATTRS:
+            return before, -check.E2BIG, b""
+        if len(given) > declared.in_cap:
+            return before, -check.EINVAL, b""
+        made, result = check.Object(), None
+        for whole, entries in ((before and before.copy(), environment), (made, {**environment, b"\0made": b""})):
+            if whole:
+                whole.xattrs.update(entries)
+            try:
+                result = model(whole, client, method, given)
+                break
+            except check.Fail as fail:
+                result = before, fail.args[0], b""
+                if before or declared.flags == 1 or fail.args[0] != -check.WITH_OBJECT:
+                    break
+        after, code, output = result
+        if after:
+            after.xattrs = {name: value for name, value in after.xattrs.items() if name[:1] != b"\0"}
+        return after, code, output
 
     def call(self, model, name, method, given, client=None):
         client, before = client or self.r.choice(check.CLIENTS), self.objects.get(name)
-        declared, output = self.methods[method.encode()], b""
-        if declared.flags == 1 and before is None:
-            code, after = -check.ENOENT, None  # the OSD answers a read of an absent object
-        elif len(given) > declared.in_cap:
-            code, after = -check.EINVAL, before
-        else:
-            try:
-                after, code, output = model(before.copy() if before else None, client, method, given)
-            except check.Fail as fail:
-                after, code = before, fail.args[0]
+        started = time.time_ns()
+        found = self.sessions[client].call(self.oid(name), method, given, cls=self.which)
+        took, there = time.time_ns() - started, self.sessions[check.CLIENTS[0]].get(self.oid(name))
+        environment = {
+            b"\0address": self.addresses[client],
+            b"\0entity": b"client.%d" % client,
+            b"\0random": drawn_for(there),
+            b"\0time": struct.pack("<Q", started),
+            b"\0version": bytes(8),
+        }
+        after, code, output = self.answer(model, before, client, method, given, environment)
+        if self.which == "lock":
+            after = with_times(after, there, took)
         # (that one sets an xattr also to what it is)
         writes = method == "write_too_much_return_data" or held(after) != held(before)
         if writes and len(output) > osd.REPLY_LIMIT:
             code, output, after = -105, b"", before
         self.objects[name] = after
-        found = self.sessions[client].call(self.oid(name), method, given, cls=self.which)
         self.tally.want(f"{self.which}.{method} {given.hex()} on {held(before)}", found, (code, output))
         self.look(name)
 
     def look(self, name, *_):
         found = self.sessions[check.CLIENTS[0]].get(self.oid(name))
         self.tally.want(f"{self.which}: the object {name}", found, held(self.objects.get(name)))
+
+    def put_entry(self, name):
+        """The OSD has its own."""
 
     def ask(self, client, name, words, given, wanted):
         """A change from outside."""
@@ -72,6 +151,8 @@ class Native(check.Play):
 
 def try_calls(tally, images, sessions, calls):
     check.CLIENTS[:] = [session.number() for session in sessions]
+    # Those that last are longer than the test.
+    check.DURATIONS[:] = [each for each in check.DURATIONS if each[0] > 900 or each == (0, 1)]
     for which in check.CLASSES:
         play = Native(which, images[which.encode()], sessions, tally)
         for name in ("o", "p", "q"):
@@ -87,7 +168,7 @@ class Locks:
 
     def __init__(self, session, oid=b"locked", name=b"one"):
         self.c, self.io, self.oid, self.name = session.c, session.io, oid, name
-        self.client = b"client.%d" % session.number()
+        self.client, self.address = b"client.%d" % session.number(), text_of(session).encode()
 
     def exclusive(self, cookie, flags=0, duration=None):
         return self.c.rados_lock_exclusive(
@@ -105,8 +186,8 @@ class Locks:
     def break_lock(self, client, cookie):
         return self.c.rados_break_lock(self.io, self.oid, self.name, client, cookie)
 
-    def lockers(self):
-        """How many there are, whether the lock is exclusive, its tag, and who has it by which cookie."""
+    def lockers(self, has_addresses=False):
+        """How many there are, whether the lock is exclusive, its tag, and who has it by which cookie, or from where."""
         is_exclusive, rooms = ctypes.c_int(), [ctypes.create_string_buffer(1000) for _ in range(4)]
         sizes = [SIZE(1000) for _ in rooms]
         words = [word for pair in zip(rooms, map(ctypes.byref, sizes)) for word in pair]
@@ -114,8 +195,8 @@ class Locks:
         count = self.c.rados_list_lockers(self.io, self.oid, self.name, ctypes.byref(is_exclusive), *words)
         if count < 0:
             return count
-        tag, clients, cookies = (room.raw[: size.value] for room, size in zip(rooms[:3], sizes))
-        pairs = zip(clients.split(b"\0"), cookies.split(b"\0"))
+        tag, clients, cookies, addresses = (room.raw[: size.value] for room, size in zip(rooms, sizes))
+        pairs = zip(clients.split(b"\0"), (addresses if has_addresses else cookies).split(b"\0"))
         return count, is_exclusive.value, tag.rstrip(b"\0"), sorted(pair for pair in pairs if pair[0])
 
 
@@ -126,7 +207,6 @@ def try_librados(tally, sessions):
     none, mine = (0, 1, b"", []), (1, 1, b"", [(me.client, b"a")])
     both = 2, 0, b"tag", sorted([(me.client, b"a"), (you.client, b"a")])
     yours = 1, 0, b"tag", [(you.client, b"a")]
-    second = (ctypes.c_long * 2)(5, 0)  # a timeval
     for what, answer, result, lockers in (
         ("an absent object is locked", lambda: me.exclusive(b"a"), 0, mine),
         ("again", lambda: me.exclusive(b"a"), -17, mine),
@@ -134,7 +214,6 @@ def try_librados(tally, sessions):
         ("by another cookie", lambda: me.exclusive(b"b"), -16, mine),
         ("by another client", lambda: you.exclusive(b"a"), -16, mine),
         ("shared by another client", lambda: you.shared(b"a", b""), -16, mine),
-        ("for five seconds", lambda: me.exclusive(b"a", RENEW, second), -95, mine),
         ("unlocked by another client", lambda: you.unlock(b"a"), -2, mine),
         ("unlocked by another cookie", lambda: me.unlock(b"b"), -2, mine),
         ("unlocked", lambda: me.unlock(b"a"), 0, none),
@@ -154,6 +233,38 @@ def try_librados(tally, sessions):
     absent = Locks(sessions[0], b"absent")
     tally.want("librados: lockers of an absent object", absent.lockers(), -2)
     tally.want("librados: an absent object is unlocked", absent.unlock(b"a"), -2)
+
+
+def try_durations(tally, sessions):
+    """Locks that expire, and who has them from where."""
+    me, you = (Locks(session, b"timed") for session in sessions[:2])
+    second, long = (ctypes.c_long * 2)(1, 0), (ctypes.c_long * 2)(100, 500000)  # each a timeval
+    none, mine = (0, 1, b"", []), (1, 1, b"", [(me.client, b"a")])
+    sessions[0].put("timed", None)
+    for what, answer, result, lockers in (
+        ("a second, of an absent object", lambda: me.exclusive(b"a", 0, second), 0, mine),
+        ("again", lambda: me.exclusive(b"a", 0, second), -17, mine),
+        ("by another client", lambda: you.exclusive(b"a"), -16, mine),
+        ("renewed", lambda: me.exclusive(b"a", RENEW, second), 0, mine),
+        ("it has to be renewed", lambda: me.exclusive(b"a", MUST_RENEW, second), 0, mine),
+        ("it expires", lambda: time.sleep(1.1), None, none),
+        ("it can't be unlocked", lambda: me.unlock(b"a"), -2, none),
+        ("nor renewed, if it has to", lambda: me.exclusive(b"a", MUST_RENEW, second), -2, none),
+        ("it may be renewed", lambda: me.exclusive(b"a", RENEW, second), 0, mine),
+        ("it expires again", lambda: time.sleep(1.1), None, none),
+        ("a hundred seconds", lambda: me.exclusive(b"a", 0, long), 0, mine),
+        ("a second more", lambda: time.sleep(1.1), None, mine),
+        ("by another client then", lambda: you.exclusive(b"a"), -16, mine),
+        ("shared", lambda: you.shared(b"a", b""), -16, mine),
+        ("for good", lambda: me.exclusive(b"a", RENEW), 0, mine),
+    ):
+        tally.want(f"a lock of a duration: {what}", answer(), result)
+        tally.want(f"its lockers after: {what}", me.lockers(), lockers)
+    tally.want("from where", me.lockers(True)[3], [(me.client, b"v1:" + me.address)])
+    value = sessions[0].get("timed").xattrs[b"lock.one"]
+    lockers = check.read_lock(check.Decoder(value, 4000))[0]
+    address = address_of("v1:" + me.address.decode())
+    tally.want("an address of the type legacy", [each[14:49] for each in lockers.values()], [address])
 
 
 def try_rados(tally, conf, session):
@@ -196,6 +307,7 @@ def main(words):
     sessions = [osd.Cluster(conf) for _ in range(3)]
     try_calls(tally, osd.images_in(folder), sessions, int(calls))
     try_librados(tally, sessions)
+    try_durations(tally, sessions)
     try_rados(tally, conf, sessions[0])
     for session in sessions:
         session.close()

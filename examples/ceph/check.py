@@ -7,15 +7,18 @@ It compiles each class by tools/radoscls-cc, and makes CALLS random calls of it 
 values that aren't the class's, or objects that have no room left, by `radoscls sim`, in which each call is answered before the
 next one is made. Codes, outputs and, in between, what the object holds are compared with the model's. The status is 0 if nothing
 differs."""
-import os, random, re, struct, subprocess, sys, tempfile
+import base64, os, random, re, struct, subprocess, sys, tempfile
 from decimal import ROUND_DOWN, Context, Decimal
 
 HERE = os.path.dirname(os.path.abspath(__file__))
 TOP = os.path.join(HERE, "..", "..")
 ENOENT, E2BIG, EIO, EBUSY, EEXIST, EINVAL, ENOSPC, ERANGE, ENODATA, EBADMSG, EOPNOTSUPP, ECANCELED = \
     2, 7, 5, 16, 17, 22, 28, 34, 61, 74, 95, 125
+WITH_OBJECT = 55
 XATTRS, KEYS = 32, 1024  # that an object may have
 CLIENTS = [1, 2, 3]  # who call
+# How long a lock is held: seconds and nanoseconds.
+DURATIONS = [(0, 1), (5, 0), (5, 999999999), (0, 1000000000), (1000, 4294967295), (4294967295, 0)]
 
 # Values of the omap, which no built-in class reads or writes; and xattrs or keys until there is no room.
 PROBE = """#include <sillarnica/class.h>
@@ -156,12 +159,50 @@ def there(object):
     return object
 
 
+# The environment of a call: xattrs, as an installed class sees them, or as they are put here.
+
+
+def with_object(object):
+    """A method that asks for an object, where there is none."""
+    if object is None:
+        raise Fail(-WITH_OBJECT)
+    return object
+
+
+def time_of(object):
+    """Nanoseconds, or None."""
+    now = struct.unpack("<q", object.xattrs.get(b"\0time", b"\xff" * 8))[0]
+    return None if now < 0 else now
+
+
+def address_of(object):
+    """In Ceph's encoding, or none."""
+    address = object.xattrs.get(b"\0address", b"")
+    return address if len(address) <= 64 else b""
+
+
+def some_entry(r):
+    """An entry, and its value."""
+    socket = r.choice((struct.pack("<H", 2) + r.randbytes(14), struct.pack("<H", 10) + r.randbytes(26), struct.pack("<HHI", 2, 0, 0x100007F) + bytes(8)))
+    address = b"\1" + versioned(struct.pack("<III", r.randrange(1, 4), r.choice((0, 1, 1 << 31, (1 << 32) - 1)), len(socket)) + socket)
+    return r.choice(((b"\0time", struct.pack("<q", r.choice((0, 1, 999999999, 10**9, r.randrange(20 * 10**9), r.randrange(20 * 10**9), -1)))),
+        (b"\0address", address), (b"\0random", r.randbytes(16)), (b"\0made", b"")))
+
+
 # hello
+
+
+def signed(object, caller):
+    """Who calls, as Ceph writes it."""
+    address, who = address_of(object), b"client.%d" % caller
+    if len(address) < 35 or address[19] != 2:
+        return who
+    port, *parts = struct.unpack_from(">HBBBB", address, 21)
+    return who + b" %s%d.%d.%d.%d:%d/%d" % ({1: b"v1:", 2: b"v2:"}.get(address[7], b""), *parts, port, *struct.unpack_from("<I", address, 11))
 
 
 def hello(object, caller, method, given):
     greeting = b"Hello, " + (given or b"world") + b"!"
-    who = b"client.%d" % caller
     if method in ("say_hello", "record_hello") and len(given) > 100:
         raise Fail(-EINVAL)
     if method == "say_hello":
@@ -170,17 +211,17 @@ def hello(object, caller, method, given):
         data = there(object).data[:1100 if method == "replay" else 100]
         return object, 0 if method == "replay" else len(data), data
     if method == "record_hello":
-        if object:
+        if b"\0made" not in with_object(object).xattrs:
             raise Fail(-EEXIST)
-        object = Object()
-        object.data, object.xattrs[b"said_by"] = greeting, who
+        object.data = greeting + object.data[len(greeting):]
+        object.set(b"said_by", signed(object, caller))
         return object, 0, b""
     if method == "turn_it_to_11":
         if given:
             raise Fail(-EINVAL)
         object = object or Object()
         object.data = bytes(c - 32 if 97 <= c <= 122 else c for c in object.data[:1100])
-        object.set(b"amplified_by", who)
+        object.set(b"amplified_by", signed(object, caller))
         return object, 0, b""
     object = object or Object()
     object.set(b"foo", b"bar")
@@ -229,7 +270,8 @@ def version(object, caller, method, given):
         if object and name in object.xattrs:
             kept = stored(object.xattrs[name], 128, read_version)
         elif method.startswith("inc"):
-            kept = 1, bytes(97 + (caller >> 4 * (7 - i % 8) & 15) for i in range(24))
+            drawn = with_object(object).xattrs.get(b"\0random")
+            kept = 1, base64.b64encode(drawn + drawn[:2]) if drawn else bytes(97 + (caller >> 4 * (7 - i % 8) & 15) for i in range(24))
         for (number, tag), cond in conds:
             if not {1: kept == (number, tag), 2: kept[0] > number, 3: kept[0] >= number, 4: kept[0] < number, 5: kept[0] <= number,
                     6: kept[1] == tag, 7: kept[1] != tag}.get(cond, True):
@@ -453,15 +495,16 @@ def numops_call(r):
 # lock
 
 
-def read_lock(d, most):
+def read_lock(d):
     part, lockers = d.start(1), {}
-    for _ in range(d.count(most)):
+    for _ in range(d.count(12)):
         _, oldest, size = d.number("B"), d.number("B"), d.number("I")
         key = d.number("B"), d.number("q"), d.string(64)
         if oldest > 1 or size != 13 + len(key[2]):
             raise Fail(-EINVAL)
         at = d.at
         its = d.start(1)
+        d.number("Q")
         d.finish(its)
         lockers[key] = d.data[at:d.at]
     kind, tag = d.number("B"), d.string(64)
@@ -478,10 +521,26 @@ def write_lock(lockers, kind, tag):
 
 def keep_lock(object, name, lockers, kind, tag):
     value = write_lock(lockers, kind, tag)
-    if len(lockers) > 6 or len(value) > 1016:
+    if len(lockers) > 12 or len(value) > 4000:
         raise Fail(-E2BIG)
     object.set(name, value)
     return object, 0, b""
+
+
+def expiry(now, seconds, rest):
+    """When a lock of a duration expires, as Ceph adds it up in 32 bits."""
+    most, second = (1 << 32) - 1, 10**9
+    seconds, rest = min(now // second + seconds, most), now % second + rest & most
+    if rest > second:
+        seconds, rest = min(seconds + rest // second, most), rest % second
+    return seconds, rest
+
+
+def live_lockers(lockers, now):
+    """Those that haven't expired."""
+    moment = None if now is None else divmod(now, 10**9)
+    expires = lambda value: struct.unpack_from("<II", value, 6)
+    return {key: value for key, value in lockers.items() if expires(value) == (0, 0) or moment is None or expires(value) >= moment}
 
 
 def lock(object, caller, method, given):
@@ -490,7 +549,7 @@ def lock(object, caller, method, given):
         return object, 0, versioned(struct.pack("<I", len(names)) + b"".join(map(string, names)))
     d = Decoder(given, 512)
     part = d.start(1)
-    name, kind, key, tag, text, flags, duration = d.string(59), 1, None, b"", b"", 0, 0
+    name, kind, key, tag, text, flags, duration = d.string(59), 1, None, b"", b"", 0, (0, 0)
     if method in ("assert_locked", "lock", "set_cookie"):
         kind, cookie, tag = d.number("B"), d.string(64), d.string(64)
         key = 8, caller, cookie
@@ -501,19 +560,16 @@ def lock(object, caller, method, given):
     if method in ("lock", "set_cookie"):
         text = d.string(64)
     if method == "lock":
-        duration, flags = d.number("Q"), d.number("B") & 3
+        duration, flags = (d.number("I"), d.number("I")), d.number("B") & 3
     d.finish(part)
     if not 1 <= kind <= 3 or (not name and method in ("assert_locked", "lock", "set_cookie")) or flags == 3:
         raise Fail(-EINVAL)
-    if duration:
-        raise Fail(-EOPNOTSUPP)
     name = b"lock." + name
-    object = (object or Object()) if method == "lock" else there(object)
-    lockers, its, its_tag = {}, 0, b""
+    object = with_object(object) if method == "lock" else there(object)
+    lockers, its, its_tag, now = {}, 0, b"", time_of(object)
     if name in object.xattrs:
-        lockers, its, its_tag = stored(object.xattrs[name], 1016, lambda d: read_lock(d, 3 if method == "set_cookie" else 6))
-    if key in lockers and 19 + len(key[2]) + len(lockers[key]) > 511:
-        raise Fail(-E2BIG)
+        lockers, its, its_tag = stored(object.xattrs[name], 4000, read_lock)
+    lockers = live_lockers(lockers, now)
     if method == "get_info":
         return object, 0, write_lock(lockers, its, its_tag)
     if method in ("unlock", "break_lock"):
@@ -528,8 +584,6 @@ def lock(object, caller, method, given):
             return object, 0, b""
         if (8, caller, text) in lockers:
             raise Fail(-EBUSY)
-        if len(lockers[key]) > 128:
-            raise Fail(-E2BIG)
         lockers[8, caller, text] = lockers.pop(key)
         return keep_lock(object, name, lockers, its, its_tag)
     if lockers and its_tag != tag:
@@ -541,8 +595,11 @@ def lock(object, caller, method, given):
     lockers.pop(key, None)
     if lockers and (kind != 2 or its != 2):
         raise Fail(-EBUSY)
-    address = b"\1" + versioned(struct.pack("<III", 1, 0, 0))
-    lockers[key] = versioned(bytes(8) + address + string(text))
+    if duration != (0, 0) and now is None:
+        raise Fail(-EOPNOTSUPP)
+    expires = (0, 0) if duration == (0, 0) else expiry(now, *duration)
+    address = address_of(object) or b"\1" + versioned(struct.pack("<III", 1, 0, 0))
+    lockers[key] = versioned(struct.pack("<II", *expires) + address[:7] + struct.pack("<I", 1) + address[11:] + string(text))
     return keep_lock(object, name, lockers, kind, tag)
 
 
@@ -563,22 +620,25 @@ def lock_call(r):
         body += string(cookie())
     if method == "lock":
         text = string(r.choice((b"", b"why", b"d" * 64)))
-        body += text + struct.pack("<Q", 5 if r.random() < 0.02 else 0) + bytes([r.choice((0, 0, 1, 1, 2, 3 if r.random() < 0.1 else 1))])
+        body += text + struct.pack("<II", *(r.choice(DURATIONS) if r.random() < 0.3 else (0, 0))) + bytes([r.choice((0, 0, 1, 1, 2, 3 if r.random() < 0.1 else 1))])
     return method, versioned(body)
 
 
 def lock_value(r):
     """What another version of the class may have kept: lockers with more than this one keeps of them, and values up to the limit."""
     if r.random() < 0.2:
-        return r.choice((b"", b"\1\1\xff", versioned(struct.pack("<I", 7)), write_lock({}, 2, b"tag")[:-1], b"l" * 1016, b"l" * 1017, b"l" * 1017))
+        return r.choice((b"", b"\1\1\xff", versioned(struct.pack("<I", 7)), write_lock({}, 2, b"tag")[:-1], b"l" * 4000, b"l" * 4001, b"l" * 4001))
     lockers = {}
-    for _ in range(r.choice((0, 1, 1, 2, 3, 6, 7))):
-        key = r.choice((8, 8, 8, 1)), r.choice((*CLIENTS, -1)), r.choice((b"a", b"a", b"a", b"", b"b", b"cookie-8", b"c" * 64))
-        lockers[key] = versioned(bytes(r.choice((31, 31, 122, 123, 240, 430, 500))))
+    for _ in range(r.choice((0, 1, 1, 2, 3, 6, 12, 13))):
+        key = r.choice((8, 8, 8, 1)), r.choice((*CLIENTS, -1)), r.choice((b"a", b"a", b"a", b"", b"b", b"cookie-8", b"c" * 64, b"%d" % r.randrange(13)))
+        expires = r.choice(((0, 0), (0, 0), (0, 1), (3, 5), (r.randrange(20), r.randrange(1 << 32)), (1 << 31, 0)))
+        lockers[key] = versioned(struct.pack("<II", *expires) + bytes(r.choice((23, 23, 23, 0, 114, 430))))
     if lockers and r.random() < 0.3:
         # so long that it is about full with one locker more
-        lockers = {min(lockers): versioned(b"")}
-        lockers[min(lockers)] = versioned(bytes(1016 - len(write_lock(lockers, 2, b"")) - r.randrange(56, 64)))
+        lockers = {min(lockers): versioned(bytes(8))}
+        lockers[min(lockers)] = versioned(bytes(8 + 4000 - len(write_lock(lockers, 2, b"")) - r.randrange(56, 74)))
+    if lockers and r.random() < 0.03:
+        lockers[min(lockers)] = versioned(bytes(r.randrange(8)))
     return write_lock(lockers, r.choice((1, 2, 2, 2, 3)), r.choice((b"", b"", b"", b"tag")))
 
 
@@ -593,21 +653,19 @@ def lock_bounds():
     ask = lambda cookie=b"a", text=b"", kind=2: b"\2" + string(cookie) + string(b"") + string(text)
     shared = lambda *lockers: write_lock({key: value for part in lockers for key, value in part.items()}, 2, b"")
     many = lambda count: shared(*(locker(b"%d" % n) for n in range(count)))
-    full = lambda left: shared(locker(b"q", 2, 1016 - len(shared(locker(b"q", 2, 0))) - left))
+    full = lambda left: shared(locker(b"q", 2, 4000 - len(shared(locker(b"q", 2, 0))) - left))
     calls = {"lock": text(ask() + bytes(8) + b"\1"), "set_cookie": text(ask(text=b"new")), "unlock": text(string(b"a")), "assert_locked": text(ask()[:-4]),
         "break_lock": text(struct.pack("<Bq", 8, 1) + string(b"a")), "get_info": text(b"")}
-    for size in (1016, 1017):
+    for size in (4000, 4001):
         yield from ((bytes(size), method, given) for method, given in calls.items())
-    for more in (485, 486):
+    for more in (7, 8, 485, 3959, 3960):
         yield from ((shared(locker(b"a", 1, more)), method, given) for method, given in calls.items())
-    for more in (122, 123):
-        yield shared(locker(b"a", 1, more)), "set_cookie", calls["set_cookie"]
-    for count in (2, 3, 5, 6, 7):
+    for count in (2, 3, 11, 12, 13):
         yield from ((shared(locker(b"a"), *(locker(b"%d" % n) for n in range(count - 1))), method, given) for method, given in calls.items())
         yield many(count), "lock", calls["lock"]
     for left in range(55, 61):
         yield full(left), "lock", calls["lock"]
-        yield shared(locker(b"a"), locker(b"q", 2, 500), locker(b"r", 2, 386 - left)), "set_cookie", text(ask(text=b"c" * 64))
+        yield shared(locker(b"a"), locker(b"q", 2, 500), locker(b"r", 2, 4000 - 500 - 130 - left)), "set_cookie", text(ask(text=b"c" * 64))
     yield write_lock(locker(b"a"), 3, b""), "unlock", calls["unlock"]
     yield write_lock(locker(b"a"), 3, b""), "break_lock", calls["break_lock"]
 
@@ -648,6 +706,7 @@ CLASSES = {
     "numops": (numops, numops_call, [], [b"n", b"m", b"k" * 64], [b"x", b"12", b"", b"12345678901234567", b"1.5e-05", b"1e", b"-7.25"]),
     "lock": (lock, lock_call, [b"lock.one", b"lock.two", b"lock." + b"n" * 59], [], [lock_value]),
 }
+WITH_ENVIRONMENT = ["hello", "version", "lock"]
 BOUNDS = {"lock": lock_bounds, "refcount": refcount_bounds}
 # The most bytes of input, by class or by method.
 MOST_INPUT = {"hello": 4096, "version": 1088, "refcount": 320, "refcount.set": 1088, "cmpomap": 1152, "numops": 256, "lock": 640}
@@ -655,6 +714,8 @@ MOST_INPUT = {"hello": 4096, "version": 1088, "refcount": 320, "refcount.set": 1
 
 class Play:
     """Events of a simulation, and the answers that are right."""
+
+    entries = 0  # that an object's xattrs leave room for
 
     def __init__(self, seed):
         self.r, self.events, self.wanted, self.objects, self.numbers = random.Random(seed), [], [], {}, {}
@@ -694,6 +755,11 @@ class Play:
             code = fail.args[0]
         self.ask(1, name, "obj setxattr" if item in xattrs else "probe put", bytes([len(item)]) + item + value, (code, b""))
 
+    def put_entry(self, name):
+        """An entry of the environment, as if it were an xattr of the object."""
+        entry, value = some_entry(self.r)
+        self.put(name, [entry], [], value)
+
     def write(self, name, data):
         """Data from outside, of an object that perhaps has nothing else."""
         object = self.objects.get(name) or Object()
@@ -704,7 +770,7 @@ class Play:
     def fill(self, name, has_keys):
         """As many xattrs, or keys, as an object may have."""
         object = self.objects[name] = self.objects.get(name) or Object()
-        part, most = (object.keys, KEYS) if has_keys else (object.xattrs, XATTRS)
+        part, most = (object.keys, KEYS) if has_keys else (object.xattrs, XATTRS - self.entries)
         for n in range(most):
             item = bytes((ord("z"), n >> 8, n & 255)) if has_keys else b"z%02d" % n
             if len(part) < most:
@@ -749,6 +815,8 @@ def play(which, calls, p):
         if r.random() < 0.06 and values:
             value = r.choice(values)
             p.put(name, xattrs, keys, value(r) if callable(value) else value)
+        if r.random() < 0.3 and which in WITH_ENVIRONMENT:
+            p.put_entry(name)
         if r.random() < (0.1 if which == "hello" else 0.02):
             p.write(name, bytes(r.choice(b"abzAZ{`\xe1\xff ") for _ in range(r.choice((0, 1, 9, 100, 1100, 1200)))))
         if r.random() < (0.005 if xattrs else 0.003):

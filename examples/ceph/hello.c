@@ -1,7 +1,6 @@
 #include <sillarnica/class.h>
 
-/* Ceph's class hello. Left out: bad_writer, a reader that writes, which the verifier refuses, and the filter of listings. The
-   client's name in an xattr has no address. */
+/* Ceph's class hello. Left out: bad_writer, a reader that writes, which the verifier refuses, and the filter of listings. */
 
 /* "Hello, NAME!" of a name of at most 100 bytes, none counting as "world": its length. */
 INLINE u64 greet(const u8 *name, u64 length, u8 *to)
@@ -19,25 +18,63 @@ INLINE u64 greet(const u8 *name, u64 length, u8 *to)
 
 #define GREETING (7 + 127 + 1)
 
-/* Keeps "client.N" as an xattr. The name stands at the end of 24 bytes; 24 more are there, since place and length are bounded
-   each by itself. */
-INLINE s64 sign(const void *xattr, u64 length)
+/* A text that is written from the front: at most 63 bytes, and room for the longest number behind them. */
+struct line {
+    u8 bytes[64 + 16];
+    u64 at;
+};
+
+INLINE void put_char(struct line *to, u64 letter)
 {
-    u8 who[48] = {0};
-    u64 number = cls_caller(), place = 24;
-    UNROLL for (int i = 0; i < 10; i++) {
-        who[23 - i] = '0' + number % 10;
-        if (number || i == 0)
-            place = 23 - i;
+    BOUND(to->at, 63);
+    to->bytes[to->at++] = letter;
+}
+
+/* A number below 2^32 in decimal, and a letter. */
+INLINE void put_number(struct line *to, u64 number, u64 letter)
+{
+    u8 digits[32] = {0};
+    u64 first = 9;
+    UNROLL for (int i = 9; i >= 0; i--) {
+        digits[i] = '0' + number % 10;
+        if (number)
+            first = i;
         number /= 10;
     }
-    BOUND(place, 31);
-    if (place < 14)
-        return -EINVAL;
-    *(word64 *)(who + place - 8) = 0x2e746e65696c6300; /* "\0client." */
-    place -= 7;
-    BOUND(place, 31);
-    return cls_setxattr(xattr, length, who + place, 24 - place > 24 ? 24 : 24 - place);
+    BOUND(first, 15);
+    BOUND(to->at, 63);
+    copy_words(to->bytes + to->at, digits + first, 2);
+    to->at += 10 - first;
+    put_char(to, letter);
+}
+
+enum { LEGACY = 1, MSGR2, ANY, IPV4 = 2 };
+
+/* Keeps "client.N ADDRESS" as an xattr; "client.N" where a call has no address, or another than one of IPv4. In Ceph's encoding its
+   type lies at 7, its nonce at 11, its family at 19, then a port and the address, with their highest bytes first. */
+INLINE s64 sign(const void *xattr, u64 length)
+{
+    struct line who = {"client.", 7};
+    u8 address[64];
+    s64 got = call_address(address, 64);
+    put_number(&who, cls_caller(), ' ');
+    if (got >= 35 && address[19] == IPV4) {
+        u64 type = address[7];
+        if (type == LEGACY || type == MSGR2) {
+            put_char(&who, 'v');
+            put_char(&who, '0' + type);
+            put_char(&who, ':');
+        }
+        put_number(&who, address[23], '.');
+        put_number(&who, address[24], '.');
+        put_number(&who, address[25], '.');
+        put_number(&who, address[26], ':');
+        put_number(&who, (u64)address[21] << 8 | address[22], '/');
+        put_number(&who, *(word32 *)(address + 11), ' ');
+    }
+    who.at--;
+    BOUND(who.at, 63);
+    return cls_setxattr(xattr, length, who.bytes, who.at);
 }
 
 METHOD(bad_reader, w, 4096, 100)
@@ -54,7 +91,9 @@ METHOD(record_hello, w, 4096, 0)
     u8 text[GREETING] = {0};
     if (in_len > 100)
         return -EINVAL;
-    if (cls_stat() >= 0)
+    if (cls_stat() < 0)
+        return WITH_OBJECT;
+    if (!is_made())
         return -EEXIST;
     u64 length = greet(in, in_len, text);
     s64 done = cls_write(0, text, length);

@@ -1,35 +1,42 @@
 #include <sillarnica/ceph.h>
 
-/* Ceph's class lock: the xattr "lock.NAME" holds { map of lockers, u8 type, string tag }, a locker's key being its entity and a
-   cookie. Left out: durations (-EOPNOTSUPP: a method has no time) and the address of a locker, which is kept empty. list_locks
-   takes rule set 3.
+/* Ceph's class lock: the xattr "lock.NAME" holds { map of lockers, u8 type, string tag }; a locker's key is its entity and a cookie,
+   and its value when it expires, its address and a description. Where a call has no time, as outside of Ceph, nothing expires, and a
+   duration is -EOPNOTSUPP. It takes rule set 3.
 
-   The output is the memory that a method works in: the value as it is, and the value that it becomes. */
-#define LOCKERS 6
-#define RENAMED 3 /* lockers of a lock whose cookie is set */
+   The output is the memory that a method works in: the value of the lockers that haven't expired, the value that it becomes, and
+   the value as it is kept. */
+#define LOCKERS 12
 #define NAME 59 /* with "lock." the longest name of an xattr */
 #define TEXT 64 /* a cookie, a tag or a description */
-#define VALUE 1016
-#define MASK 1023 /* more than VALUE, so that no place of a value is cut by it */
+#define VALUE 4000
+#define MASK 4095
 #define IN_MASK 511
 #define IN_CAP (IN_MASK + 1 + 128)
 
-/* Parts of the output, and what the longest copies behind them need. */
-#define OLD 0
-#define NEW (MASK + 1 + TEXT + 8)
-#define OUT_CAP (NEW + MASK + 1 + VALUE)
+/* Parts of the output: a place in each is at most MASK, and what is copied there too. */
+#define PART (2 * (MASK + 1))
+#define LIVE 0
+#define NEW PART
+#define OLD (2 * PART)
+#define OUT_CAP (3 * PART)
+#define INFO OUT_CAP /* what a locker has besides its key, while set_cookie moves it */
 #define XATTRS 32 /* that an object may have */
 #define NAMES_MASK 2047 /* more than the longest list of their names */
-#define INFO OUT_CAP /* what a locker has besides its key, while set_cookie moves it */
-#define INFO_SIZE 128
+#define FIRST 10 /* the place of the first locker */
 
-enum { EXCLUSIVE = 1, SHARED, EPHEMERAL };
+enum { NONE, EXCLUSIVE, SHARED, EPHEMERAL };
 enum { MAY_RENEW = 1, MUST_RENEW = 2 };
 #define CLIENT 8 /* an entity's kind */
+#define LEGACY 1 /* an address's */
 
-INLINE void copy_value(u8 *to, const u8 *from)
+/* Copies between two parts. */
+INLINE void move(u8 *to, u64 to_at, const u8 *from, u64 from_at, u64 length)
 {
-    copy_words(to, from, VALUE / 8);
+    BOUND(to_at, MASK);
+    BOUND(from_at, MASK);
+    BOUND(length, MASK);
+    cls_copy(to + to_at, MASK, from + from_at, length);
 }
 
 /* The name of a lock's xattr. */
@@ -45,41 +52,18 @@ INLINE void key_of(struct key *k, const u8 *in, struct span name)
     k->length = 5 + name.length;
 }
 
-/* The value, to out: its length or an error. Of no value that of a lock without lockers. */
-INLINE s64 load(const struct key *k, u8 *out)
-{
-    s64 got = cls_getxattr(k->bytes, k->length, out + OLD, VALUE);
-    if (got == -ERANGE)
-        return -E2BIG;
-    if (got != -ENODATA)
-        return got;
-    out[OLD] = out[OLD + 1] = 1;
-    out[OLD + 2] = 9;
-    return 15;
-}
-
-INLINE s64 save(const struct key *k, u8 *out, u64 size, u64 lockers)
-{
-    out[NEW] = out[NEW + 1] = 1;
-    *(word32 *)(out + NEW + 2) = size - 6;
-    *(word32 *)(out + NEW + 6) = lockers;
-    if (size > VALUE)
-        return -E2BIG;
-    return cls_setxattr(k->bytes, k->length, out + NEW, size);
-}
-
-/* Who locks. */
+/* A locker's key. The cookie lies in the input. */
 struct locker {
     u64 kind, number;
-    struct text cookie;
+    struct span cookie;
 };
 
-/* A locker's place among those of a value, where it would be if its size is 0. */
+/* A locker's place among those that are live, where it would be if its size is 0. */
 struct place {
     u64 at, size;
 };
 
-/* What a value holds. Its lockers end at `end`, where type and tag follow. */
+/* What a value holds: its live lockers, which end at `end`, and type and tag, which lies in the value as it is kept. */
 struct found {
     struct place one, other;
     u64 count, end, type;
@@ -97,77 +81,124 @@ INLINE void meet(struct place *p, s64 order, u64 first, u64 after)
     }
 }
 
-/* Looks for one locker, or for two that differ in their cookies, among so many at most. A locker's key has nineteen bytes before its
-   cookie: a struct's beginning, the kind, the number and the cookie's length. */
-INLINE struct found find(const u8 *out, u64 size, u64 most, const struct locker *who, const struct text *other)
+/* A time of day as Ceph's seconds and nanoseconds, seconds above. 0 of none. */
+INLINE u64 moment(s64 now)
 {
-    struct found f;
+    return now < 0 ? 0 : (u64)now / 1000000000 << 32 | (u64)now % 1000000000;
+}
+
+/* The order of a locker's key and another: of the entity, then of the cookie. */
+INLINE s64 key_order(const u8 *in, const struct locker *who, s64 by_entity, const u8 *cookie, u64 length)
+{
+    s64 order = cls_compare(cookie, length, in + who->cookie.at, who->cookie.length);
+    return by_entity ? by_entity : order;
+}
+
+/* Takes the lockers that haven't expired over, and looks for one, or for two that differ in their cookies. A locker's key has
+   nineteen bytes before its cookie: a struct's beginning, the kind, the number and the cookie's length. */
+INLINE struct found live(u8 *out, u64 size, u64 now, const u8 *in, const struct locker *who, const struct locker *other)
+{
+    struct found f = {{FIRST, 0}, {FIRST, 0}, 0, FIRST, NONE, {0, 0}, 0};
     struct decoder d = decode_from(out + OLD, size, MASK);
     struct part all = decode_start(&d, 1);
-    f.count = decode_count(&d, most);
-    f.one.at = f.other.at = d.at;
-    f.one.size = f.other.size = 0;
-    UNROLL for (int i = 0; i < (int)most; i++)
-        if (i < (int)f.count) {
-            u64 first = d.at;
+    u64 count = decode_count(&d, LOCKERS);
+    UNROLL for (int i = 0; i < LOCKERS; i++)
+        if (i < (int)count) {
+            u64 first = d.at, after;
             const u8 *key = d.bytes + decode_place(&d, 15);
             u64 kind = key[6], number = *(const word64 *)(key + 7);
             struct span cookie = decode_string(&d, TEXT, 127);
             if (key[1] > 1 || *(const word32 *)(key + 2) != 13 + cookie.length)
                 decode_fails(&d, -EINVAL);
-            decode_finish(&d, decode_start(&d, 1));
-            if (who) {
-                s64 order = kind < who->kind ? -1 : kind > who->kind;
-                if (order == 0)
-                    order = (s64)number < (s64)who->number ? -1 : number != who->number;
-                s64 by_cookie = text_order(&who->cookie, out + OLD + cookie.at, cookie.length);
-                meet(&f.one, order ? order : by_cookie, first, d.at);
-                if (other) {
-                    by_cookie = text_order(other, out + OLD + cookie.at, cookie.length);
-                    meet(&f.other, order ? order : by_cookie, first, d.at);
+            struct part its = decode_start(&d, 1);
+            u64 expires = decode_u64(&d);
+            decode_finish(&d, its);
+            expires = expires << 32 | expires >> 32;
+            if (expires == 0 || expires >= now) {
+                after = f.end + d.at - first;
+                move(out + LIVE, f.end, out + OLD, first, d.at - first);
+                if (who) {
+                    s64 order = kind < who->kind ? -1 : kind > who->kind;
+                    if (order == 0)
+                        order = (s64)number < (s64)who->number ? -1 : number != who->number;
+                    meet(&f.one, key_order(in, who, order, out + OLD + cookie.at, cookie.length), f.end, after);
+                    if (other)
+                        meet(&f.other, key_order(in, other, order, out + OLD + cookie.at, cookie.length), f.end, after);
                 }
+                f.end = after;
+                f.count++;
             }
         }
-    f.end = d.at;
     f.type = decode_u8(&d);
     f.tag = decode_string(&d, TEXT, 127);
     decode_finish(&d, all);
-    f.error = d.error == -EINVAL ? -EIO : f.one.size > 511 ? -E2BIG : d.error;
+    f.error = d.error == -EINVAL ? -EIO : d.error;
     return f;
 }
 
-/* The value without a locker, as the new one: its size. */
-INLINE u64 without(u8 *out, u64 size, struct place gone)
+/* What the object has: -ENOENT if there is none. */
+INLINE struct found load(const struct key *k, u8 *out, s64 now, const u8 *in, const struct locker *who, const struct locker *other)
 {
-    BOUND(gone.at, MASK);
-    BOUND(gone.size, 511);
-    copy_value(out + NEW, out + OLD);
-    copy_value(out + NEW + gone.at, out + OLD + gone.at + gone.size);
-    size -= gone.size;
-    BOUND(size, MASK);
-    return size;
+    s64 got = cls_getxattr(k->bytes, k->length, out + OLD, VALUE);
+    if (got == -ENODATA) {
+        out[OLD] = out[OLD + 1] = 1;
+        out[OLD + 2] = 9;
+        got = 15;
+    }
+    if (got < 0) {
+        struct found f = {.error = got == -ERANGE ? -E2BIG : got};
+        return f;
+    }
+    return live(out, got, moment(now), in, who, other);
 }
 
-/* Takes a locker out; the object too, if the lock is one that goes with it. */
-INLINE s64 remove_locker(const struct key *k, u8 *out, const struct locker *who)
+/* The end of a value, after its lockers; its beginning, and how long it is. */
+INLINE u64 finish(u8 *to, u64 end, u64 lockers, u64 type, const u8 *tag, u64 length)
 {
-    s64 got = load(k, out);
-    if (got < 0)
-        return got;
-    struct found f = find(out, got, LOCKERS, who, 0);
+    struct encoder e = {to, 0, MASK};
+    encode_u8(&e, 1);
+    encode_u8(&e, 1);
+    encode_u32(&e, end + 5 + length - 6);
+    encode_u32(&e, lockers);
+    e.at = end;
+    encode_u8(&e, type);
+    encode_string(&e, tag, length, TEXT / 8);
+    return encode_place(&e, 0);
+}
+
+INLINE s64 save(const struct key *k, const u8 *value, u64 size)
+{
+    if (size > VALUE)
+        return -E2BIG;
+    return cls_setxattr(k->bytes, k->length, value, size);
+}
+
+/* Takes a locker out of those that are live. */
+INLINE void take_out(u8 *out, struct found *f)
+{
+    move(out + LIVE, f->one.at, out + LIVE, f->one.at + f->one.size, f->end - f->one.at - f->one.size);
+    f->end -= f->one.size;
+    f->count--;
+}
+
+/* Takes a locker out of a lock; the object too, if the lock is one that goes with it. */
+INLINE s64 remove_locker(const struct key *k, u8 *out, const u8 *in, const struct locker *who)
+{
+    struct found f = load(k, out, call_time(), in, who, 0);
     if (f.error)
         return f.error;
     if (f.one.size == 0)
         return -ENOENT;
     if (f.type == EPHEMERAL)
         return cls_remove();
-    return save(k, out, without(out, got, f.one), f.count - 1);
+    take_out(out, &f);
+    return save(k, out + LIVE, finish(out + LIVE, f.end, f.count, f.type, out + OLD + f.tag.at, f.tag.length));
 }
 
 /* Whether the tag is the one that a value has. */
 INLINE u64 has_tag(const u8 *in, struct span tag, const u8 *out, const struct found *f)
 {
-    return same_bytes(in + tag.at, out + OLD + f->tag.at, tag.length, TEXT / 8) & (tag.length == f->tag.length);
+    return cls_compare(in + tag.at, tag.length, out + OLD + f->tag.at, f->tag.length) == 0;
 }
 
 /* { name, type, cookie, tag } */
@@ -177,20 +208,17 @@ METHOD(assert_locked, r, IN_CAP, OUT_CAP)
     struct locker me = {CLIENT, cls_caller()};
     struct decoder d = decode_from(in, in_len, IN_MASK);
     struct part all = decode_start(&d, 1);
-    struct span name = decode_string(&d, NAME, 63);
+    struct span name = decode_string(&d, NAME, 63), tag;
     u64 type = decode_u8(&d);
-    struct span cookie = decode_string(&d, TEXT, 127), tag = decode_string(&d, TEXT, 127);
+    me.cookie = decode_string(&d, TEXT, 127);
+    tag = decode_string(&d, TEXT, 127);
     decode_finish(&d, all);
     if (d.error)
         return d.error;
     if (type < EXCLUSIVE || type > EPHEMERAL || name.length == 0)
         return -EINVAL;
     key_of(&k, in, name);
-    s64 got = load(&k, out);
-    if (got < 0)
-        return got;
-    text_of(&me.cookie, in + cookie.at, cookie.length);
-    struct found f = find(out, got, LOCKERS, &me, 0);
+    struct found f = load(&k, out, call_time(), in, &me, 0);
     if (f.error)
         return f.error;
     return f.one.size && f.type == type && has_tag(in, tag, out, &f) ? 0 : -EBUSY;
@@ -206,13 +234,12 @@ METHOD(break_lock, rw, IN_CAP, OUT_CAP)
     struct span name = decode_string(&d, NAME, 63);
     who.kind = decode_u8(&d);
     who.number = decode_u64(&d);
-    struct span cookie = decode_string(&d, TEXT, 127);
+    who.cookie = decode_string(&d, TEXT, 127);
     decode_finish(&d, all);
     if (d.error)
         return d.error;
     key_of(&k, in, name);
-    text_of(&who.cookie, in + cookie.at, cookie.length);
-    return remove_locker(&k, out, &who);
+    return remove_locker(&k, out, in, &who);
 }
 
 /* { name } to { lockers, type, tag }, which is encoded as it is kept */
@@ -226,15 +253,10 @@ METHOD(get_info, r, IN_CAP, OUT_CAP)
     if (d.error)
         return d.error;
     key_of(&k, in, name);
-    s64 got = load(&k, out);
-    if (got < 0)
-        return got;
-    struct found f = find(out, got, LOCKERS, 0, 0);
+    struct found f = load(&k, out, call_time(), in, 0, 0);
     if (f.error)
         return f.error;
-    u64 size = got;
-    BOUND(size, MASK);
-    return cls_out_len(size);
+    return cls_out_len(finish(out + LIVE, f.end, f.count, f.type, out + OLD + f.tag.at, f.tag.length));
 }
 
 /* { list of names }, in the order of their bytes */
@@ -263,21 +285,60 @@ METHOD(list_locks, r, IN_CAP, NAMES_MASK + 1 + 64)
     return cls_out_len(encode_place(&e, 0));
 }
 
-/* A locker: { its key { u8 kind, s64 number, cookie }, { expiration, an address of its own encoding, description } } */
-INLINE void encode_locker(struct encoder *e, const struct locker *me, const u8 *in, struct span cookie, struct span text)
+/* A client's address as a locker's is kept: of no kind that tells how it came. Where a call has none, it has no bytes. */
+struct address {
+    u8 bytes[64];
+    u64 length;
+};
+
+INLINE void address_of(struct address *a)
+{
+    s64 got = call_address(a->bytes, 64);
+    a->length = 19;
+    if (got >= 11) {
+        a->length = got;
+    } else {
+        __builtin_memset(a->bytes, 0, 24);
+        a->bytes[0] = a->bytes[1] = a->bytes[2] = 1;
+        a->bytes[3] = 12;
+    }
+    *(word32 *)(a->bytes + 7) = LEGACY;
+}
+
+/* When a lock of a duration that begins now expires; both have their seconds above. Ceph's sums don't pass 32 bits. */
+INLINE u64 expiry(u64 now, u64 duration)
+{
+    const u64 most = 0xffffffff, second = 1000000000;
+    u64 seconds = (now >> 32) + (duration >> 32), rest = (now & most) + (duration & most) & most;
+    if (seconds > most)
+        seconds = most;
+    if (rest > second) {
+        seconds += rest / second;
+        rest %= second;
+    }
+    if (seconds > most)
+        seconds = most;
+    return seconds << 32 | rest;
+}
+
+/* A locker's key: { u8 kind, s64 number, cookie } */
+INLINE void encode_key(struct encoder *e, const u8 *in, const struct locker *who)
 {
     u64 start = encode_start(e, 1, 1);
-    encode_u8(e, me->kind);
-    encode_u64(e, me->number);
-    encode_string(e, in + cookie.at, cookie.length, TEXT / 8);
+    encode_u8(e, who->kind);
+    encode_u64(e, who->number);
+    encode_string(e, in + who->cookie.at, who->cookie.length, TEXT / 8);
     encode_finish(e, start);
-    start = encode_start(e, 1, 1);
-    encode_u64(e, 0);            /* it doesn't expire */
-    encode_u8(e, 1);             /* the marker of an address that is a struct */
-    u64 address = encode_start(e, 1, 1);
-    encode_u32(e, 1);            /* a legacy address */
-    encode_u64(e, 0);            /* nonce, and no bytes of an address */
-    encode_finish(e, address);
+}
+
+/* A locker: { its key, { expiration, address, description } } */
+INLINE void encode_locker(struct encoder *e, const u8 *in, const struct locker *me, u64 expires, const struct address *a,
+                          struct span text)
+{
+    encode_key(e, in, me);
+    u64 start = encode_start(e, 1, 1);
+    encode_u64(e, expires << 32 | expires >> 32);
+    encode_bytes(e, a->bytes, a->length, 8);
     encode_string(e, in + text.at, text.length, TEXT / 8);
     encode_finish(e, start);
 }
@@ -286,33 +347,26 @@ INLINE void encode_locker(struct encoder *e, const struct locker *me, const u8 *
 METHOD(lock, rw, IN_CAP, OUT_CAP)
 {
     struct key k;
+    struct address address;
     struct locker me = {CLIENT, cls_caller()};
     struct decoder d = decode_from(in, in_len, IN_MASK);
     struct part all = decode_start(&d, 1);
-    struct span name = decode_string(&d, NAME, 63);
+    struct span name = decode_string(&d, NAME, 63), tag, text;
     u64 type = decode_u8(&d);
-    struct span cookie = decode_string(&d, TEXT, 127), tag = decode_string(&d, TEXT, 127), text = decode_string(&d, TEXT, 127);
-    u64 duration = decode_u64(&d), flags = decode_u8(&d) & (MAY_RENEW | MUST_RENEW);
+    me.cookie = decode_string(&d, TEXT, 127);
+    tag = decode_string(&d, TEXT, 127);
+    text = decode_string(&d, TEXT, 127);
+    u64 duration = decode_u64(&d), flags = decode_u8(&d) & (MAY_RENEW | MUST_RENEW), expires = 0;
     decode_finish(&d, all);
     if (d.error)
         return d.error;
     if (type < EXCLUSIVE || type > EPHEMERAL || name.length == 0 || flags == (MAY_RENEW | MUST_RENEW))
         return -EINVAL;
-    if (duration)
-        return -EOPNOTSUPP;
     key_of(&k, in, name);
-    s64 got = load(&k, out);
-    if (got == -ENOENT) {
-        out[OLD] = out[OLD + 1] = 1;
-        out[OLD + 2] = 9;
-        got = 15;
-    }
-    if (got < 0)
-        return got;
-    text_of(&me.cookie, in + cookie.at, cookie.length);
-    struct found f = find(out, got, LOCKERS, &me, 0);
+    s64 now = call_time();
+    struct found f = load(&k, out, now, in, &me, 0);
     if (f.error)
-        return f.error;
+        return f.error == -ENOENT ? WITH_OBJECT : f.error;
     if (f.count && !has_tag(in, tag, out, &f))
         return -EBUSY;
     u64 gone = f.one.size, others = f.count - (gone != 0);
@@ -320,71 +374,57 @@ METHOD(lock, rw, IN_CAP, OUT_CAP)
         return gone ? -EEXIST : -ENOENT;
     if (others && (type != SHARED || f.type != SHARED))
         return -EBUSY;
+    if (duration && now < 0)
+        return -EOPNOTSUPP;
+    if (duration)
+        expires = expiry(moment(now), duration << 32 | duration >> 32);
+    address_of(&address);
     u64 at = f.one.at, left = f.end - at - gone;
-    if (others == LOCKERS || at + left + 61 + cookie.length + text.length + tag.length > VALUE)
+    if (others == LOCKERS || at + left + 42 + address.length + me.cookie.length + text.length + tag.length > VALUE)
         return -E2BIG;
-    BOUND(at, MASK);
-    BOUND(gone, 511);
-    copy_value(out + NEW, out + OLD);
+    move(out + NEW, 0, out + LIVE, 0, at);
     struct encoder e = {out + NEW, at, MASK};
-    encode_locker(&e, &me, in, cookie, text);
-    copy_value(out + NEW + encode_place(&e, left), out + OLD + at + gone);
-    encode_u8(&e, type);
-    encode_string(&e, in + tag.at, tag.length, TEXT / 8);
-    return save(&k, out, encode_place(&e, 0), others + 1);
+    encode_locker(&e, in, &me, expires, &address, text);
+    u64 end = encode_place(&e, 0);
+    move(out + NEW, end, out + LIVE, at + gone, left);
+    return save(&k, out + NEW, finish(out + NEW, end + left, others + 1, type, in + tag.at, tag.length));
 }
 
 /* { name, type, cookie, tag, new cookie } */
-METHOD(set_cookie, rw, IN_CAP, INFO + INFO_SIZE)
+METHOD(set_cookie, rw, IN_CAP, OUT_CAP + PART)
 {
     struct key k;
-    struct locker me = {CLIENT, cls_caller()};
-    struct text becomes;
+    struct locker me = {CLIENT, cls_caller()}, becomes = me;
     struct decoder d = decode_from(in, in_len, IN_MASK);
     struct part all = decode_start(&d, 1);
-    struct span name = decode_string(&d, NAME, 63);
+    struct span name = decode_string(&d, NAME, 63), tag;
     u64 type = decode_u8(&d);
-    struct span cookie = decode_string(&d, TEXT, 127), tag = decode_string(&d, TEXT, 127), other = decode_string(&d, TEXT, 127);
+    me.cookie = decode_string(&d, TEXT, 127);
+    tag = decode_string(&d, TEXT, 127);
+    becomes.cookie = decode_string(&d, TEXT, 127);
     decode_finish(&d, all);
     if (d.error)
         return d.error;
     if (type < EXCLUSIVE || type > EPHEMERAL || name.length == 0)
         return -EINVAL;
     key_of(&k, in, name);
-    s64 got = load(&k, out);
-    if (got < 0)
-        return got;
-    text_of(&me.cookie, in + cookie.at, cookie.length);
-    text_of(&becomes, in + other.at, other.length);
-    struct found f = find(out, got, RENAMED, &me, &becomes);
+    struct found f = load(&k, out, call_time(), in, &me, &becomes);
     if (f.error)
         return f.error;
     if (f.one.size == 0 || f.type != type || !has_tag(in, tag, out, &f) || f.other.size)
         return -EBUSY;
-    /* the new value without the old locker, then the old one with the new locker: its key, and what it was */
-    u64 size = without(out, got, f.one), at = f.other.at, info_at = f.one.at + 19 + cookie.length, info = f.one.size - 19 - cookie.length;
-    if (at > f.one.at)
-        at -= f.one.size;
-    if (info > INFO_SIZE)
+    u64 at = f.other.at > f.one.at ? f.other.at - f.one.size : f.other.at, info = f.one.size - 19 - me.cookie.length;
+    move(out + INFO, 0, out + LIVE, f.one.at + 19 + me.cookie.length, info);
+    take_out(out, &f);
+    if (f.end + 24 + becomes.cookie.length + info + f.tag.length > VALUE)
         return -E2BIG;
-    BOUND(info_at, MASK);
-    copy_words(out + INFO, out + OLD + info_at, INFO_SIZE / 8);
-    if (size + 19 + other.length + info > VALUE)
-        return -E2BIG;
-    BOUND(at, MASK);
-    copy_value(out + OLD, out + NEW);
+    move(out + NEW, 0, out + LIVE, 0, at);
     struct encoder e = {out + NEW, at, MASK};
-    u64 start = encode_start(&e, 1, 1);
-    encode_u8(&e, me.kind);
-    encode_u64(&e, me.number);
-    encode_string(&e, in + other.at, other.length, TEXT / 8);
-    encode_finish(&e, start);
-    encode_bytes(&e, out + INFO, info, INFO_SIZE / 8);
-    u64 rest = encode_place(&e, 0);
-    copy_value(out + NEW + rest, out + OLD + at);
-    size = rest + size - at;
-    BOUND(size, MASK);
-    return save(&k, out, size, f.count);
+    encode_key(&e, in, &becomes);
+    u64 end = encode_place(&e, 0);
+    move(out + NEW, end, out + INFO, 0, info);
+    move(out + NEW, end + info, out + LIVE, at, f.end - at);
+    return save(&k, out + NEW, finish(out + NEW, end + info + f.end - at, f.count + 1, type, out + OLD + f.tag.at, f.tag.length));
 }
 
 /* { name, cookie } */
@@ -394,11 +434,11 @@ METHOD(unlock, rw, IN_CAP, OUT_CAP)
     struct locker me = {CLIENT, cls_caller()};
     struct decoder d = decode_from(in, in_len, IN_MASK);
     struct part all = decode_start(&d, 1);
-    struct span name = decode_string(&d, NAME, 63), cookie = decode_string(&d, TEXT, 127);
+    struct span name = decode_string(&d, NAME, 63);
+    me.cookie = decode_string(&d, TEXT, 127);
     decode_finish(&d, all);
     if (d.error)
         return d.error;
     key_of(&k, in, name);
-    text_of(&me.cookie, in + cookie.at, cookie.length);
-    return remove_locker(&k, out, &me);
+    return remove_locker(&k, out, in, &me);
 }

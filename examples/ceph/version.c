@@ -1,7 +1,7 @@
 #include <sillarnica/ceph.h>
 
 /* Ceph's class version: the xattr "ceph.objclass.version" holds a number and a tag. A condition that doesn't hold is
-   -ECANCELED. Ceph draws a new object's tag at random; here it is made of the caller's number. */
+   -ECANCELED. A new version's tag is 24 random letters; where a call has no random bytes, they are made of the caller's number. */
 #define TAG 64
 #define CONDS 5
 #define STORED (18 + TAG)
@@ -30,7 +30,7 @@ INLINE struct version decode_version(struct decoder *d)
 /* What an object has: 128 bytes as read, and room behind them. A tag lies at bytes 18 on. */
 struct stored {
     u8 bytes[128 + TAG];
-    u64 number, tag_len;
+    u64 number, tag_len, is_absent;
     s64 got; /* the value's length, 0 of none, or an error */
 };
 
@@ -38,6 +38,7 @@ INLINE void load(struct stored *s)
 {
     s->number = s->tag_len = 0;
     s->got = cls_getxattr(XATTR, s->bytes, 128);
+    s->is_absent = s->got == -ENOENT;
     if (s->got == -ENOENT || s->got == -ENODATA) {
         s->got = 0;
         return;
@@ -66,14 +67,30 @@ INLINE s64 save(struct stored *s)
     return cls_setxattr(XATTR, s->bytes, 18 + s->tag_len);
 }
 
-/* 24 letters of the caller's number, eight and these again. */
+/* 24 letters, as base64 has them, of 16 random bytes and the first two of them again; or of the caller's number, eight and these
+   again. */
 INLINE void make_tag(struct stored *s)
 {
+    static const u8 letters[64] = "ABCDEFGHIJKLMNOPQRSTUVWXYZabcdefghijklmnopqrstuvwxyz0123456789+/";
+    u8 drawn[24];
     u64 number = cls_caller();
-    UNROLL for (int i = 0; i < 8; i++)
-        s->bytes[18 + i] = s->bytes[26 + i] = s->bytes[34 + i] = 'a' + (number >> 4 * (7 - i) & 15);
     s->number = 1;
     s->tag_len = 24;
+    if (call_random(drawn) < 0) {
+        UNROLL for (int i = 0; i < 8; i++)
+            s->bytes[18 + i] = s->bytes[26 + i] = s->bytes[34 + i] = 'a' + (number >> 4 * (7 - i) & 15);
+        return;
+    }
+    drawn[16] = drawn[0];
+    drawn[17] = drawn[1];
+    UNROLL for (int i = 0; i < 6; i++) {
+        u64 bits = (u64)drawn[3 * i] << 16 | (u64)drawn[3 * i + 1] << 8 | drawn[3 * i + 2];
+        UNROLL for (int j = 0; j < 4; j++) {
+            u64 letter = bits >> 6 * (3 - j) & 63;
+            BOUND(letter, 63);
+            s->bytes[18 + 4 * i + j] = letters[letter];
+        }
+    }
 }
 
 INLINE u64 holds(u64 cond, const struct stored *s, u64 number, u64 same_tag)
@@ -130,6 +147,8 @@ INLINE s64 increment(const u8 *in, u64 in_len)
     if (s.got == 0)
         make_tag(&s);
     s64 refused = check(in, in_len, &s);
+    if (s.is_absent && (refused == 0 || refused == -ECANCELED))
+        return WITH_OBJECT;
     if (refused)
         return refused;
     s.number++;
