@@ -65,7 +65,7 @@ class Help:
     def options(self):
         """The long options, each with its value's name, or with none."""
         for name, _ in self.rows["Options"]:
-            option, value = re.search(r"(--[a-z-]+)(?: <(.*)>)?", name).groups()
+            option, value = re.search(r"(--[a-z0-9-]+)(?: <(.*)>)?", name).groups()
             yield option, value
 
 

@@ -143,7 +143,7 @@ NEW = ".radoscls-"
 COMMANDS = {
     "verify": (["<IN>"], {"--all": "", "--explain": ""}),
     "run": (["<IN>", "<METHOD>"], {
-        "--input": " <HEX>", "--caller": " <N>", "--object": " <HEX>", "--xattr": " <NAME=HEX>",
+        "--input": " <HEX>", "--input-text": " <TEXT>", "--input-u64": " <N,..>", "--caller": " <N>", "--object": " <HEX>", "--xattr": " <NAME=HEX>",
         "--key": " <KEY=HEX>", "--load": " <FILE>", "--save": " <FILE>", "--show": "",
         "--trace": "", "--explain": ""}),
     "asm": (["<IN>", "<OUT>"], {"--explain": ""}),
@@ -158,7 +158,7 @@ DONE = {
     "pack": "pack out f:r:0:0:code", "dis": "dis two.img", "sim": "sim locks.sim",
     "cluster": "cluster calls",
 }
-RIGHT = {"--input": "00", "--caller": "1", "--object": "00", "--rules": "1", "--load": "held",
+RIGHT = {"--input": "00", "--input-text": "a", "--input-u64": "5", "--caller": "1", "--object": "00", "--rules": "1", "--load": "held",
          "--save": "out"}
 OF_ALL = "--help", "--version"
 # The program says the number alone, without the `-dev` that VERSION has between releases.
@@ -409,6 +409,12 @@ ROWS = [
     Row("cluster limit.calls", "line 1: refused 1 Limit\n", "", 1),
     # --input, --caller, --object, --xattr, --key, --show, in any order
     Row("run keep.img keep --input 7A", ran(4, "7a000000", 14, "4 0 0")),
+    Row("run keep.img keep --input-text root", ran(4, "726f6f74", 14, "4 0 0")),
+    Row(["run", "keep.img", "keep", "--input-text", "a+ "], ran(4, "612b2000", 14, "4 0 0")),
+    Row("run keep.img keep --input-text=", ran(4, "00000000", 14, "4 0 0")),
+    Row("run copies.txt f --input-u64 1,18446744073709551615",
+        ran(16, "0100000000000000ffffffffffffffff", 12, "absent")),
+    Row("run keep.img keep --input-u64 1", "call refused: 2 InputTooLong\n", "", 1),
     Row("run lock.img lock --caller=7 --show",
         ran(0, "-", 20, "0 1 0", "data -", "xattr lock 0700000000000000")),
     Row("run --show --caller 4294967295 lock.img lock",

@@ -20,6 +20,7 @@ FIRST_EXAMPLES = {
     "cluster": "radoscls cluster lost_primary.cluster",
 }
 NUMBER = "a number from 1 to 4294967295, without a sign or a leading zero"
+NUMBERS = "numbers from 0 to 18446744073709551615, with ',' between them"
 METHOD = "NAME:FLAGS:IN:OUT:FILE, FLAGS r, w or rw, IN and OUT 0 to 65535"
 CLASS = "a name, '=' and the file of the class: its image or text"
 FULL_NAME = "a name that isn't empty and has no blank"
@@ -29,6 +30,8 @@ OUTPUT = "a file, and not standard input ('./-' is a file of that name)"
 MISTAKEN = (
     ("run two.img f --caller 007", "007", "--caller <N>", NUMBER),
     ("run two.img f --caller +7", "+7", "--caller <N>", NUMBER),
+    *(("run two.img f --input-u64 " + numbers, numbers, "--input-u64 <N,..>", NUMBERS)
+      for numbers in ("5,", "5,,6", "05", "+5", "0x5", "18446744073709551616")),
     ("run two.img f --xattr a", "a", "--xattr <NAME=HEX>", "a name, '=' and the value"),
     ("run two.img f --key a=00 --key b", "b", "--key <KEY=HEX>", "a key, '=' and the value"),
     (["run", "two.img", "f", "--key", "a=00", "--key", ""], "", "--key <KEY=HEX>", "a key, '=' and the value"),
@@ -50,6 +53,8 @@ MISTAKEN = (
     ("asm two.txt -", "-", "<OUT>", OUTPUT), ("run two.img f --save -", "-", "--save <FILE>", OUTPUT))
 GIVEN_TWICE = ("error: the argument '--load <FILE>' cannot be used with '--object <HEX>', '--xattr <NAME=HEX>' or "
                "'--key <KEY=HEX>'\n\nUsage: radoscls run ")
+INPUTS = ("error: the arguments '--input <HEX>', '--input-text <TEXT>' and '--input-u64 <N,..>' cannot be used with one "
+          "another\n\nUsage: radoscls run ")
 READ_TWICE = "error: standard input ('-') can be read by one argument alone\n\nUsage: radoscls {} "
 
 
@@ -75,5 +80,8 @@ WORD_ROWS = [
            "For more information, try '--help'.\n") for words, value, argument, wanted in MISTAKEN),
     *(told(f"run two.img f --load held {words}", GIVEN_TWICE)
       for words in ("--object -", "--xattr a=00", "--key a=00")),
+    *(told(f"run two.img f {words}", INPUTS) for words in (
+        "--input 00 --input-text a", "--input - --input-u64 5", "--input-text a --input-u64 5",
+        "--input @- --input-text a --input-u64 5")),
     told("run - f --load -", READ_TWICE.format("run")), told("sim --class two=- -", READ_TWICE.format("sim")),
 ]

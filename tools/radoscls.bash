@@ -13,7 +13,7 @@ _radoscls() {
             return
             ;;
         verify) words="--all --explain --help" ;;
-        run) words="--input --caller --object --xattr --key --load --save --show --trace --explain --help" ;;
+        run) words="--caller --input --input-text --input-u64 --object --xattr --key --load --save --show --trace --explain --help" ;;
         test) words="--trace --explain --help" ;;
         asm) words="--explain --help" ;;
         pack) words="--rules --explain --help" ;;

@@ -105,8 +105,9 @@ fn at_commas(alloc: Global, text: &str) -> Result<Vec<&str>, AllocError>
     text.split(',').collect(alloc)
 }
 
-/// The bytes after a kind and a colon; `None` if they are none of that kind.
-fn of_kind(alloc: Global, kind: &str, rest: &str) -> Result<Option<TestBytes>, AllocError>
+/// The bytes after a kind and a colon: of a text itself, or of the numbers of a width; `None` if they
+/// are none of that kind.
+pub fn of_kind(alloc: Global, kind: &str, rest: &str) -> Result<Option<TestBytes>, AllocError>
     ensures { IfOk result (λ bytes. bytes ≡ of_kind kind.now rest.now) }
 {
     if kind == "text" {

@@ -1,8 +1,9 @@
--- The command line: `verify IN [--all] [--explain]`, `run IN METHOD [--input HEX] [--caller N]
--- [--object HEX] [--xattr NAME=HEX ..] [--key KEY=HEX ..] [--load FILE] [--save FILE] [--show]
--- [--explain]`, `test IN FILE`, `asm IN OUT [--explain]`, `pack OUT METHOD .. [--rules N]
--- [--explain]`, `dis IN [--slots] [--explain]`, `sim FILE [--class NAME=IMAGE ..] [--trace]
--- [--explain]`, and `cluster FILE [--class NAME=IMAGE ..] [--show] [--stats]`.
+-- The command line: `verify IN [--all] [--explain]`, `run IN METHOD [--caller N] [--input HEX]
+-- [--input-text TEXT] [--input-u64 N,..] [--object HEX] [--xattr NAME=HEX ..] [--key KEY=HEX ..]
+-- [--load FILE] [--save FILE] [--show] [--trace] [--explain]`, `test IN FILE [--trace] [--explain]`,
+-- `asm IN OUT [--explain]`, `pack OUT METHOD .. [--rules N] [--explain]`, `dis IN [--slots]
+-- [--explain]`, `sim FILE [--class NAME=IMAGE ..] [--trace] [--explain]`, and `cluster FILE [--class
+-- NAME=IMAGE ..] [--show] [--stats]`.
 use Rattle.std.specs.Prelude.{[], ◌∷◌, Option, Some, true, codes}
 use Rattle.clap.specs.Lexer.{usize_max}
 use Rattle.clap.specs.Words.{App, Rule, Text, new_app, new_rule, with_rule, with_subcommand}
@@ -43,10 +44,14 @@ verify_line =
     explain_rule
 
 -- a call of a method
+abbrev pub plain_call_line : App
+plain_call_line = with_rule (with_rule (with_rule (new_app (codes "run")) (required_rule (codes "IN")))
+    (required_rule (codes "METHOD"))) caller_rule
+
+-- on an input that digits, a text or numbers spell
 abbrev pub call_line : App
-call_line =
-    with_rule (with_rule (with_rule (with_rule (new_app (codes "run")) (required_rule (codes "IN")))
-    (required_rule (codes "METHOD"))) (option_rule (codes "input") (codes ""))) caller_rule
+call_line = with_rule (with_rule (with_rule plain_call_line (value_rule (codes "input")))
+    (value_rule (codes "input-text"))) (value_rule (codes "input-u64"))
 
 -- on an object that words spell
 abbrev pub object_line : App

@@ -4,7 +4,8 @@ ghost use Rattle.clap.specs.declared.builder.command.Command.TheViews.{out-Comma
 ghost use Rattle.clap.specs.Words.{app_of, rule_of};
 ghost use Rattle.command_line.specs.CommandLine.{asm_line, call_line, class_rule, cluster_line, command_line, dis_line};
 ghost use Rattle.command_line.specs.CommandLine.{explain_rule, image_line, methods_rule, object_line, pack_line};
-ghost use Rattle.command_line.specs.CommandLine.{plain_line, run_line, sim_line, test_line, verify_line};
+ghost use Rattle.command_line.specs.CommandLine.{plain_call_line, plain_line, run_line, sim_line, test_line};
+ghost use Rattle.command_line.specs.CommandLine.{verify_line};
 
 use crate::forms::{
     Heading, each, file_command, flag, option, required, value, with_arg, with_subcommand,
@@ -41,9 +42,9 @@ fn verify_command<'a>(alloc: Global) -> Result<Command<'a>, AllocError>
     with_arg(with_arg(of_image, all), explain_flag(alloc))
 }
 
-/// The subcommand of a call, without the object.
-fn call_command<'a>(alloc: Global) -> Result<Command<'a>, AllocError>
-    ensures line { IfOk result (λ c. app_of c ≡ call_line) }
+/// The subcommand of a call, without its input and the object.
+fn plain_call_command<'a>(alloc: Global) -> Result<Command<'a>, AllocError>
+    ensures line { IfOk result (λ c. app_of c ≡ plain_call_line) }
     ensures local { IfOk result (λ c. (out-Command c).has_globals ≡ false) }
 {
     let heading = Heading {
@@ -58,11 +59,22 @@ fn call_command<'a>(alloc: Global) -> Result<Command<'a>, AllocError>
         "The file of the class: its image or text",
     );
     let method = required(alloc, "METHOD", "The name of the method");
-    let help = "The input: hexadecimal, - for none, or @FILE for the bytes of a file";
-    let input = option(alloc, "input", "HEX", "", help);
     let help = "The number of the client that calls, 1 to 4294967295";
     let caller = option(alloc, "caller", "N", "1", help);
-    with_arg(with_arg(with_arg(of_image, method), input), caller)
+    with_arg(with_arg(of_image, method), caller)
+}
+
+/// The subcommand of a call, without the object.
+fn call_command<'a>(alloc: Global) -> Result<Command<'a>, AllocError>
+    ensures line { IfOk result (λ c. app_of c ≡ call_line) }
+    ensures local { IfOk result (λ c. (out-Command c).has_globals ≡ false) }
+{
+    let of_call = plain_call_command(alloc);
+    let help = "The input: hexadecimal, - for none, or @FILE for the bytes of a file";
+    let input = value(alloc, "input", "HEX", help);
+    let text = value(alloc, "input-text", "TEXT", help::INPUT_TEXT);
+    let numbers = value(alloc, "input-u64", "N,..", help::INPUT_U64);
+    with_arg(with_arg(with_arg(of_call, input), text), numbers)
 }
 
 /// The subcommand of a call on an object that words spell.

@@ -7,6 +7,7 @@ pub(crate) const VERIFY: &str = "Examples:
 
 pub(crate) const RUN: &str = "Examples:
   radoscls run keep.img keep --input 726f6f74
+  radoscls run keep.img keep --input-text root
   radoscls run count.img count --key n=0500000000000000 --show
   radoscls run count.img count --object @count.txt --show
   radoscls run hello.txt hello --trace
@@ -38,6 +39,13 @@ pub(crate) const CLUSTER: &str = "Examples:
 
 /// For the help of `verify`.
 pub(crate) const ALL: &str = "Prints each method's verdict, and not the first refusal alone";
+
+/// For the help of `run`.
+pub(crate) const INPUT_TEXT: &str = "The input: the bytes of a text, in place of --input";
+
+/// For the help of `run`.
+pub(crate) const INPUT_U64: &str =
+    "The input: numbers of 64 bits, 8 bytes each, the lowest first, in place of --input";
 
 /// For the help of `run`.
 pub(crate) const LOAD: &str =

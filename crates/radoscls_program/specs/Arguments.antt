@@ -1,12 +1,12 @@
 -- The arguments of each subcommand.
-use Rattle.std.specs.Prelude.{◌≡◌, ◌==◌, ◌&&◌, ◌||◌, not, Bool, true, false, Option, Some, None, is_none, if◌then◌else◌}
+use Rattle.std.specs.Prelude.{◌≡◌, ◌==◌, ◌&&◌, ◌||◌, not, Bool, true, false, [], Option, Some, None, is_none}
+use Rattle.std.specs.Prelude.{if◌then◌else◌}
 use Rattle.std.specs.Prelude.{length, option_and_then, option_map, codes}
 use Rattle.std.specs.Str.{bytes_eq}
 use Rattle.bpf_decode.specs.declared.rule_set.RuleSet.{RuleSet}
 use Rattle.bpf_decode.specs.declared.rule_set.RuleSet.TheVariants.{One, Two, Three}
 use Rattle.class_tool.specs.declared.action.Action.{Action}
 use Rattle.class_tool.specs.declared.action.Action.TheVariants.{Verify, Run, Assemble, Pack, Disassemble}
-use Rattle.class_tool.specs.declared.action.MethodCall.{MethodCall}
 use Rattle.class_tool.specs.declared.action.Packing.{Packing}
 use Rattle.cluster_tool.specs.declared.asked.Clustering.{Clustering}
 use Rattle.command_line.specs.Parsed.{Parsed, Text, all_in, is_set_in, one_in}
@@ -17,6 +17,10 @@ use Rattle.radoscls_program.specs.Inputs.{UsesInputWell}
 use Rattle.radoscls_program.specs.Raw.{AreRaw}
 use Rattle.radoscls_program.specs.Tenants.{SpellsTenants}
 use Rattle.radoscls_program.specs.declared.actions.Plain.{Plain}
+use Rattle.class_tests.specs.Spelled.{of_kind}
+use Rattle.radoscls_program.specs.declared.task.GivenCall.{GivenCall}
+use Rattle.radoscls_program.specs.declared.task.GivenInput.{GivenInput}
+use Rattle.radoscls_program.specs.declared.task.GivenInput.TheVariants.{Value, Bytes}
 use Rattle.radoscls_program.specs.declared.task.Task.{Task}
 use Rattle.radoscls_program.specs.declared.task.Task.TheVariants as task
 use Rattle.radoscls_program.specs.declared.task.Testing.{Testing}
@@ -34,17 +38,40 @@ pub record TakesPacking (p : Parsed) (asked : Packing) : Type 0 where
   pub rules : option_and_then rules_named (one_in p (codes "rules")) ≡ Some asked.rules
   pub methods : AreRaw (all_in p (codes "METHOD")) asked.methods.items
 
--- `run` takes, not counting the object: the file IN of the class, METHOD, the bytes that --input
--- spells, and the client with the number --caller.
+-- `run` takes, not counting input and object: the file IN of the class, METHOD, and the client with
+-- the number --caller.
 pub record TakesPlain (p : Parsed) (call : Plain) : Type 0 where
   pub image : one_in p (codes "IN") ≡ Some call.image.now
   pub method : one_in p (codes "METHOD") ≡ Some call.method.now
-  pub input : one_in p (codes "input") ≡ Some call.input.now
   pub caller : option_and_then id_in (one_in p (codes "caller")) ≡ Some call.caller
 
 -- that part of a call
-abbrev pub plain_of : MethodCall → Plain
-plain_of call = record { image = call.image; method = call.method; input = call.input; caller = call.caller }
+abbrev pub plain_of : GivenCall → Plain
+plain_of call = record { image = call.image; method = call.method; caller = call.caller }
+
+-- the input has the bytes that a text spells, of a kind of the inputs of tests
+abbrev pub IsOfKind : Text → Text → GivenInput → Type 0
+IsOfKind kind text (Value value) = ⊥
+IsOfKind kind text (Bytes bytes) = of_kind kind text ≡ Some bytes
+
+-- the input is that value
+abbrev pub IsValueOf : Text → GivenInput → Type 0
+IsValueOf text (Value value) = value.now ≡ text
+IsValueOf text (Bytes bytes) = ⊥
+
+-- THE INPUT of a call: the value --input, or the bytes of the text --input-text, or of the numbers
+-- --input-u64; no bytes if none of them is there. Two are none.
+abbrev pub IsInputBy : Option Text → Option Text → Option Text → GivenInput → Type 0
+IsInputBy None None None input = IsValueOf [] input
+IsInputBy (Some value) None None input = IsValueOf value input
+IsInputBy None (Some text) None input = IsOfKind (codes "text") text input
+IsInputBy None None (Some numbers) input = IsOfKind (codes "u64") numbers input
+IsInputBy value text numbers input = ⊥
+
+-- by the words
+abbrev pub TakesInput : Parsed → GivenInput → Type 0
+TakesInput p input =
+    IsInputBy (one_in p (codes "input")) (one_in p (codes "input-text")) (one_in p (codes "input-u64")) input
 
 -- The object is that of the file --load, or that of words.
 abbrev pub loads_alone : Parsed → Bool
@@ -63,10 +90,11 @@ is_another (Some saved) (Some class) = not (bytes_eq saved class)
 abbrev pub saves_apart : Parsed → Bool
 saves_apart p = is_another (one_in p (codes "save")) (one_in p (codes "IN"))
 
--- `run` takes that, the object's data --object, an xattr of each --xattr and a key of each --key,
+-- `run` takes that, an input, the object's data --object, an xattr of each --xattr and a key of each --key,
 -- the files --load and --save, and whether --show and --trace are there. A file may hold a value.
-pub record TakesCall (p : Parsed) (call : MethodCall) : Type 0 where
+pub record TakesCall (p : Parsed) (call : GivenCall) : Type 0 where
   pub plain : TakesPlain p (plain_of call)
+  pub input : TakesInput p call.input
   pub data_text : one_in p (codes "object") ≡ option_map (λ t. t.now) call.data
   pub xattrs : AreEntries (all_in p (codes "xattr")) call.xattrs.items
   pub keys : AreEntries (all_in p (codes "key")) call.keys.items

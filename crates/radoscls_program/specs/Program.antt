@@ -21,6 +21,7 @@ use Rattle.radoscls_program.specs.Tested.{TestEnds}
 use Rattle.radoscls_program.specs.declared.status.ExitStatus.{ExitStatus}
 use Rattle.radoscls_program.specs.declared.status.ExitStatus.TheVariants.{Done, Refused, Usage}
 use Rattle.radoscls_program.specs.declared.task.ClusterTask.{ClusterTask}
+use Rattle.radoscls_program.specs.declared.task.GivenCall.{GivenCall}
 use Rattle.radoscls_program.specs.declared.task.Task.{Task}
 use Rattle.radoscls_program.specs.declared.task.Task.TheVariants as task
 use Rattle.radoscls_program.specs.declared.task.Testing.{Testing}
@@ -28,7 +29,7 @@ use Rattle.radoscls_program.specs.Values.{FillFails, IsFilled}
 
 -- The words ask for that action; a call has its values in hexadecimal.
 pub record IsCallNamed (disk : Option Disk) (words : List Text) (action : Action) (is_explained : Bool) : Type 0 where
-  pub call : MethodCall
+  pub call : GivenCall
   pub named : AreFor words (task.Run call is_explained)
   pub filled : MethodCall
   pub values : IsFilled disk call filled
@@ -74,7 +75,7 @@ pub record IsUnprinted (before after : Storage) (old new : Stream) (words : List
   pub unprinted : Lost old new (result_text answer)
 
 -- A call's values could not be read, and a line says so; no file changed.
-pub record IsUnfilled (before after : Storage) (old new : Stream) (call : MethodCall)
+pub record IsUnfilled (before after : Storage) (old new : Stream) (call : GivenCall)
     (is_explained : Bool) : Type 0 where
   pub failure : Failure
   pub fails : FillFails before.disk call failure
@@ -83,7 +84,7 @@ pub record IsUnfilled (before after : Storage) (old new : Stream) (call : Method
 
 -- The words name a call whose values could not be read.
 pub record IsValueless (before after : Storage) (old new : Stream) (words : List Text) : Type 0 where
-  pub call : MethodCall
+  pub call : GivenCall
   pub is_explained : Bool
   pub named : AreFor words (task.Run call is_explained)
   pub unfilled : IsUnfilled before after old new call is_explained
@@ -185,14 +186,14 @@ pub record Acts (before after : Storage) (old new : Stream) (action : Action) (i
   pub responds : Responds old new found is_explained status
 
 -- a call is made with its values in hexadecimal
-pub record ActsOn (before after : Storage) (old new : Stream) (call : MethodCall) (is_explained : Bool)
+pub record ActsOn (before after : Storage) (old new : Stream) (call : GivenCall) (is_explained : Bool)
     (status : ExitStatus) : Type 0 where
   pub filled : MethodCall
   pub values : IsFilled before.disk call filled
   pub acts : Acts before after old new (Run filled) is_explained status
 
 -- the end of a call: it is made, or a line says why not
-abbrev pub CallEnds : Storage → Storage → Stream → Stream → MethodCall → Bool → ExitStatus → Type 0
+abbrev pub CallEnds : Storage → Storage → Stream → Stream → GivenCall → Bool → ExitStatus → Type 0
 CallEnds before after old new call is_explained status =
     ActsOn before after old new call is_explained status ⊎
     ((status ≡ Refused) × IsUnfilled before after old new call is_explained)

@@ -1,4 +1,5 @@
--- The values of a call: the digits of a word, no bytes for `-`, or the bytes of the file after `@`.
+-- The values of a call: the digits of a word, no bytes for `-`, or the bytes of the file after `@`;
+-- its input may be bytes.
 use Rattle.std.specs.Prelude.{◌≡◌, ◌⊎◌, ◌++◌, ⊤, ℕ, Bool, true, false, List, [], ◌∷◌, Option, Some, None, option_map}
 use Rattle.std.specs.Prelude.{string_bytes, map}
 use Rattle.std.specs.Borrow.{Bor}
@@ -10,6 +11,9 @@ use Rattle.class_tool.specs.declared.failure.Failure.{Failure}
 use Rattle.class_tool.specs.declared.failure.Failure.TheVariants.{CannotRead, NoMemory}
 use Rattle.command_line.specs.Parsed.{Text}
 use Rattle.radoscls_program.specs.Inputs.{file_of, is_input}
+use Rattle.radoscls_program.specs.declared.task.GivenCall.{GivenCall}
+use Rattle.radoscls_program.specs.declared.task.GivenInput.{GivenInput}
+use Rattle.radoscls_program.specs.declared.task.GivenInput.TheVariants.{Value, Bytes}
 use Rattle.radoscls_program.specs.declared.values.FilledCall.{FilledCall}
 use Rattle.radoscls_program.specs.declared.values.FilledEntry.{FilledEntry}
 
@@ -39,6 +43,16 @@ pub record IsUnreadIn (disk : Option Disk) (text : Text) : Type 0 where
 -- why there are none: memory was refused, or its file can't be read
 abbrev pub ValueFails : Option Disk → Text → Failure → Type 0
 ValueFails disk text failure = (failure ≡ NoMemory) ⊎ ((failure ≡ CannotRead) × IsUnreadIn disk text)
+
+-- the digits of an input: those of a value, or of its bytes
+abbrev pub IsInput : Option Disk → GivenInput → Text → Type 0
+IsInput disk (Value text) digits = IsValue disk text.now digits
+IsInput disk (Bytes bytes) digits = digits ≡ encode_lower bytes
+
+-- why there are none
+abbrev pub InputFails : Option Disk → GivenInput → Failure → Type 0
+InputFails disk (Value text) failure = ValueFails disk text.now failure
+InputFails disk (Bytes bytes) failure = failure ≡ NoMemory
 
 -- a name and its value, as the words have them and with the digits read:
 abbrev pub entry_texts : NamedValue → Text × Text
@@ -83,17 +97,17 @@ abbrev pub text_in : Option (Bor (List ℕ)) → Option Text
 text_in text = option_map (λ t. t.now) text
 
 -- the values of a call in hexadecimal
-pub record HasValues (disk : Option Disk) (call : MethodCall) (filled : FilledCall) : Type 0 where
-  pub input : IsValue disk call.input.now (string_bytes filled.input)
+pub record HasValues (disk : Option Disk) (call : GivenCall) (filled : FilledCall) : Type 0 where
+  pub input : IsInput disk call.input (string_bytes filled.input)
   pub data_text : IsMaybeValue disk (text_in call.data) (option_map string_bytes filled.data)
   pub xattrs : AreValues disk (map entry_texts call.xattrs.items) (map filled_texts filled.xattrs.items)
   pub keys : AreValues disk (map entry_texts call.keys.items) (map filled_texts filled.keys.items)
 
 -- The one call is the other with its values in hexadecimal.
-pub record IsFilled (disk : Option Disk) (call filled : MethodCall) : Type 0 where
+pub record IsFilled (disk : Option Disk) (call : GivenCall) (filled : MethodCall) : Type 0 where
   pub image : filled.image.now ≡ call.image.now
   pub method : filled.method.now ≡ call.method.now
-  pub input : IsValue disk call.input.now filled.input.now
+  pub input : IsInput disk call.input filled.input.now
   pub caller : filled.caller ≡ call.caller
   pub data_text : IsMaybeValue disk (text_in call.data) (text_in filled.data)
   pub xattrs : AreValues disk (map entry_texts call.xattrs.items) (map entry_texts filled.xattrs.items)
@@ -104,8 +118,8 @@ pub record IsFilled (disk : Option Disk) (call filled : MethodCall) : Type 0 whe
   pub traced : filled.is_traced ≡ call.is_traced
 
 -- Memory was refused, or a value's file can't be read.
-abbrev pub FillFails : Option Disk → MethodCall → Failure → Type 0
+abbrev pub FillFails : Option Disk → GivenCall → Failure → Type 0
 FillFails disk call failure =
-    ValueFails disk call.input.now failure ⊎ MaybeFails disk (text_in call.data) failure
+    InputFails disk call.input failure ⊎ MaybeFails disk (text_in call.data) failure
     ⊎ EntriesFail disk (map entry_texts call.xattrs.items) failure ⊎
     EntriesFail disk (map entry_texts call.keys.items) failure

@@ -4,14 +4,17 @@ ghost use Rattle.std.specs.Prelude.{option_and_then, true};
 ghost use Rattle.command_line.specs.Parsed.{all_in, one_in, parsed_of};
 ghost use Rattle.file_words.specs.Words.{id_in};
 ghost use Rattle.tenant_classes.specs.declared.tenant_class.TheConstants.{TENANT_LIMIT};
-ghost use Rattle.class_tool.specs.declared.action.MethodCall.{MethodCall as AMethodCall};
 ghost use Rattle.class_tool.specs.declared.action.NamedValue.{NamedValue as ANamedValue};
 ghost use Rattle.class_tool.specs.declared.action.Packing.{Packing as APacking};
 ghost use Rattle.cluster_tool.specs.declared.asked.Clustering.{Clustering as AClustering};
 ghost use Rattle.sim.specs.declared.asked.Simulation.{Simulation as ASimulation};
 ghost use Rattle.radoscls_program.specs.declared.actions.Plain.{Plain as APlain};
-ghost use Rattle.radoscls_program.specs.Arguments.{TakesCall, TakesCluster, TakesPacking, TakesPlain, TakesSim};
-ghost use Rattle.radoscls_program.specs.Arguments.{loads_alone, rules_named, saves_apart};
+ghost use Rattle.radoscls_program.specs.declared.task.GivenCall.{GivenCall as AGivenCall};
+ghost use Rattle.radoscls_program.specs.declared.task.GivenInput.{GivenInput as AnInput};
+ghost use Rattle.radoscls_program.specs.Arguments.{TakesCall, TakesCluster, TakesInput, TakesPacking, TakesPlain};
+ghost use Rattle.radoscls_program.specs.Arguments.{TakesSim};
+ghost use Rattle.radoscls_program.specs.Arguments.{IsOfKind, loads_alone, rules_named, saves_apart};
+ghost use Rattle.class_tests.specs.Spelled.{of_kind};
 ghost use Rattle.radoscls_program.specs.Entries.{AreEntries};
 ghost use Rattle.radoscls_program.specs.Tenants.{SpellsTenants, are_tenants};
 
@@ -19,9 +22,11 @@ use crate::entry::entries;
 use crate::mistake::{Mistake, Wanted};
 use crate::number::caller_in;
 use crate::raw_method::raw_methods;
+use crate::task::{GivenCall, GivenInput};
 use crate::tenant_class::tenants_in;
 use bpf_decode::RuleSet;
-use class_tool::{MethodCall, NamedValue, Packing};
+use class_tests::of_kind;
+use class_tool::{NamedValue, Packing};
 use cluster_tool::Clustering;
 use command_line::ParsedWords;
 use pg_log::ClientId;
@@ -29,12 +34,11 @@ use sim::Simulation;
 use std::alloc::{AllocError, Global};
 use tenant_classes::TenantClass;
 
-/// The arguments of `run`, but for the object.
+/// The arguments of `run`, but for the input and the object.
 #[derive(Clone, Copy)]
 pub(crate) struct Plain<'a> {
     image: &'a str,
     method: &'a str,
-    input: &'a str,
     caller: ClientId,
 }
 
@@ -62,7 +66,7 @@ fn caller_of<'a>(words: &ParsedWords<'a>) -> Result<ClientId, Mistake<'a>>
     }
 }
 
-/// Reads the arguments of `run`, but for the object.
+/// Reads the arguments of `run`, but for the input and the object.
 fn plain_call<'a>(words: &ParsedWords<'a>) -> Result<Plain<'a>, Mistake<'a>>
     ensures some { IfOk result (TakesPlain (parsed_of words.now)) }
     ensures none { IfErr result (λ _. (plain : APlain) → TakesPlain (parsed_of words.now) plain → ⊥) }
@@ -70,9 +74,46 @@ fn plain_call<'a>(words: &ParsedWords<'a>) -> Result<Plain<'a>, Mistake<'a>>
     Ok(Plain {
         image: wanted(words, "IN")?,
         method: wanted(words, "METHOD")?,
-        input: wanted(words, "input")?,
         caller: caller_of(words)?,
     })
+}
+
+/// The input of the bytes that a text spells, of a kind of the inputs of tests.
+fn input_of_kind<'a>(
+    alloc: Global,
+    kind: &str,
+    text: &'a str,
+    wanted: Wanted,
+) -> Result<GivenInput<'a>, Mistake<'a>>
+    ensures some { IfOk result (λ input. IsOfKind kind.now text.now input) }
+    ensures none { IfErr result (λ m. m ≢ Mistake.NoMemory → of_kind kind.now text.now ≡ None) }
+{
+    match of_kind(alloc, kind, text)? {
+        Some(bytes) => Ok(GivenInput::Bytes(bytes)),
+        None => Err(Mistake::Value(wanted, text)),
+    }
+}
+
+/// The input of `run`; two of them are refused.
+fn input_of<'a>(alloc: Global, words: &ParsedWords<'a>) -> Result<GivenInput<'a>, Mistake<'a>>
+    ensures some { IfOk result (TakesInput (parsed_of words.now)) }
+    ensures none { IfErr result (λ m. m ≢ Mistake.NoMemory → (input : AnInput) →
+        TakesInput (parsed_of words.now) input → ⊥) }
+{
+    match (
+        words.one("input"),
+        words.one("input-text"),
+        words.one("input-u64"),
+    ) {
+        (None, None, None) => Ok(GivenInput::Value("")),
+        (Some(value), None, None) => Ok(GivenInput::Value(value)),
+        (None, Some(text), None) => input_of_kind(alloc, "text", text, Wanted::InputText),
+        (None, None, Some(numbers)) => input_of_kind(alloc, "u64", numbers, Wanted::InputU64),
+        (Some(_), Some(_), None)
+        | (Some(_), None, Some(_))
+        | (None, Some(_), Some(_))
+        | (Some(_), Some(_), Some(_)) => Err(Mistake::TwoInputs),
+    }
 }
 
 /// The entries of an option that may stand more than once.
@@ -133,9 +174,9 @@ fn check_saved<'a>(words: &ParsedWords<'a>, image: &str) -> Result<(), Mistake<'
 pub(crate) fn call_of<'a>(
     alloc: Global,
     words: &ParsedWords<'a>,
-) -> Result<MethodCall<'a>, Mistake<'a>>
+) -> Result<GivenCall<'a>, Mistake<'a>>
     ensures some { IfOk result (TakesCall (parsed_of words.now)) }
-    ensures none { IfErr result (λ m. m ≢ Mistake.NoMemory → (call : AMethodCall) →
+    ensures none { IfErr result (λ m. m ≢ Mistake.NoMemory → (call : AGivenCall) →
         TakesCall (parsed_of words.now) call → ⊥) }
 {
     let plain = match plain_call(words) {
@@ -144,12 +185,13 @@ pub(crate) fn call_of<'a>(
     };
     check_object(alloc, words)?;
     check_saved(words, plain.image)?;
+    let input = input_of(alloc, words)?;
     let xattrs = entries_of(alloc, words, "xattr", Wanted::Xattr)?;
     let keys = entries_of(alloc, words, "key", Wanted::Key)?;
-    Ok(MethodCall {
+    Ok(GivenCall {
         image: plain.image,
         method: plain.method,
-        input: plain.input,
+        input,
         caller: plain.caller,
         data: words.one("object"),
         xattrs,

@@ -13,12 +13,16 @@ pub(crate) enum Mistake<'a> {
     InputTwice,
     /// The object is that of a file, and of words too.
     ObjectTwice,
+    /// A call has more than one input.
+    TwoInputs,
 }
 
 /// The form that an argument wants of its text.
 #[derive(Clone, Copy)]
 pub(crate) enum Wanted {
     Caller,
+    InputText,
+    InputU64,
     Rules,
     Xattr,
     Key,
@@ -38,6 +42,9 @@ impl Wanted {
     fn row(self) -> (&'static str, &'static str) {
         match self {
             Wanted::Caller       => ("--caller <N>", "a number from 1 to 4294967295, without a sign or a leading zero"),
+            Wanted::InputText    => ("--input-text <TEXT>", "a text"),
+            Wanted::InputU64     =>
+                ("--input-u64 <N,..>", "numbers from 0 to 18446744073709551615, with ',' between them"),
             Wanted::Rules        => ("--rules <N>", "1, 2 or 3"),
             Wanted::Xattr        => ("--xattr <NAME=HEX>", "a name, '=' and the value"),
             Wanted::Key          => ("--key <KEY=HEX>", "a key, '=' and the value"),
@@ -71,6 +78,13 @@ impl Mistake<'_> {
                     alloc,
                     "the argument '--load <FILE>' cannot be used with '--object <HEX>', '--xattr <NAME=HEX>' or \
                     '--key <KEY=HEX>'",
+                )
+            }
+            Mistake::TwoInputs => {
+                String::from_str(
+                    alloc,
+                    "the arguments '--input <HEX>', '--input-text <TEXT>' and '--input-u64 <N,..>' cannot be used \
+                    with one another",
                 )
             }
             Mistake::Value(wanted, text) => {

@@ -13,12 +13,12 @@ ghost use Rattle.radoscls_program.specs.declared.status.ExitStatus.{ExitStatus a
 use crate::asked::asked;
 use crate::judging::judge;
 use crate::status::ExitStatus;
-use crate::task::{ClusterTask, Task};
+use crate::task::{ClusterTask, GivenCall, Task};
 use crate::telling::{add, asked_note, refuse, tell};
 use crate::testing::test;
 use crate::threads::play_cluster;
 use crate::values::{call_with, filled};
-use class_tool::{Action, ActionResult, Failed, Failure, Files, MethodCall, Output, Reads, find};
+use class_tool::{Action, ActionResult, Failed, Failure, Files, Output, Reads, find};
 use cluster_tool::{Figures, Meter};
 use command_line::Unparsed;
 use sim::{Simulation, SimulationEnd, simulate};
@@ -86,7 +86,7 @@ fn act<F: Files, O: Output, E: io::Write>(
 fn act_call<F: Files, O: Output, E: io::Write>(
     alloc: Global,
     files: &mut F,
-    call: &MethodCall<'_>,
+    call: &GivenCall<'_>,
     is_explained: bool,
     out: &mut O,
     err: &mut E,

@@ -1,6 +1,33 @@
-use class_tool::{Action, MethodCall};
+use class_tests::TestBytes;
+use class_tool::{Action, NamedValue};
 use cluster_tool::Clustering;
+use pg_log::ClientId;
 use sim::Simulation;
+
+/// The input of a call.
+#[derive(Drop)]
+pub(crate) enum GivenInput<'a> {
+    /// A value: digits, `-`, or `@` and a file.
+    Value(&'a str),
+    /// These bytes.
+    Bytes(TestBytes),
+}
+
+/// A call as words ask for it: `class_tool::MethodCall`, but for values that aren't read.
+#[derive(Drop)]
+pub(crate) struct GivenCall<'a> {
+    pub(crate) image: &'a str,
+    pub(crate) method: &'a str,
+    pub(crate) input: GivenInput<'a>,
+    pub(crate) caller: ClientId,
+    pub(crate) data: Option<&'a str>,
+    pub(crate) xattrs: Vec<NamedValue<'a>>,
+    pub(crate) keys: Vec<NamedValue<'a>>,
+    pub(crate) load: Option<&'a str>,
+    pub(crate) save: Option<&'a str>,
+    pub(crate) is_shown: bool,
+    pub(crate) is_traced: bool,
+}
 
 /// The tests of a class, to be run.
 #[derive(Clone, Copy)]
@@ -30,7 +57,7 @@ pub(crate) enum Task<'a> {
     /// The verdict of each method of the class in a file, and whether refusals are explained.
     Each(&'a str, bool),
     /// A call, whose values files may hold, and whether a failure is explained.
-    Run(MethodCall<'a>, bool),
+    Run(GivenCall<'a>, bool),
     /// The tests of the class in a file, run, and whether a failure is explained.
     Test(Testing<'a>, bool),
     /// A file of events, played.

@@ -4,9 +4,10 @@ ghost use Rattle.class_tool.specs.Files.{Disk, IsUnreadable};
 ghost use Rattle.class_tool.specs.declared.failure.Failure.TheVariants.{CannotRead, NoMemory};
 ghost use Rattle.radoscls_program.specs.Values.{AreValues, EntriesFail, FillFails, HasValues, IsFileValue, IsFilled};
 ghost use Rattle.radoscls_program.specs.Values.{IsMaybeValue, IsValue, MaybeFails, ValueFails, entry_texts};
-ghost use Rattle.radoscls_program.specs.Values.{filled_texts};
+ghost use Rattle.radoscls_program.specs.Values.{InputFails, IsInput, filled_texts};
 ghost use Rattle.radoscls_program.specs.Inputs.{after_at, file_of};
 
+use crate::task::{GivenCall, GivenInput};
 use class_tool::{Failure, MethodCall, NamedValue, Reads};
 use std::alloc::{AllocError, Global};
 
@@ -56,6 +57,21 @@ fn digits_of<F: Reads>(alloc: Global, files: &F, text: &str) -> Result<String, F
     match file_of(text) {
         Some(file) => file_digits(alloc, files, file),
         None => Ok(String::from_str(alloc, text)?),
+    }
+}
+
+/// An input in hexadecimal.
+fn input_digits<F: Reads>(
+    alloc: Global,
+    files: &F,
+    input: &GivenInput<'_>,
+) -> Result<String, Failure>
+    ensures ok { IfOk result (λ digits. IsInput (F.disk files.now) input.now (string_bytes digits)) }
+    ensures err { IfErr result (InputFails (F.disk files.now) input.now) }
+{
+    match input {
+        GivenInput::Value(text) => digits_of(alloc, files, text),
+        GivenInput::Bytes(bytes) => Ok(hex::encode(alloc, bytes.items())?),
     }
 }
 
@@ -131,12 +147,12 @@ fn maybe_digits<F: Reads>(
 pub(crate) fn filled<F: Reads>(
     alloc: Global,
     files: &F,
-    call: &MethodCall<'_>,
+    call: &GivenCall<'_>,
 ) -> Result<FilledCall, Failure>
     ensures ok { IfOk result (HasValues (F.disk files.now) call.now) }
     ensures err { IfErr result (FillFails (F.disk files.now) call.now) }
 {
-    let input = digits_of(alloc, files, call.input)?;
+    let input = input_digits(alloc, files, &call.input)?;
     let data = maybe_digits(alloc, files, call.data)?;
     let xattrs = filled_entries(alloc, files, &call.xattrs)?;
     let keys = filled_entries(alloc, files, &call.keys)?;
@@ -178,7 +194,7 @@ fn text_of<'b>(text: &'b Option<String>) -> Option<&'b str>
 /// The call with those values.
 pub(crate) fn call_with<'a: 'b, 'b>(
     alloc: Global,
-    call: &MethodCall<'a>,
+    call: &GivenCall<'a>,
     filled: &'b FilledCall,
 ) -> Result<MethodCall<'b>, AllocError>
     ensures { IfOk result (λ made. (disk : Option Disk) → HasValues disk call.now filled.entry.now →
