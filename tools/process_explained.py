@@ -57,8 +57,8 @@ run two.img g --explain
 run two.img f --input 0 --explain
 => 1 input is not hex // wanted: --input in hexadecimal, two digits a byte
 verify cut --explain
-=> 1 line 1: 1 Word // line 1: before // wanted: first an instruction's word, or a label `name:`, `.method` or
-    `.rules` // see docs/ASSEMBLY.md, 1 Word
+=> 1 line 1: 1 Word // line 1: before // a label ends with a colon: write `before:` //
+    wanted: first an instruction's word, or a label `name:`, `.method` or `.rules` // see docs/ASSEMBLY.md, 1 Word
 pack out f:r:0:0:cut --explain
 => 1 image refused after 0 methods: 1 Truncated // method f, IN 0, OUT 0, cut //
     it ends within a field: it was cut, or is none; code has 8 bytes a slot
