@@ -126,16 +126,18 @@ def called(table):
 
 def measured(count, holds):
     """Whether a text is what --stats writes of that many calls, numbers that fit one another too: no
-    call is longer than all of them, or than the run, and a session nudges before each repeat."""
+    call is longer than all of them, or than the run, half of the calls take no longer than 99 of 100,
+    and a session nudges before each repeat."""
     is_written = figures(count)
 
     def is_measured(text):
         if not is_written(text):
             return False
-        it = {name: int(number) for name, number in re.findall(r"(?m)^(\D+) (\d+)$", text)}
+        it = {name: int(number) for name, number in re.findall(r"(?m)^(\D+|99 %\D+) (\d+)$", text)}
         worst, mean = it["worst microseconds"], it["mean microseconds"]
         fit = mean <= worst < (mean + 1) * max(count, 1) and it["calls a second"] * worst <= count * 1_000_000
-        return fit and it["repeats"] <= it["nudges"] and holds(it)
+        shares = it["median microseconds"] <= it["99 % microseconds"] <= worst
+        return fit and shares and it["repeats"] <= it["nudges"] and holds(it)
 
     return is_measured
 

@@ -150,7 +150,7 @@ COMMANDS = {
     "pack": (["<OUT>", "<METHOD>..."], {"--rules": " <N>", "--explain": ""}),
     "dis": (["<IN>"], {"--slots": "", "--explain": ""}),
     "sim": (["<FILE>"], {"--class": " <NAME=IMAGE>", "--trace": "", "--explain": ""}),
-    "cluster": (["<FILE>"], {"--class": " <NAME=IMAGE>", "--show": "", "--stats": ""}),
+    "cluster": (["<FILE>"], {"--class": " <NAME=IMAGE>", "--show": "", "--stats": "", "--strict": ""}),
 }
 # Words that each command does, and a value of each option that is right.
 DONE = {
@@ -214,7 +214,7 @@ def shows(first, line):
 
 def figures(calls):
     """Whether a text is what --stats writes of that many calls."""
-    names = ("calls a second", "mean microseconds", "worst microseconds",
+    names = ("calls a second", "mean microseconds", "median microseconds", "99 % microseconds", "worst microseconds",
              "map to last answer microseconds", "messages", "repeats", "nudges")
     lines = f"calls {calls}\n" + "".join(f"{name} [0-9]+\n" for name in names)
     return lambda text: re.fullmatch(f"(answered [0-9]+ of {calls}\n)*{lines}", text) is not None
@@ -305,6 +305,10 @@ ROWS = [
     Row("sim locks.sim", LOCKED),
     Row("cluster calls", CALLS),
     Row("cluster clients", CLIENTS),
+    Row("cluster calls --strict", CALLS),
+    # --strict: 1 if a call is refused, and what is printed is the same
+    Row("cluster --strict refused", "client 1 call 0 refused 7 InputTooLong\n"
+        "client 1 call 1 refused 5 NoClass\nclient 1 call 2 refused 6 NoMethod\n", "", 1),
     Row("cluster refused", "client 1 call 0 refused 7 InputTooLong\n"
         "client 1 call 1 refused 5 NoClass\nclient 1 call 2 refused 6 NoMethod\n"),
     # what OUT held is gone, and it may be IN
@@ -460,9 +464,10 @@ ROWS = [
     Row("cluster two.calls --class two=missing", "cannot read\n", "", 1),
     Row("sim --trace locks.sim", lambda text: re.match("c1 +c2 +1 +mon +event\n", text)),
     Row("sim bad.sim --trace", lambda text: text.endswith("\nline 3: bad\n"), "", 1),
-    # --stats: on standard error, if the status is 0
+    # --stats: on standard error, if all calls were made, refused ones too
     Row("cluster calls --stats", CALLS, figures(2)),
     Row("cluster --stats two.calls", NO_CLASS, figures(1)),
+    Row("cluster --stats two.calls --strict", NO_CLASS, figures(1), 1),
     Row("cluster map.calls --stats", "line 3: refused 1 NoneUp\n", "", 1),
     Row("cluster bad.calls --stats", "line 3: bad\n", "", 1),
     # standard input, for each file that is read; a file of its name

@@ -19,7 +19,7 @@ _radoscls() {
         pack) words="--rules --explain --help" ;;
         dis) words="--slots --explain --help" ;;
         sim) words="--class --trace --explain --help" ;;
-        cluster) words="--class --show --stats --help" ;;
+        cluster) words="--class --show --stats --strict --help" ;;
         *) return ;;
     esac
     case ${COMP_WORDS[COMP_CWORD - 1]} in

@@ -1,18 +1,21 @@
 -- The end of a file, by the text that was printed.
-use Rattle.std.proofs.Common.{◌≡◌, ◌⊎◌, inl, inr, ℕ, List, Option, Some, Bool, Result, Ok, Err, IfOk, string_bytes, sym, subst}
+use Rattle.std.proofs.Common.{◌≡◌, ◌⊎◌, inl, inr, ℕ, List, Option, Some, Bool, true, false, Result, refl, map, Ok, Err, IfOk, string_bytes, sym, subst}
 use Rattle.std.specs.Io.KnownBytes.{Appends}
 use Rattle.pg_log.specs.Log.{Classes}
 use Rattle.cluster_file.specs.Plan.{FilePlan, plan_of}
-use Rattle.cluster_file.specs.Text.{refused_line}
+use Rattle.cluster_file.specs.Text.{all_lines, refused_line}
+use Rattle.rados_client.specs.Session.{PlacedReply}
+use Rattle.rados_client.specs.declared.exec_error.ExecError.{ExecError}
 use Rattle.map_book.specs.Refusal.{map_error_text}
 use Rattle.map_book.specs.declared.map_error.MapError.{MapError}
 use Rattle.osd.specs.declared.config.Config.{Config}
-use Rattle.cluster_tool.specs.Clustering.{IsPrintoutOf, EndsSo, Prints}
+use Rattle.cluster_tool.specs.Answers.{any_refused, shown}
+use Rattle.cluster_tool.specs.Clustering.{IsPrintoutOf, EndsSo, Prints, end_by, groups_if}
 use Rattle.cluster_tool.specs.Config.{config_of}
-use Rattle.cluster_tool.specs.Played.{IsMapRefused}
+use Rattle.cluster_tool.specs.Played.{AreDone, IsMapRefused}
 use Rattle.cluster_tool.specs.declared.tool.ClusteringEnd.{ClusteringEnd}
 use Rattle.cluster_tool.specs.declared.tool.Printout.{Printout}
-use Rattle.cluster_tool.specs.declared.tool.ClusteringEnd.TheVariants.{Done, Bad, Refused, NoMemory, Unprinted}
+use Rattle.cluster_tool.specs.declared.tool.ClusteringEnd.TheVariants.{Done, SomeRefused, Bad, Refused, NoMemory, Unprinted}
 
 not_printed : (is_shown : Bool) (classes : Classes) (r : Result FilePlan ℕ) (printed : List ℕ) → IsPrintoutOf is_shown classes r printed NoMemory ⊎ IsPrintoutOf is_shown classes r printed Unprinted → ⊥
 not_printed is_shown classes (Ok plan) printed (inl comes) = comes
@@ -23,6 +26,7 @@ not_printed is_shown classes (Err line) printed (inr comes) = comes
 was_printed : (is_shown : Bool) (classes : Classes) (names : List (List ℕ)) (text printed : List ℕ) (ending : ClusteringEnd) (old new : Option (List ℕ)) (failed fails : Bool) →
     IsPrintoutOf is_shown classes (plan_of names text) printed ending → Appends old new printed → fails ≡ failed → EndsSo is_shown classes names text old new failed fails ending
 was_printed is_shown classes names text printed Done old new failed fails comes grew well = record { printed = printed; comes = comes; grew = grew; well = well }
+was_printed is_shown classes names text printed SomeRefused old new failed fails comes grew well = record { printed = printed; comes = comes; grew = grew; well = well }
 was_printed is_shown classes names text printed Bad old new failed fails comes grew well = record { printed = printed; comes = comes; grew = grew; well = well }
 was_printed is_shown classes names text printed Refused old new failed fails comes grew well = record { printed = printed; comes = comes; grew = grew; well = well }
 was_printed is_shown classes names text printed NoMemory old new failed fails comes grew well = absurd (not_printed is_shown classes (plan_of names text) printed (inl comes))
@@ -37,6 +41,23 @@ ends_so is_shown classes names text printed ending result old new failed fails c
 ends_so is_shown classes names text printed ending result old new failed fails comes (inr p) =
     subst (λ (e : ClusteringEnd). EndsSo is_shown classes names text old new failed fails e) (sym p.0)
     (record { printed = printed; ending = ending; comes = comes; begun = p.1; failed = p.2 })
+
+-- all calls were made, whether or not one was refused
+made_by : (is_shown : Bool) (classes : Classes) (plan : FilePlan) (config : Config) (printed : List ℕ) (all : List (List (Result PlacedReply ExecError))) (b : Bool) → config_of plan.numbers ≡ Some config →
+    AreDone classes config plan.steps all → printed ≡ all_lines (groups_if is_shown config) plan.steps 1 (map (map shown) all) → any_refused all ≡ b →
+    IsPrintoutOf is_shown classes (Ok plan) printed (end_by b)
+made_by is_shown classes plan config printed all false is done lines some =
+    record { config = config; is = is; comes = record { all = all; done = done; lines = lines; some = some } }
+made_by is_shown classes plan config printed all true is done lines some =
+    record { config = config; is = is; comes = record { all = all; done = done; lines = lines; some = some } }
+
+pub all_made : {E : Type 0} (is_shown : Bool) (classes : Classes) (plan : FilePlan) (config : Config) (all : List (List (Result PlacedReply ExecError))) (r : Result Printout E) → config_of plan.numbers ≡ Some config →
+    AreDone classes config plan.steps all → IfOk r (λ o. string_bytes o.text ≡ all_lines (groups_if is_shown config) plan.steps 1 (map (map shown) all)) →
+    IfOk r (λ o. o.ending ≡ end_by (any_refused all)) → IfOk r (λ o. IsPrintoutOf is_shown classes (Ok plan) (string_bytes o.text) o.ending)
+all_made is_shown classes plan config all (Ok o) is done lines ends =
+    subst (λ (e : ClusteringEnd). IsPrintoutOf is_shown classes (Ok plan) (string_bytes o.text) e) (sym ends)
+    (made_by is_shown classes plan config (string_bytes o.text) all (any_refused all) is done lines refl)
+all_made is_shown classes plan config all (Err e) is done lines ends = tt
 
 -- a map that was refused
 pub map_refused : {E : Type 0} (is_shown : Bool) (classes : Classes) (plan : FilePlan) (config : Config) (line : ℕ) (why : MapError) (r : Result Printout E) → config_of plan.numbers ≡ Some config →

@@ -1,5 +1,6 @@
 -- Facts on the ends of the calls of a cluster file.
-use Rattle.std.specs.Prelude.{◌≡◌, ℕ, suc, List, [], ◌∷◌, Some, None, Result, Ok, Err, slice_get}
+use Rattle.std.specs.Prelude.{◌≡◌, ℕ, suc, Bool, true, false, List, [], ◌∷◌, Some, None, Result, Ok, Err, slice_get}
+use Rattle.std.specs.List.{list_any}
 use Rattle.pg_log.specs.Log.{Classes}
 use Rattle.cluster_file.specs.Planned.{PlannedCall}
 use Rattle.cluster_file.specs.Plan.{calls_of}
@@ -49,3 +50,12 @@ AreAllEnds classes steps all =
 abbrev pub shown : Result PlacedReply ExecError → CallEnd
 shown (Ok reply) = Replied reply.place reply.answer.code reply.answer.output
 shown (Err error) = Refused (exec_error_text error)
+
+-- a call was refused by its session
+abbrev pub is_refused : Result PlacedReply ExecError → Bool
+is_refused (Ok reply) = false
+is_refused (Err error) = true
+
+-- a call of some client was
+abbrev pub any_refused : List (List (Result PlacedReply ExecError)) → Bool
+any_refused all = list_any (λ ends. list_any is_refused ends) all

@@ -1,5 +1,6 @@
 -- The text that is printed of a cluster file, and why nothing was done.
-use Rattle.std.specs.Prelude.{◌≡◌, ◌⊎◌, ℕ, List, Option, Some, None, Ok, Err, Result, Bool, true, map, if◌then◌else◌}
+use Rattle.std.specs.Prelude.{◌≡◌, ◌⊎◌, ℕ, List, Option, Some, None, Ok, Err, Result, Bool, true, false, map}
+use Rattle.std.specs.Prelude.{if◌then◌else◌}
 use Rattle.std.specs.Io.KnownBytes.{Appends}
 use Rattle.class_tool.specs.Assembly.{TextFails}
 use Rattle.class_tool.specs.Files.{Disk, Holds}
@@ -16,12 +17,13 @@ use Rattle.rados_client.specs.declared.config_error.ConfigError.TheVariants as c
 use Rattle.rados_client.specs.declared.exec_error.ExecError.{ExecError}
 use Rattle.map_book.specs.declared.map_error.MapError.{MapError}
 use Rattle.map_book.specs.Refusal.{map_error_text}
-use Rattle.cluster_tool.specs.Answers.{shown}
+use Rattle.cluster_tool.specs.Answers.{any_refused, shown}
 use Rattle.cluster_tool.specs.Config.{config_of}
 use Rattle.cluster_tool.specs.Played.{AreDone, IsMapRefused}
 use Rattle.cluster_tool.specs.declared.asked.Clustering.{Clustering}
 use Rattle.cluster_tool.specs.declared.tool.ClusteringEnd.{ClusteringEnd}
-use Rattle.cluster_tool.specs.declared.tool.ClusteringEnd.TheVariants.{Done, Bad, Refused, NoMemory, Unprinted}
+use Rattle.cluster_tool.specs.declared.tool.ClusteringEnd.TheVariants.{Done, SomeRefused, Bad, Refused, NoMemory}
+use Rattle.cluster_tool.specs.declared.tool.ClusteringEnd.TheVariants.{Unprinted}
 
 -- A number of its first line is outside its limits.
 pub record IsLimit (plan : FilePlan) (printed : List ℕ) : Type 0 where
@@ -38,12 +40,19 @@ pub record IsWithin (plan : FilePlan) (P : Config → Type 0) : Type 0 where
 abbrev pub groups_if : Bool → Config → Option ℕ
 groups_if is_shown config = if is_shown then Some config.groups else None
 
--- Each call and each map was made: the lines of the calls' ends are printed, and the ends are true.
-pub record IsMade (is_shown : Bool) (classes : Classes) (plan : FilePlan) (printed : List ℕ)
+-- the end of a file whose calls were made, by whether one was refused
+abbrev pub end_by : Bool → ClusteringEnd
+end_by false = Done
+end_by true = SomeRefused
+
+-- Each call and each map was made: the lines of the calls' ends are printed, and the ends are true;
+-- and whether a call was refused.
+pub record IsMade (is_shown : Bool) (classes : Classes) (plan : FilePlan) (printed : List ℕ) (refused : Bool)
     (config : Config) : Type 0 where
   pub all : List (List (Result PlacedReply ExecError))
   pub done : AreDone classes config plan.steps all
   pub lines : printed ≡ all_lines (groups_if is_shown config) plan.steps 1 (map (map shown) all)
+  pub some : any_refused all ≡ refused
 
 -- A map of the file was refused.
 pub record IsMapLine (plan : FilePlan) (printed : List ℕ) (config : Config) : Type 0 where
@@ -66,12 +75,15 @@ IsRefused plan printed =
 -- malformed, the line that names the first such line, and nothing is done.
 abbrev pub IsPrintoutOf : Bool → Classes → Result FilePlan ℕ → List ℕ → ClusteringEnd → Type 0
 IsPrintoutOf is_shown classes (Ok plan) printed Done =
-    IsWithin plan (λ config. IsMade is_shown classes plan printed config)
+    IsWithin plan (λ config. IsMade is_shown classes plan printed false config)
+IsPrintoutOf is_shown classes (Ok plan) printed SomeRefused =
+    IsWithin plan (λ config. IsMade is_shown classes plan printed true config)
 IsPrintoutOf is_shown classes (Ok plan) printed Bad = ⊥
 IsPrintoutOf is_shown classes (Ok plan) printed Refused = IsRefused plan printed
 IsPrintoutOf is_shown classes (Ok plan) printed NoMemory = ⊥
 IsPrintoutOf is_shown classes (Ok plan) printed Unprinted = ⊥
 IsPrintoutOf is_shown classes (Err line) printed Done = ⊥
+IsPrintoutOf is_shown classes (Err line) printed SomeRefused = ⊥
 IsPrintoutOf is_shown classes (Err line) printed Bad = printed ≡ bad_line line
 IsPrintoutOf is_shown classes (Err line) printed Refused = ⊥
 IsPrintoutOf is_shown classes (Err line) printed NoMemory = ⊥
@@ -107,6 +119,8 @@ abbrev pub EndsSo : Bool → Classes → List (List ℕ) → List ℕ → Option
     ClusteringEnd → Type 0
 EndsSo is_shown classes names text old new failed fails Done =
     IsShown is_shown classes names text old new failed fails Done
+EndsSo is_shown classes names text old new failed fails SomeRefused =
+    IsShown is_shown classes names text old new failed fails SomeRefused
 EndsSo is_shown classes names text old new failed fails Bad =
     IsShown is_shown classes names text old new failed fails Bad
 EndsSo is_shown classes names text old new failed fails Refused =

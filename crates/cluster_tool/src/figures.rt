@@ -1,6 +1,8 @@
 //! Counts what a run takes. Nothing is proved of these numbers.
 
+use crate::latencies::Latencies;
 use osd::{DeliveryMode, Fate, Gate};
+use std::alloc::Global;
 use std::sync::atomic::{AtomicBool, AtomicU64, Ordering};
 use std::time::Clock;
 use std::{fmt, thread};
@@ -19,16 +21,20 @@ const QUIET_TURNS: u64 = 1_000;
 const TURN_LIMIT: u64 = 100_000;
 
 /// The counts of a run, from its first call on. All threads that play it add to them; they are
-/// shown as eight lines. Counts are modulo 2^64.
+/// shown as ten lines. Counts are modulo 2^64.
 #[derive(Drop)]
 pub struct Figures {
     /// True if the first call has begun, and when that was, in nanoseconds of the clock.
     has_begun: AtomicBool,
+    /// True if all calls were made and printed.
+    are_made: AtomicBool,
     start: AtomicU64,
     calls: AtomicU64,
     /// The nanoseconds of all calls, and of the longest.
     nanoseconds: AtomicU64,
     worst: AtomicU64,
+    /// How many calls took how long.
+    latencies: Latencies,
     /// When the last map began to be made and when the last answer came, in nanoseconds of the
     /// clock; 2^64 - 1 and 0 before the first.
     mapped: AtomicU64,
@@ -77,14 +83,17 @@ fn rate(count: u64, nanoseconds: u64) -> u128 {
 }
 
 impl Figures {
-    /// Of no run.
-    pub fn new() -> Figures {
+    /// Of no run. If memory for them is refused, the times that half and 99 of 100 calls take at most
+    /// are 0.
+    pub fn new(alloc: Global) -> Figures {
         Figures {
             has_begun: AtomicBool::new(false),
+            are_made: AtomicBool::new(false),
             start: AtomicU64::new(0),
             calls: AtomicU64::new(0),
             nanoseconds: AtomicU64::new(0),
             worst: AtomicU64::new(0),
+            latencies: Latencies::new(alloc),
             mapped: AtomicU64::new(u64::MAX),
             answered: AtomicU64::new(0),
             whole: AtomicU64::new(0),
@@ -133,6 +142,7 @@ impl Figures {
         add(&self.calls, 1);
         add(&self.nanoseconds, nanoseconds);
         self.worst.fetch_max(nanoseconds, Ordering::SeqCst);
+        self.latencies.note(nanoseconds);
         self.answered.fetch_max(end.unwrap_or(0), Ordering::SeqCst);
     }
 
@@ -157,6 +167,16 @@ impl Figures {
     /// Notes the nudges of a client.
     pub fn note_nudges(&self, nudges: u64) {
         add(&self.nudges, nudges);
+    }
+
+    /// Notes that all calls were made and printed.
+    pub(crate) fn note_made(&self) {
+        self.are_made.store(true, Ordering::SeqCst);
+    }
+
+    /// True if all calls were made and printed, so that these are their figures.
+    pub fn are_made(&self) -> bool {
+        self.are_made.load(Ordering::SeqCst)
     }
 
     /// Notes that the run has ended.
@@ -196,13 +216,19 @@ impl fmt::Display for Figures {
         let calls = self.calls.load(Ordering::SeqCst);
         let rate = rate(calls, self.whole.load(Ordering::SeqCst));
         let mean = self.nanoseconds.load(Ordering::SeqCst) / calls.max(1) / MICROSECOND;
+        let median = self.latencies.within(calls, 50) / MICROSECOND;
+        let most = self.latencies.within(calls, 99) / MICROSECOND;
         let worst = self.worst.load(Ordering::SeqCst) / MICROSECOND;
         let since_map = self.since_map() / MICROSECOND;
         let messages = self.messages.load(Ordering::SeqCst);
         let repeats = self.requests.load(Ordering::SeqCst).saturating_sub(calls);
         let nudges = self.nudges.load(Ordering::SeqCst);
         write!(f, "calls {calls}\ncalls a second {rate}\n")?;
-        write!(f, "mean microseconds {mean}\nworst microseconds {worst}\n")?;
+        write!(
+            f,
+            "mean microseconds {mean}\nmedian microseconds {median}\n"
+        )?;
+        write!(f, "99 % microseconds {most}\nworst microseconds {worst}\n")?;
         write!(f, "map to last answer microseconds {since_map}\n")?;
         write!(
             f,

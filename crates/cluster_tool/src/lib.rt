@@ -12,9 +12,11 @@ mod caller;
 mod config;
 mod crossing;
 mod figures;
+mod latencies;
 mod meter;
 mod played;
 mod playing;
+mod refused;
 mod shown;
 mod tool;
 

@@ -1,21 +1,25 @@
 //! The command `cluster`, from a file's name to what is printed.
 
-ghost use Rattle.std.specs.Prelude.{◌≡◌, IfOk, IfErr, IfSome, OnErr, Ok, map, string_bytes};
+ghost use Rattle.std.specs.Prelude.{◌≡◌, IfOk, IfErr, IfSome, IsTrue, OnErr, Ok, map, string_bytes};
+ghost use Rattle.placement.specs.Placement.{is_group_count};
 ghost use Rattle.cluster_file.specs.Plan.{plan_of};
-ghost use Rattle.cluster_file.specs.Text.{refused_line};
-ghost use Rattle.cluster_tool.specs.Clustering.{Clusters, ClusteringFails, IsPrintoutOf, Prints};
+ghost use Rattle.cluster_file.specs.Text.{all_lines, refused_line};
+ghost use Rattle.cluster_tool.specs.Answers.{any_refused, shown};
+ghost use Rattle.cluster_tool.specs.Clustering.{Clusters, ClusteringFails, IsPrintoutOf, Prints, end_by};
 
 use crate::asked::Clustering;
 use crate::config::config_of;
+use crate::figures::Figures;
 use crate::meter::Meter;
 use crate::played::Played;
 use crate::playing::play;
+use crate::refused::any_refused;
 use crate::shown::{groups_if, lines_of};
 use class_tool::{Failure, Output, Reads, read_text};
-use cluster_file::{Plan, Reading, bad_line, read_plan, refused_line};
+use cluster_file::{Plan, PlannedStep, Reading, bad_line, read_plan, refused_line};
 use osd::ClusterParts;
 use pg_log::ClassTable;
-use rados_client::ConfigError;
+use rados_client::{ConfigError, ExecError, Reply};
 use std::alloc::{AllocError, Global};
 use std::fmt::Display;
 use std::io;
@@ -28,8 +32,10 @@ use tenant_classes::{class_names, classes};
 /// The end of a file.
 #[derive(Clone, Copy, Drop)]
 pub enum ClusteringEnd {
-    /// Each call was made, refused ones too, and all lines were printed.
+    /// Each call was made, none was refused, and all lines were printed.
     Done,
+    /// Each call was made, one or more were refused, and all lines were printed.
+    SomeRefused,
     /// A line is malformed; its line was printed alone, and nothing was done.
     Bad,
     /// The cluster or a map is refused; a line that says so was printed alone.
@@ -85,24 +91,39 @@ pub fn cluster<
     let table = classes(alloc, files, &asked.tenants)?;
     let names = class_names(alloc, &asked.tenants)?;
     let text = read_text(alloc, files, asked.file)?;
+    let figures = meter.figures();
     let extras = Extras {
         meter,
         is_shown: asked.is_shown,
     };
     match settle(rt, table, &names, &text, extras) {
-        Ok(printout) => Ok(print(printout, out)),
+        Ok(printout) => Ok(print(printout, figures, out)),
         Err(_) => Ok(ClusteringEnd::NoMemory),
     }
 }
 
+/// Notes that the calls were made and printed, if they were.
+fn note_end(ending: ClusteringEnd, figures: &Figures) {
+    match ending {
+        ClusteringEnd::Done | ClusteringEnd::SomeRefused => figures.note_made(),
+        ClusteringEnd::Bad
+        | ClusteringEnd::Refused
+        | ClusteringEnd::NoMemory
+        | ClusteringEnd::Unprinted => {}
+    }
+}
+
 /// Prints a file's outcome.
-fn print<O: Output>(printout: Printout, out: &mut O) -> ClusteringEnd
+fn print<O: Output>(printout: Printout, figures: &Figures, out: &mut O) -> ClusteringEnd
     ensures { Prints (string_bytes printout.text) printout.ending (O.printed out.old) (O.printed out.new)
         (O.failed out.old) (O.failed out.new) result }
 {
     let ending = printout.ending;
     match out.print(printout.text.as_str()) {
-        Ok(()) => ending,
+        Ok(()) => {
+            note_end(ending, figures);
+            ending
+        }
         Err(_) => ClusteringEnd::Unprinted,
     }
 }
@@ -139,6 +160,27 @@ fn refused<E: Display + Drop>(alloc: Global, line: usize, why: E) -> Result<Prin
     })
 }
 
+/// The lines of calls that ended so.
+fn made(
+    alloc: Global,
+    groups: Option<u64>,
+    steps: &[PlannedStep],
+    ends: &[Vec<Result<Reply, ExecError>>],
+) -> Result<Printout, AllocError>
+    requires { IfSome groups (λ n. IsTrue (is_group_count n)) }
+    ensures text { IfOk result (λ o. string_bytes o.text ≡
+        all_lines groups steps.now 1 (map (map shown) (map (λ v. v.items) ends.now))) }
+    ensures ending { IfOk result (λ o. o.ending ≡ end_by (any_refused (map (λ v. v.items) ends.now))) }
+{
+    let text = lines_of(alloc, groups, steps, ends)?;
+    let ending = if any_refused(ends) {
+        ClusteringEnd::SomeRefused
+    } else {
+        ClusteringEnd::Done
+    };
+    Ok(Printout { text, ending })
+}
+
 /// Plays a plan.
 fn settle_plan<R: AllocGlobal + Threads + Wait + Clock + Sync + Drop, E: io::Write>(
     rt: R,
@@ -158,10 +200,7 @@ fn settle_plan<R: AllocGlobal + Threads + Wait + Clock + Sync + Drop, E: io::Wri
     };
     // The call picks the cluster's names: parts and classes are there already.
     match play::<Brand, R, E>(rt, parts, table, plan, extras.meter) {
-        Ok(Played::Done(ends)) => Ok(Printout {
-            text: lines_of(alloc, groups, plan.steps(), &ends)?,
-            ending: ClusteringEnd::Done,
-        }),
+        Ok(Played::Done(ends)) => made(alloc, groups, plan.steps(), &ends),
         Ok(Played::MapRefused(line, why)) => refused(alloc, line, why),
         Ok(Played::NoMemory) => Err(AllocError),
         Err(_) => refused(alloc, 1, ConfigError::NoMemory),

@@ -3,7 +3,7 @@
 -- [--load FILE] [--save FILE] [--show] [--trace] [--explain]`, `test IN FILE [--trace] [--explain]`,
 -- `asm IN OUT [--explain]`, `pack OUT METHOD .. [--rules N] [--explain]`, `dis IN [--slots]
 -- [--explain]`, `sim FILE [--class NAME=IMAGE ..] [--trace] [--explain]`, and `cluster FILE [--class
--- NAME=IMAGE ..] [--show] [--stats]`.
+-- NAME=IMAGE ..] [--show] [--stats] [--strict]`.
 use Rattle.std.specs.Prelude.{[], ◌∷◌, Option, Some, true, codes}
 use Rattle.clap.specs.Lexer.{usize_max}
 use Rattle.clap.specs.Words.{App, Rule, Text, new_app, new_rule, with_rule, with_subcommand}
@@ -112,11 +112,15 @@ sim_line = with_rule (with_rule (with_rule (with_rule (new_app (codes "sim")) (r
 abbrev pub stats_rule : Rule
 stats_rule = flag_rule (codes "stats")
 
+-- the flag that has refused calls change the status
+abbrev pub strict_rule : Rule
+strict_rule = flag_rule (codes "strict")
+
 -- `cluster`, which plays a file of calls and maps
 abbrev pub cluster_line : App
 cluster_line =
-    with_rule (with_rule (with_rule (with_rule (new_app (codes "cluster")) (required_rule (codes "FILE"))) class_rule)
-    (flag_rule (codes "show"))) stats_rule
+    with_rule (with_rule (with_rule (with_rule (with_rule (new_app (codes "cluster")) (required_rule (codes "FILE")))
+    class_rule) (flag_rule (codes "show"))) stats_rule) strict_rule
 
 -- the program's name, which wants a subcommand
 abbrev pub plain_line : App

@@ -227,8 +227,9 @@ fn cluster_command<'a>(alloc: Global) -> Result<Command<'a>, AllocError>
     let help = "Shows in each line what the call asked: its object's group, and the request";
     let show = flag(alloc, "show", help);
     let stats = flag(alloc, "stats", "Writes what the run took to standard error");
+    let strict = flag(alloc, "strict", "Ends with 1 if a call is refused");
     let of_classes = with_arg(with_arg(of_calls, class_option(alloc)), show);
-    with_arg(of_classes, stats)
+    with_arg(with_arg(of_classes, stats), strict)
 }
 
 /// The command without its subcommands. Words have to name one of them.

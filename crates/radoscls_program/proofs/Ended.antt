@@ -2,7 +2,9 @@
 use Rattle.std.proofs.Common.{◌≡◌, ◌≢◌, ◌∙◌, inl, inr, refl, sym, ap, arith, Bool, true, false, List, ℕ, Option, Result, Ok, Err, IfOk, IfErr}
 use Rattle.command_line.specs.Parsed.{IsMemory, Text}
 use Rattle.command_line.specs.declared.unparsed.Unparsed.{Unparsed}
-use Rattle.class_tool.specs.Files.{Storage}
+use Rattle.class_tool.specs.Files.{Disk, Storage}
+use Rattle.radoscls_program.specs.Clustered.{ClusterEnds}
+use Rattle.radoscls_program.specs.declared.task.ClusterTask.{ClusterTask}
 use Rattle.class_tool.specs.declared.action.Action.{Action}
 use Rattle.class_tool.specs.declared.action.Action.TheVariants.{Run}
 use Rattle.class_tool.specs.declared.action_result.ActionResult.{ActionResult}
@@ -91,11 +93,16 @@ plays_well : (b : Bool) (classes : Classes) (names : List (List ℕ)) (text : Li
 plays_well true classes names text old new failed fails shows = shows.shown.well
 plays_well false classes names text old new failed fails prints = prints.shown.well
 
+-- nor did a file of calls that were made, whether or not some were refused
+ran_well : (disk : Option Disk) (old new : Stream) (task : ClusterTask) → ClusterEnds disk old new task Done → new.failed ≡ old.failed
+ran_well disk old new task (inl ran) = ran.ends.well
+ran_well disk old new task (inr refused) = refused.1.ends.well
+
 -- nor does anything that is done
 done_well : (before after : Storage) (old new : Stream) (words : List Text) → IsDone before after old new words → new.failed ≡ old.failed
 done_well before after old new words (inl answered) = answered.printed.well
 done_well before after old new words (inr (inl played)) = let p = played.ended in plays_well played.simulation.is_drawn p.classes _ p.text _ _ _ _ p.played
-done_well before after old new words (inr (inr (inl ran))) = ran.ended.ends.well
+done_well before after old new words (inr (inr (inl ran))) = ran_well before.disk old new ran.asked ran.ended
 done_well before after old new words (inr (inr (inr (inl each)))) = each.ended.printed.well
 done_well before after old new words (inr (inr (inr (inr tests)))) = tests.ended.shown.1.well
 

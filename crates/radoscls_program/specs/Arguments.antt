@@ -142,14 +142,17 @@ pub record TakesTest (p : Parsed) (asked : Testing) : Type 0 where
   pub file : one_in p (codes "FILE") ≡ Some asked.file.now
   pub traced : asked.is_traced ≡ is_set_in p (codes "trace")
 
--- a task is one of these; --explain has a failure explained, and --stats has a run measured
+-- a task is one of these; --explain has a failure explained, --stats has a run measured, and with
+-- --strict a refused call changes the status
 abbrev pub TakesTask : Parsed → Task → Type 0
 TakesTask p (task.Class action is_explained) = TakesAction p action × (is_explained ≡ is_set_in p (codes "explain"))
 TakesTask p (task.Each image is_explained) = TakesEach p image.now × (is_explained ≡ is_set_in p (codes "explain"))
 TakesTask p (task.Run call is_explained) = TakesCall p call × (is_explained ≡ is_set_in p (codes "explain"))
 TakesTask p (task.Test asked is_explained) = TakesTest p asked × (is_explained ≡ is_set_in p (codes "explain"))
 TakesTask p (task.Sim s) = TakesSim p s
-TakesTask p (task.Cluster c) = TakesCluster p c.clustering × (c.is_measured ≡ is_set_in p (codes "stats"))
+TakesTask p (task.Cluster c) =
+    TakesCluster p c.clustering × (c.is_measured ≡ is_set_in p (codes "stats"))
+    × (c.is_strict ≡ is_set_in p (codes "strict"))
 
 -- the subcommand of a task
 abbrev pub subcommand_for : Action → Text

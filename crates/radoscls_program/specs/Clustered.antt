@@ -1,5 +1,5 @@
 -- The run of a file of calls and maps on a cluster, and the text that it printed.
-use Rattle.std.specs.Prelude.{◌⊎◌, Option}
+use Rattle.std.specs.Prelude.{◌≡◌, ◌⊎◌, Bool, true, false, Option}
 use Rattle.class_tool.specs.Files.{Disk}
 use Rattle.class_tool.specs.declared.failure.Failure.{Failure}
 use Rattle.class_tool.specs.declared.failure.Failure.TheVariants.{NoMemory}
@@ -8,6 +8,7 @@ use Rattle.cluster_tool.specs.declared.tool.ClusteringEnd.{ClusteringEnd}
 use Rattle.cluster_tool.specs.declared.tool.ClusteringEnd.TheVariants as ending
 use Rattle.cluster_tool.specs.declared.asked.Clustering.{Clustering}
 use Rattle.radoscls_program.specs.Streams.{Stream, IsPrinted, failure_line}
+use Rattle.radoscls_program.specs.declared.task.ClusterTask.{ClusterTask}
 use Rattle.radoscls_program.specs.declared.status.ExitStatus.{ExitStatus}
 use Rattle.radoscls_program.specs.declared.status.ExitStatus.TheVariants.{Done, Refused, Usage}
 
@@ -25,12 +26,21 @@ abbrev pub IsBarred : Option Disk → Stream → Stream → Clustering → Type 
 IsBarred disk old new c =
     (failure : Failure) × ClusteringFails disk c failure × IsPrinted old new (failure_line failure)
 
+-- each call was made, and some were refused: with --strict that is no success
+abbrev pub HasRefused : Option Disk → Stream → Stream → ClusterTask → Bool → Type 0
+HasRefused disk old new task is_strict =
+    (task.is_strict ≡ is_strict) × Ran disk old new task.clustering ending.SomeRefused
+
 -- The ends of a run of a file: each call was made, and its line shows the answer that its session
 -- gave; or a line is bad, the cluster or a map is refused, a write or a flush failed, memory was
--- refused, or nothing was done.
-abbrev pub ClusterEnds : Option Disk → Stream → Stream → Clustering → ExitStatus → Type 0
-ClusterEnds disk old new c Done = Ran disk old new c ending.Done
-ClusterEnds disk old new c Refused =
-    Ran disk old new c ending.Bad ⊎ Ran disk old new c ending.Refused ⊎ Ran disk old new c ending.Unprinted
+-- refused, or nothing was done. If a call was refused by its session, the status is 1 with --strict,
+-- and else 0.
+abbrev pub ClusterEnds : Option Disk → Stream → Stream → ClusterTask → ExitStatus → Type 0
+ClusterEnds disk old new task Done =
+    Ran disk old new task.clustering ending.Done ⊎ HasRefused disk old new task false
+ClusterEnds disk old new task Refused =
+    let c = task.clustering in
+    HasRefused disk old new task true ⊎ Ran disk old new c ending.Bad ⊎ Ran disk old new c ending.Refused ⊎
+    Ran disk old new c ending.Unprinted
     ⊎ IsCut disk old new c ⊎ IsBarred disk old new c
-ClusterEnds disk old new c Usage = ⊥
+ClusterEnds disk old new task Usage = ⊥

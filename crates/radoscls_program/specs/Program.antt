@@ -122,7 +122,7 @@ pub record IsRun (before after : Storage) (old new : Stream) (words : List Text)
   pub asked : ClusterTask
   pub named : AreFor words (task.Cluster asked)
   pub left : after ≡ before
-  pub ended : ClusterEnds before.disk old new asked.clustering status
+  pub ended : ClusterEnds before.disk old new asked status
 
 -- why the program ended with 0
 abbrev pub IsDone : Storage → Storage → Stream → Stream → List Text → Type 0
@@ -211,4 +211,4 @@ TaskEnds before after old new (task.Test asked is_explained) status =
 TaskEnds before after old new (task.Sim simulation) status =
     (after ≡ before) × SimEnds before.disk old new simulation status
 TaskEnds before after old new (task.Cluster asked) status =
-    (after ≡ before) × ClusterEnds before.disk old new asked.clustering status
+    (after ≡ before) × ClusterEnds before.disk old new asked status

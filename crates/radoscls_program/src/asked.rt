@@ -109,6 +109,7 @@ fn cluster_task<'a>(alloc: Global, words: &ParsedWords<'a>) -> Result<Task<'a>, 
     Ok(Task::Cluster(ClusterTask {
         clustering,
         is_measured: words.is_set("stats"),
+        is_strict: words.is_set("strict"),
     }))
 }
 

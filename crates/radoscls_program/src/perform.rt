@@ -136,19 +136,19 @@ fn measure<R: AllocGlobal + Threads + Wait + Clock + Sync, F: Reads, O: Output, 
     err: &mut E,
 ) -> ExitStatus
     ensures { ClusterEnds (F.disk files.now) (stream O.printed O.failed out.old)
-        (stream O.printed O.failed out.new) task.now.clustering result }
+        (stream O.printed O.failed out.new) task.now result }
 {
-    let figures = Figures::new();
+    let figures = Figures::new(rt.alloc());
     let lines = if task.is_measured {
         Some(&mut *err)
     } else {
         None
     };
     let mut meter = Meter::new(&figures, lines);
-    let status = play_cluster(rt, files, &task.clustering, &mut meter, out);
+    let status = play_cluster(rt, files, task, &mut meter, out);
     // The meter wrote to `err` too.
     drop(meter);
-    if task.is_measured && status == ExitStatus::Done {
+    if task.is_measured && figures.are_made() {
         let _ = write!(err, "{figures}");
     }
     status

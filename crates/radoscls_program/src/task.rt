@@ -47,6 +47,8 @@ pub(crate) struct ClusterTask<'a> {
     pub(crate) clustering: Clustering<'a>,
     /// True if its figures are written.
     pub(crate) is_measured: bool,
+    /// True if a refused call changes the status.
+    pub(crate) is_strict: bool,
 }
 
 /// A task that words ask for.

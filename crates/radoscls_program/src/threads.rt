@@ -3,27 +3,35 @@ ghost use Rattle.radoscls_program.specs.Clustered.{ClusterEnds};
 ghost use Rattle.radoscls_program.specs.Streams.{stream};
 
 use crate::status::ExitStatus;
+use crate::task::ClusterTask;
 use crate::telling::refuse;
 use class_tool::{Failure, Output, Reads};
-use cluster_tool::{Clustering, ClusteringEnd, Meter, cluster};
+use cluster_tool::{ClusteringEnd, Meter, cluster};
 use std::io;
 use std::sync::Wait;
 use std::thread::Threads;
 use std::time::Clock;
 
 /// Plays a file of calls and maps, and prints why if that comes to nothing or ends for want of
-/// memory.
+/// memory. If calls were refused, the task says whether that is a success.
 pub(crate) fn play_cluster<
     R: AllocGlobal + Threads + Wait + Clock + Sync,
     F: Reads,
     O: Output,
     E: io::Write,
->(rt: &R, files: &F, asked: &Clustering<'_>, meter: &mut Meter<'_, E>, out: &mut O) -> ExitStatus
+>(rt: &R, files: &F, task: &ClusterTask<'_>, meter: &mut Meter<'_, E>, out: &mut O) -> ExitStatus
     ensures { ClusterEnds (F.disk files.now) (stream O.printed O.failed out.old)
-        (stream O.printed O.failed out.new) asked.now result }
+        (stream O.printed O.failed out.new) task.now result }
 {
-    match cluster(rt, files, asked, meter, out) {
+    match cluster(rt, files, &task.clustering, meter, out) {
         Ok(ClusteringEnd::Done) => ExitStatus::Done,
+        Ok(ClusteringEnd::SomeRefused) => {
+            if task.is_strict {
+                ExitStatus::Refused
+            } else {
+                ExitStatus::Done
+            }
+        }
         Ok(ClusteringEnd::Bad) => ExitStatus::Refused,
         Ok(ClusteringEnd::Refused) => ExitStatus::Refused,
         Ok(ClusteringEnd::Unprinted) => ExitStatus::Refused,

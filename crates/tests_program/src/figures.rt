@@ -52,7 +52,7 @@ fn figures_are_shown(rt: HostRuntime) {
         nanoseconds: &RUN,
         next: Cell::new(0),
     };
-    let figures = Figures::new();
+    let figures = Figures::new(rt.alloc());
     // what comes before the first call isn't counted, and there is one first call
     figures.before(0);
     assert!(&rt; figures.of(0, 0) == DeliveryMode::Pass);
@@ -75,8 +75,8 @@ fn figures_are_shown(rt: HostRuntime) {
     figures.note_nudges(2);
     figures.note_nudges(3);
     let shown = figures.to_string(rt.alloc()).expect(&rt, "memory");
-    let wanted =
-        "calls 3\ncalls a second 1\nmean microseconds 4\nworst microseconds 9\nmap to last answer microseconds \
+    let wanted = "calls 3\ncalls a second 1\nmean microseconds 4\nmedian microseconds 3\n\
+    99 % microseconds 9\nworst microseconds 9\nmap to last answer microseconds \
     7\nmessages 4\nrepeats 2\nnudges 5\n";
     assert!(&rt; shown.as_str() == wanted);
 }
@@ -88,13 +88,13 @@ fn figures_without_a_clock(rt: HostRuntime) {
         nanoseconds: &[],
         next: Cell::new(0),
     };
-    let figures = Figures::new();
+    let figures = Figures::new(rt.alloc());
     figures.note_map(&clock);
     figures.note_call(&clock, now(&clock));
     figures.note_whole(&clock);
     let shown = figures.to_string(rt.alloc()).expect(&rt, "memory");
-    let wanted =
-        "calls 1\ncalls a second 0\nmean microseconds 0\nworst microseconds 0\nmap to last answer microseconds \
+    let wanted = "calls 1\ncalls a second 0\nmean microseconds 0\nmedian microseconds 0\n\
+    99 % microseconds 0\nworst microseconds 0\nmap to last answer microseconds \
     0\nmessages 0\nrepeats 0\nnudges 0\n";
     assert!(&rt; shown.as_str() == wanted);
 }
@@ -115,7 +115,7 @@ fn a_line_a_second_is_told(rt: HostRuntime) {
         nanoseconds: &LOOKS,
         next: Cell::new(0),
     };
-    let figures = Figures::new();
+    let figures = Figures::new(rt.alloc());
     let mut told = Vec::new(rt.alloc());
     let mut meter = Meter::new(&figures, Some(&mut told));
     meter.begin(&clock, 10);
@@ -137,7 +137,7 @@ fn a_line_a_second_is_told(rt: HostRuntime) {
 /// Where no line is wanted, no clock is looked at.
 #[test]
 fn no_line_is_told_unasked(rt: HostRuntime) {
-    let figures = Figures::new();
+    let figures = Figures::new(rt.alloc());
     let meter = Meter::<Vec<u8>>::new(&figures, None);
     assert!(&rt; !meter.is_due(usize::MAX));
 }

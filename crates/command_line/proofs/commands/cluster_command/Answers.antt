@@ -5,10 +5,12 @@ pub returns-clause-line : goal.returns-clause-line
 returns-clause-line c =
     let class = arg_line _ _ _ _ _ c.with_arg.ensures c.class_option.ensures.local c.class_option.ensures.rule c.file_command-of_calls.ensures.line in
     let show = arg_line _ _ _ _ _ c.with_arg-of_classes.ensures c.flag-show.ensures.local c.flag-show.ensures.rule class in
-    arg_line _ _ _ _ _ c.with_arg-2.ensures c.flag-stats.ensures.local c.flag-stats.ensures.rule show
+    let stats = arg_line _ _ _ _ _ c.with_arg-2.ensures c.flag-stats.ensures.local c.flag-stats.ensures.rule show in
+    arg_line _ _ _ _ _ c.with_arg-3.ensures c.flag-strict.ensures.local c.flag-strict.ensures.rule stats
 
 pub returns-clause-local : goal.returns-clause-local
 returns-clause-local c =
     let class = arg_local _ _ _ c.with_arg.ensures c.class_option.ensures.local c.file_command-of_calls.ensures.local in
     let show = arg_local _ _ _ c.with_arg-of_classes.ensures c.flag-show.ensures.local class in
-    arg_local _ _ _ c.with_arg-2.ensures c.flag-stats.ensures.local show
+    let stats = arg_local _ _ _ c.with_arg-2.ensures c.flag-stats.ensures.local show in
+    arg_local _ _ _ c.with_arg-3.ensures c.flag-strict.ensures.local stats
