@@ -1,18 +1,23 @@
 -- Testing one method after the other, as a loop does, and what methods that pass are.
-use Rattle.std.proofs.Common.{◌≡◌, ℕ, ◌+◌, ◌<◌, ◌≤◌, Bool, true, false, List, [], ◌∷◌, ◌++◌, length, get_or, take, drop, Result, Ok, Err, refl, sym, ap, subst, ◌∙◌, append_assoc, arith}
+use Rattle.std.proofs.Common.{◌≡◌, ℕ, ◌+◌, ◌<◌, ◌≤◌, Bool, true, false, List, [], ◌∷◌, ◌++◌, length, get_or, take, drop, Option, Some, None, Result, Ok, Err, refl, sym, ap, subst, ◌∙◌, append_assoc, arith}
+use Rattle.std.specs.Prelude.{if◌then◌else◌}
 use Rattle.std.specs.List.{AllByRecursion}
 use Rattle.std.specs.Cmp.Lexicographic.{slice_cmp}
 use Rattle.std.specs.Ordering.{nat_cmp}
 use Rattle.std.specs.declared.cmp.Ordering.TheVariants.{Less}
 use Rattle.std.proofs.lemmas.List.{append-nil, drop_more, take_more, take_all, drop_all}
 use Rattle.bpf_decode.specs.declared.decode_error.DecodeError.{DecodeError}
-use Rattle.bpf_decode.specs.declared.decode_error.DecodeError.TheVariants.{Name, Order, Flags, Limit}
+use Rattle.bpf_decode.specs.declared.decode_error.DecodeError.TheVariants.{Name, Order, Flags, Limit, Head}
 use Rattle.bpf_decode.specs.declared.image_error.ImageError.{ImageError}
 use Rattle.bpf_decode.specs.Instruction.{AllFit, slot_total}
 use Rattle.bpf_decode.specs.declared.rule_set.RuleSet.{RuleSet}
-use Rattle.bpf_decode.specs.Class.{ClassMethod, IsMethod, IsClass, IsWithinSet, AreWithinSet}
+use Rattle.loop_heads.specs.Loops.{PlainHead, PlainLoops}
+use Rattle.loop_bytes.specs.HeadBytes.{StartAt, AreLoopsOf}
+use Rattle.bpf_decode.specs.declared.insn.Insn.{Insn}
+use Rattle.bpf_decode.specs.declared.rule_set.RuleSet.TheVariants.{One, Two, Three}
+use Rattle.bpf_decode.specs.Class.{ClassMethod, starts, LoopsHold, MayLoop, IsMethod, IsClass, IsWithinSet, AreWithinSet}
 use Rattle.bpf_decode.specs.Reading.{◌>>=◌, checked}
-use Rattle.bpf_decode.specs.ImageReading.{after, is_above, method_after, methods_after, methods_of}
+use Rattle.bpf_decode.specs.ImageReading.{after, is_above, unless, heads_refusal, loops_refusal, method_after, methods_after, methods_of}
 use Rattle.bpf_decode.proofs.Bytes.{bind_ok, checked_ok}
 use Rattle.bpf_decode.specs.Limits.{between, are_name_bytes, capacity_limit}
 use Rattle.bpf_decode.proofs.ImageFields.{between-true, between-is, limit_wide, letters_are, letters_again, above_is, above_again}
@@ -26,21 +31,25 @@ Tested = Result (List ClassMethod) ImageError
 abbrev pub with_front : List ClassMethod → Tested → Tested
 with_front front read = read >>= λ others. Ok (front ++ others)
 
-abbrev pub AllCodeFits : List ClassMethod → Type 0
-AllCodeFits ms = AllByRecursion (λ m. AllFit m.instructions) ms
+-- what holds of a method's numbers whatever it is, and of all methods
+abbrev pub Holds : ClassMethod → Type 0
+Holds m = AllFit m.instructions × LoopsHold m.loops
+
+abbrev pub AllHold : List ClassMethod → Type 0
+AllHold ms = AllByRecursion Holds ms
 
 -- the methods before this one passed, the last of that name
 pub record Progress (rules : RuleSet) (ms : List ClassMethod) (done : ℕ) (before : List ℕ) : Type 0 where
   pub so_far : with_front (take done ms) (methods_after rules done before (drop done ms)) ≡ methods_after rules 0 [] ms
-  pub fit : AllCodeFits (take done ms)
+  pub hold : AllHold (take done ms)
 
 regroup : (front : List ClassMethod) (m : ClassMethod) (read : Tested) → with_front front (read >>= λ others. Ok (m ∷ others)) ≡ with_front (front ++ m ∷ []) read
 regroup front m (Ok others) = ap (λ (ms : List ClassMethod). Ok ms) (sym (append_assoc front (m ∷ []) others))
 regroup front m (Err e) = refl
 
-code_fits-push : (ms : List ClassMethod) (m : ClassMethod) → AllCodeFits ms → AllFit m.instructions → AllCodeFits (ms ++ m ∷ [])
-code_fits-push [] m all one = (one, tt)
-code_fits-push (n ∷ ms) m all one = (all.0, code_fits-push ms m all.1 one)
+holds-push : (ms : List ClassMethod) (m : ClassMethod) → AllHold ms → Holds m → AllHold (ms ++ m ∷ [])
+holds-push [] m all one = (one, tt)
+holds-push (n ∷ ms) m all one = (all.0, holds-push ms m all.1 one)
 
 abbrev first_tested : RuleSet → ℕ → List ℕ → List ClassMethod → Result ClassMethod DecodeError → Tested
 first_tested rules done name ms read = after done read >>= λ first. methods_after rules (done + 1) name ms >>= λ others. Ok (first ∷ others)
@@ -53,15 +62,15 @@ one_more rules done before m ms read h = ap (first_tested rules done m.name ms) 
 here : (ms : List ClassMethod) (done : ℕ) (m : ClassMethod) → done < length ms → m ≡ get_or ms done m → drop done ms ≡ m ∷ drop (done + 1) ms
 here ms done m lt is = drop_more ms done m lt ∙ ap (λ (x : ClassMethod). x ∷ drop (done + 1) ms) (sym is)
 
-pub goes_on : (rules : RuleSet) (ms : List ClassMethod) (done : ℕ) (before : List ℕ) (m : ClassMethod) → done < length ms → m ≡ get_or ms done m → method_after rules before m ≡ Ok m → AllFit m.instructions → Progress rules ms done before → Progress rules ms (done + 1) m.name
-goes_on rules ms done before m lt is h fit p =
+pub goes_on : (rules : RuleSet) (ms : List ClassMethod) (done : ℕ) (before : List ℕ) (m : ClassMethod) → done < length ms → m ≡ get_or ms done m → method_after rules before m ≡ Ok m → Holds m → Progress rules ms done before → Progress rules ms (done + 1) m.name
+goes_on rules ms done before m lt is h hold p =
     let front = take done ms in
     let behind = drop (done + 1) ms in
     let more : take (done + 1) ms ≡ front ++ m ∷ [] = take_more ms done m lt ∙ ap (λ (x : ClassMethod). front ++ x ∷ []) (sym is) in
     let one : with_front front (methods_after rules done before (drop done ms)) ≡ with_front (take (done + 1) ms) (methods_after rules (done + 1) m.name behind) =
     ap (λ (xs : List ClassMethod). with_front front (methods_after rules done before xs)) (here ms done m lt is) ∙ ap (with_front front) (one_more rules done before m behind (Ok m) h)
     ∙ regroup front m (methods_after rules (done + 1) m.name behind) ∙ ap (λ (xs : List ClassMethod). with_front xs (methods_after rules (done + 1) m.name behind)) (sym more) in
-    record { so_far = sym one ∙ p.so_far; fit = subst (λ (xs : List ClassMethod). AllCodeFits xs) (sym more) (code_fits-push front m p.fit fit) }
+    record { so_far = sym one ∙ p.so_far; hold = subst (λ (xs : List ClassMethod). AllHold xs) (sym more) (holds-push front m p.hold hold) }
 
 abbrev by_count : RuleSet → List ClassMethod → Bool → Tested
 by_count rules ms b = after 0 (checked b Limit ms) >>= λ some. methods_after rules 0 [] ms
@@ -86,30 +95,80 @@ unfolding methods_after
 all_pass rules ms done before some le p =
     counted rules ms some ∙ sym p.so_far ∙ ap (λ (xs : List ClassMethod). with_front (take done ms) (methods_after rules done before xs)) (drop_all done ms le) ∙ ap (λ (xs : List ClassMethod). Ok xs) (append-nil (take done ms) ∙ take_all done ms le)
 
-pub all_fit : (rules : RuleSet) (ms : List ClassMethod) (done : ℕ) (before : List ℕ) → length ms ≤ done → Progress rules ms done before → AllCodeFits ms
-all_fit rules ms done before le p = subst (λ (xs : List ClassMethod). AllCodeFits xs) (take_all done ms le) p.fit
+pub all_hold : (rules : RuleSet) (ms : List ClassMethod) (done : ℕ) (before : List ℕ) → length ms ≤ done → Progress rules ms done before → AllHold ms
+all_hold rules ms done before le p = subst (λ (xs : List ClassMethod). AllHold xs) (take_all done ms le) p.hold
 
 -- ---- methods that pass are a class
 
 abbrev above : List ℕ → List ℕ → Type 0
 above before name = slice_cmp nat_cmp before name ≡ Less
 
-method_passes : (rules : RuleSet) (before : List ℕ) (m x : ClassMethod) → AllFit m.instructions → method_after rules before m ≡ Ok x → IsMethod m × above before m.name × IsWithinSet rules m
-method_passes rules before m x fit e =
-    let a = bind_ok (checked (between 1 NAME_LIMIT (length m.name)) Name m) (λ y. checked (are_name_bytes m.name) Name m >>= λ y. checked (is_above before m.name) Order m >>= λ y. checked (between 1 3 m.flags) Flags m >>= λ y. checked (between 0 (capacity_limit rules) m.in_cap) Limit m >>= λ y. checked (between 0 (capacity_limit rules) m.out_cap) Limit m >>= λ y. checked (between 1 SLOT_LIMIT (slot_total m.instructions)) Limit m) x e in
-    let b = bind_ok (checked (are_name_bytes m.name) Name m) (λ y. checked (is_above before m.name) Order m >>= λ y. checked (between 1 3 m.flags) Flags m >>= λ y. checked (between 0 (capacity_limit rules) m.in_cap) Limit m >>= λ y. checked (between 0 (capacity_limit rules) m.out_cap) Limit m >>= λ y. checked (between 1 SLOT_LIMIT (slot_total m.instructions)) Limit m) x a.2 in
-    let c = bind_ok (checked (is_above before m.name) Order m) (λ y. checked (between 1 3 m.flags) Flags m >>= λ y. checked (between 0 (capacity_limit rules) m.in_cap) Limit m >>= λ y. checked (between 0 (capacity_limit rules) m.out_cap) Limit m >>= λ y. checked (between 1 SLOT_LIMIT (slot_total m.instructions)) Limit m) x b.2 in
-    let d = bind_ok (checked (between 1 3 m.flags) Flags m) (λ y. checked (between 0 (capacity_limit rules) m.in_cap) Limit m >>= λ y. checked (between 0 (capacity_limit rules) m.out_cap) Limit m >>= λ y. checked (between 1 SLOT_LIMIT (slot_total m.instructions)) Limit m) x c.2 in
-    let f = bind_ok (checked (between 0 (capacity_limit rules) m.in_cap) Limit m) (λ y. checked (between 0 (capacity_limit rules) m.out_cap) Limit m >>= λ y. checked (between 1 SLOT_LIMIT (slot_total m.instructions)) Limit m) x d.2 in
-    let g = bind_ok (checked (between 0 (capacity_limit rules) m.out_cap) Limit m) (λ y. checked (between 1 SLOT_LIMIT (slot_total m.instructions)) Limit m) x f.2 in
+-- ---- loops
+
+abbrev after_start : Bool → ℕ → Option DecodeError → Option DecodeError
+after_start b slot others = if b then others else Some (Head slot)
+
+began : (b : Bool) (slot : ℕ) (others : Option DecodeError) → after_start b slot others ≡ None → (b ≡ true) × (others ≡ None)
+began true slot others e = (refl, e)
+began false slot others e = absurd cc
+
+heads_pass : (starts : List Bool) (hs : List PlainHead) → heads_refusal starts hs ≡ None → AllByRecursion (λ h. StartAt starts h.slot) hs
+heads_pass starts [] e = tt
+heads_pass starts (h ∷ hs) e =
+    let b = began (get_or starts h.slot false) h.slot (heads_refusal starts hs) e in
+    (b.0, heads_pass starts hs b.1)
+
+heads_pass_again : (starts : List Bool) (hs : List PlainHead) → AllByRecursion (λ h. StartAt starts h.slot) hs → heads_refusal starts hs ≡ None
+heads_pass_again starts [] all = refl
+heads_pass_again starts (h ∷ hs) all = ap (λ (b : Bool). after_start b h.slot (heads_refusal starts hs)) all.0 ∙ heads_pass_again starts hs all.1
+
+passed_test : (o : Option DecodeError) (m x : ClassMethod) → unless o m ≡ Ok x → o ≡ None
+passed_test None m x e = refl
+passed_test (Some d) m x e = absurd cc
+
+refuses : (d : DecodeError) → Some d ≡ None → ⊥
+refuses d e = absurd cc
+
+loops_right : (rules : RuleSet) (is : List Insn) (loops : Option PlainLoops) → LoopsHold loops → loops_refusal rules is loops ≡ None → AreLoopsOf (starts is) loops × MayLoop rules loops
+loops_right One is None hold e = (tt, refl)
+loops_right Two is None hold e = (tt, refl)
+loops_right Three is None hold e = (tt, tt)
+loops_right One is (Some l) hold e = absurd (refuses Limit e)
+loops_right Two is (Some l) hold e = absurd (refuses Limit e)
+loops_right Three is (Some l) hold e = ((hold.0, heads_pass (starts is) l.heads e, hold.1), tt)
+
+loops_pass : (rules : RuleSet) (is : List Insn) (loops : Option PlainLoops) (m x : ClassMethod) → LoopsHold loops → unless (loops_refusal rules is loops) m ≡ Ok x → AreLoopsOf (starts is) loops × MayLoop rules loops
+loops_pass rules is loops m x hold e = loops_right rules is loops hold (passed_test (loops_refusal rules is loops) m x e)
+
+not_some : (l : PlainLoops) → Some l ≡ None → ⊥
+not_some l e = absurd cc
+
+loops_again : (rules : RuleSet) (is : List Insn) (loops : Option PlainLoops) → AreLoopsOf (starts is) loops → MayLoop rules loops → loops_refusal rules is loops ≡ None
+loops_again One is None are may = refl
+loops_again Two is None are may = refl
+loops_again Three is None are may = refl
+loops_again One is (Some l) are may = absurd (not_some l may)
+loops_again Two is (Some l) are may = absurd (not_some l may)
+loops_again Three is (Some l) are may = heads_pass_again (starts is) l.heads are.1
+
+method_passes : (rules : RuleSet) (before : List ℕ) (m x : ClassMethod) → Holds m → method_after rules before m ≡ Ok x → IsMethod m × above before m.name × IsWithinSet rules m
+method_passes rules before m x hold e =
+    let a = bind_ok (checked (between 1 NAME_LIMIT (length m.name)) Name m) (λ y. checked (are_name_bytes m.name) Name m >>= λ y. checked (is_above before m.name) Order m >>= λ y. checked (between 1 3 m.flags) Flags m >>= λ y. checked (between 0 (capacity_limit rules) m.in_cap) Limit m >>= λ y. checked (between 0 (capacity_limit rules) m.out_cap) Limit m >>= λ y. checked (between 1 SLOT_LIMIT (slot_total m.instructions)) Limit m >>= λ y. unless (loops_refusal rules m.instructions m.loops) m) x e in
+    let b = bind_ok (checked (are_name_bytes m.name) Name m) (λ y. checked (is_above before m.name) Order m >>= λ y. checked (between 1 3 m.flags) Flags m >>= λ y. checked (between 0 (capacity_limit rules) m.in_cap) Limit m >>= λ y. checked (between 0 (capacity_limit rules) m.out_cap) Limit m >>= λ y. checked (between 1 SLOT_LIMIT (slot_total m.instructions)) Limit m >>= λ y. unless (loops_refusal rules m.instructions m.loops) m) x a.2 in
+    let c = bind_ok (checked (is_above before m.name) Order m) (λ y. checked (between 1 3 m.flags) Flags m >>= λ y. checked (between 0 (capacity_limit rules) m.in_cap) Limit m >>= λ y. checked (between 0 (capacity_limit rules) m.out_cap) Limit m >>= λ y. checked (between 1 SLOT_LIMIT (slot_total m.instructions)) Limit m >>= λ y. unless (loops_refusal rules m.instructions m.loops) m) x b.2 in
+    let d = bind_ok (checked (between 1 3 m.flags) Flags m) (λ y. checked (between 0 (capacity_limit rules) m.in_cap) Limit m >>= λ y. checked (between 0 (capacity_limit rules) m.out_cap) Limit m >>= λ y. checked (between 1 SLOT_LIMIT (slot_total m.instructions)) Limit m >>= λ y. unless (loops_refusal rules m.instructions m.loops) m) x c.2 in
+    let f = bind_ok (checked (between 0 (capacity_limit rules) m.in_cap) Limit m) (λ y. checked (between 0 (capacity_limit rules) m.out_cap) Limit m >>= λ y. checked (between 1 SLOT_LIMIT (slot_total m.instructions)) Limit m >>= λ y. unless (loops_refusal rules m.instructions m.loops) m) x d.2 in
+    let g = bind_ok (checked (between 0 (capacity_limit rules) m.out_cap) Limit m) (λ y. checked (between 1 SLOT_LIMIT (slot_total m.instructions)) Limit m >>= λ y. unless (loops_refusal rules m.instructions m.loops) m) x f.2 in
+    let k = bind_ok (checked (between 1 SLOT_LIMIT (slot_total m.instructions)) Limit m) (λ y. unless (loops_refusal rules m.instructions m.loops) m) x g.2 in
     let sized = between-true 1 NAME_LIMIT (length m.name) (checked_ok (between 1 NAME_LIMIT (length m.name)) Name m a.0 a.1).0 in
     let letters = letters_are m.name (checked_ok (are_name_bytes m.name) Name m b.0 b.1).0 in
     let rises = above_is before m.name (checked_ok (is_above before m.name) Order m c.0 c.1).0 in
     let flags = between-true 1 3 m.flags (checked_ok (between 1 3 m.flags) Flags m d.0 d.1).0 in
     let read = between-true 0 (capacity_limit rules) m.in_cap (checked_ok (between 0 (capacity_limit rules) m.in_cap) Limit m f.0 f.1).0 in
     let written = between-true 0 (capacity_limit rules) m.out_cap (checked_ok (between 0 (capacity_limit rules) m.out_cap) Limit m g.0 g.1).0 in
-    let slots = between-true 1 SLOT_LIMIT (slot_total m.instructions) (checked_ok (between 1 SLOT_LIMIT (slot_total m.instructions)) Limit m x g.2).0 in
-    (record { named = sized.0; short = sized.1; letters = letters; some_flag = flags.0; known_flags = flags.1; in_cap = omega (arith, read.1, limit_wide rules); out_cap = omega (arith, written.1, limit_wide rules); some_slot = slots.0; slots = slots.1; fit = fit }, rises, record { in_cap = read.1; out_cap = written.1 })
+    let slots = between-true 1 SLOT_LIMIT (slot_total m.instructions) (checked_ok (between 1 SLOT_LIMIT (slot_total m.instructions)) Limit m k.0 k.1).0 in
+    let loops = loops_pass rules m.instructions m.loops m x hold.1 k.2 in
+    (record { named = sized.0; short = sized.1; letters = letters; some_flag = flags.0; known_flags = flags.1; in_cap = omega (arith, read.1, limit_wide rules); out_cap = omega (arith, written.1, limit_wide rules); some_slot = slots.0; slots = slots.1; fit = hold.0; loops = loops.0 }, rises, record { in_cap = read.1; out_cap = written.1; loops = loops.1 })
 
 method_again : (rules : RuleSet) (before : List ℕ) (m : ClassMethod) → IsMethod m → IsWithinSet rules m → above before m.name → method_after rules before m ≡ Ok m
 method_again rules before m h within rises =
@@ -121,9 +180,10 @@ method_again rules before m h within rises =
       between-is 0 (capacity_limit rules) m.in_cap (omega arith) within.in_cap,
       between-is 0 (capacity_limit rules) m.out_cap (omega arith) within.out_cap,
       between-is 1 SLOT_LIMIT (slot_total m.instructions) h.some_slot h.slots,
+      loops_again rules m.instructions m.loops h.loops within.loops,
     ) refl
 
-methods_pass : (rules : RuleSet) (done : ℕ) (before : List ℕ) (ms xs : List ClassMethod) → AllCodeFits ms → methods_after rules done before ms ≡ Ok xs → AllByRecursion IsMethod ms × RisesFrom before ms × AreWithinSet rules ms
+methods_pass : (rules : RuleSet) (done : ℕ) (before : List ℕ) (ms xs : List ClassMethod) → AllHold ms → methods_after rules done before ms ≡ Ok xs → AllByRecursion IsMethod ms × RisesFrom before ms × AreWithinSet rules ms
 unfolding methods_after
 methods_pass rules done before [] xs fit e = (tt, tt, tt)
 methods_pass rules done before (m ∷ ms) xs fit e =
@@ -145,7 +205,7 @@ class_again rules ms class within = counted rules ms (between-is 1 METHOD_LIMIT 
 abbrev passed : List ClassMethod → Tested
 passed ms = Ok ms
 
-pub class_passes : (rules : RuleSet) (ms xs : List ClassMethod) → AllCodeFits ms → methods_of rules ms ≡ Ok xs → IsClass ms × AreWithinSet rules ms
+pub class_passes : (rules : RuleSet) (ms xs : List ClassMethod) → AllHold ms → methods_of rules ms ≡ Ok xs → IsClass ms × AreWithinSet rules ms
 unfolding methods_of
 class_passes rules ms xs fit e =
     let a = bind_ok (after 0 (checked (between 1 METHOD_LIMIT (length ms)) Limit ms)) (λ some. methods_after rules 0 [] ms) xs e in

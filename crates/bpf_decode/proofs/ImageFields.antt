@@ -1,6 +1,6 @@
 -- A field of an image that is read is the field that was written, and what was written is read
 -- again.
-use Rattle.std.proofs.Common.{◌≡◌, ℕ, suc, ◌+◌, ◌*◌, ◌/◌, ◌%◌, ◌^◌, ◌<◌, ◌≤◌, Bool, true, false, List, [], ◌∷◌, ◌++◌, length, take, drop, Result, Ok, refl, sym, ap, subst, ◌∙◌, append_assoc, arith, length-append, inl, inr}
+use Rattle.std.proofs.Common.{◌≡◌, ℕ, suc, ◌+◌, ◌*◌, ◌/◌, ◌%◌, ◌^◌, ◌<◌, ◌≤◌, Bool, true, false, List, [], ◌∷◌, ◌++◌, length, take, drop, Option, None, Result, Ok, Err, refl, sym, ap, subst, ◌∙◌, append_assoc, arith, length-append, inl, inr}
 use Rattle.std.specs.Prelude.{◌⊎◌, ◌||◌, ◌==◌, nat_le}
 use Rattle.std.specs.List.{AllByRecursion}
 use Rattle.std.specs.Cmp.Lexicographic.{slice_cmp}
@@ -18,10 +18,16 @@ use Rattle.bpf_decode.specs.declared.decode_error.DecodeError.{DecodeError}
 use Rattle.bpf_decode.specs.declared.decode_error.DecodeError.TheVariants.{Truncated, Name, Order, Flags, Limit}
 use Rattle.bpf_decode.specs.declared.insn.Insn.{Insn}
 use Rattle.bpf_decode.specs.Instruction.{AllFit, spelling, slot_total}
-use Rattle.bpf_decode.specs.Class.{IsNameByte, heads_bytes}
+use Rattle.loop_heads.specs.Loops.{PlainLoops}
+use Rattle.loop_bytes.specs.declared.heads_error.HeadsError.{HeadsError}
+use Rattle.loop_bytes.specs.HeadBytes.{loops_bytes, AreLoopsOf}
+use Rattle.loop_bytes.specs.Reading.{loops_from}
+use Rattle.loop_bytes.proofs.Exact.{are_bytes, each_is, are_left}
+use Rattle.loop_bytes.proofs.ExactLoops.{loops_exact}
+use Rattle.bpf_decode.specs.Class.{IsNameByte, starts, MayLoop, heads_bytes}
 use Rattle.bpf_decode.specs.Reading.{◌>>=◌, checked, code_of}
 use Rattle.bpf_decode.specs.Limits.{between, is_name_byte, are_name_bytes, capacity_limit}
-use Rattle.bpf_decode.specs.ImageReading.{is_above, byte_at, number_at, bytes_at, name_at, flags_at, capacity_at, code_at, heads_at}
+use Rattle.bpf_decode.specs.ImageReading.{is_above, byte_at, number_at, bytes_at, name_at, flags_at, capacity_at, code_at, loops_read, heads_at}
 use Rattle.bpf_decode.proofs.Bytes.{IsBytes, IsBytes-drop, IsBytes-take, IsBytes-rest, bind_ok, checked_ok, both_true}
 use Rattle.bpf_decode.proofs.CodeLaws.{length-spelling, code_takes, code_again}
 use Rattle.bpf_decode.specs.declared.limits.TheConstants.{NAME_LIMIT, CAPACITY_LIMIT, SLOT_LIMIT}
@@ -266,25 +272,31 @@ code_field_again is rest h =
     ∙ ap (λ (r : Result (List ℕ × List ℕ) DecodeError). r >>= λ code. code_of code.0 >>= λ js. Ok (js, code.1)) (bytes_again (8 * n) (spelling is) rest (length-spelling is))
     ∙ ap (λ (r : Result (List Insn) DecodeError). r >>= λ js. Ok (js, rest)) (code_again is h.fit)
 
--- ---- heads
+-- ---- loops
 
-pub heads_take : (rules : RuleSet) (bytes : List ℕ) (n : ℕ) (rest : List ℕ) → IsBytes bytes → heads_at rules bytes ≡ Ok (n, rest) → Takes bytes (heads_bytes rules) rest
-unfolding heads_at
-heads_take One bytes n rest fits e = let s = same_value 0 n bytes rest e in record { parts = s.1; rest_fits = subst (λ (r : List ℕ). IsBytes r) s.1 fits }
-heads_take Two bytes n rest fits e = let s = same_value 0 n bytes rest e in record { parts = s.1; rest_fits = subst (λ (r : List ℕ). IsBytes r) s.1 fits }
-heads_take Three bytes n rest fits e =
-    let a = bind_ok (number_at bytes) (λ n. checked (n.0 == 0) Limit n) (n, rest) e in
-    let t = number_takes bytes a.0.0 a.0.1 fits a.1 in
-    let last = tested (a.0.0 == 0) Limit a.0.0 n a.0.1 rest a.2 in
-    let none : a.0.0 ≡ 0 = eqb-true a.0.0 0 last.0 in
-    let here : Takes bytes (0 ∷ 0 ∷ []) a.0.1 = subst (λ (k : ℕ). Takes bytes (little_bytes 2 k) a.0.1) none t.0 in
-    subst (λ (r : List ℕ). Takes bytes (0 ∷ 0 ∷ []) r) last.2 here
+loops_were_read : (r : Result (Option PlainLoops × List ℕ) HeadsError) (x : Option PlainLoops × List ℕ) → loops_read r ≡ Ok x → r ≡ Ok x
+loops_were_read (Ok y) x e = ap (λ (z : Option PlainLoops × List ℕ). Ok z) (ok_is y x e)
+loops_were_read (Err d) x e = absurd cc
 
-pub heads_again : (rules : RuleSet) (rest : List ℕ) → heads_at rules (heads_bytes rules ++ rest) ≡ Ok (0, rest)
+pub heads_take : (rules : RuleSet) (is : List Insn) (bytes : List ℕ) (loops : Option PlainLoops) (rest : List ℕ) → IsBytes bytes → heads_at rules is bytes ≡ Ok (loops, rest)
+    → Takes bytes (heads_bytes rules loops) rest × AreLoopsOf (starts is) loops × MayLoop rules loops
 unfolding heads_at
-heads_again One rest = refl
-heads_again Two rest = refl
-heads_again Three rest = ap (λ (r : Result (ℕ × List ℕ) DecodeError). r >>= λ n. checked (n.0 == 0) Limit n) (number_again 0 rest (omega arith))
+heads_take One is bytes loops rest fits e =
+    let s = same_value None loops bytes rest e in
+    subst (λ (l : Option PlainLoops). Takes bytes [] rest × AreLoopsOf (starts is) l × (l ≡ None)) s.0 (record { parts = s.1; rest_fits = subst (λ (r : List ℕ). IsBytes r) s.1 fits }, tt, refl)
+heads_take Two is bytes loops rest fits e =
+    let s = same_value None loops bytes rest e in
+    subst (λ (l : Option PlainLoops). Takes bytes [] rest × AreLoopsOf (starts is) l × (l ≡ None)) s.0 (record { parts = s.1; rest_fits = subst (λ (r : List ℕ). IsBytes r) s.1 fits }, tt, refl)
+heads_take Three is bytes loops rest fits e =
+    let are = are_bytes bytes fits in
+    let x = (loops_exact (starts is)).exact bytes loops rest are (loops_were_read (loops_from (starts is) bytes) (loops, rest) e) in
+    (record { parts = x.0; rest_fits = each_is rest (are_left bytes (loops_bytes loops) rest are x.0) }, x.1, tt)
+
+pub heads_again : (rules : RuleSet) (is : List Insn) (loops : Option PlainLoops) (rest : List ℕ) → AreLoopsOf (starts is) loops → MayLoop rules loops → heads_at rules is (heads_bytes rules loops ++ rest) ≡ Ok (loops, rest)
+unfolding heads_at
+heads_again One is loops rest are may = ap (λ (l : Option PlainLoops). read_to l rest) (sym may)
+heads_again Two is loops rest are may = ap (λ (l : Option PlainLoops). read_to l rest) (sym may)
+heads_again Three is loops rest are may = ap (λ (r : Result (Option PlainLoops × List ℕ) HeadsError). loops_read r) ((loops_exact (starts is)).again loops rest are)
 
 -- ---- a name is text
 

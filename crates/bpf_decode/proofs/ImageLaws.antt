@@ -1,5 +1,5 @@
 -- The two laws of images: what is read is spelled so, and what is spelled so is read.
-use Rattle.std.proofs.Common.{◌≡◌, ℕ, zero, suc, ◌+◌, ◌≤◌, Bool, true, false, List, [], ◌∷◌, ◌++◌, length, Result, Ok, Err, refl, sym, ap, subst, ◌∙◌, append_assoc, arith}
+use Rattle.std.proofs.Common.{◌≡◌, ℕ, zero, suc, ◌+◌, ◌≤◌, Bool, true, false, List, [], ◌∷◌, ◌++◌, length, Option, Result, Ok, Err, refl, sym, ap, subst, ◌∙◌, append_assoc, arith}
 use Rattle.std.specs.Prelude.{nat_eq, codes, IfOk, ◌==◌, if◌then◌else◌}
 use Rattle.std.specs.List.{AllByRecursion, flat_map}
 use Rattle.std.specs.Cmp.Lexicographic.{slice_cmp, pointwise, same_text}
@@ -14,12 +14,13 @@ use Rattle.bpf_decode.specs.declared.decode_error.DecodeError.TheVariants.{Magic
 use Rattle.bpf_decode.specs.declared.image_error.ImageError.{ImageError}
 use Rattle.bpf_decode.specs.declared.insn.Insn.{Insn}
 use Rattle.bpf_decode.specs.Instruction.{spelling, slot_total}
+use Rattle.loop_heads.specs.Loops.{PlainLoops}
 use Rattle.bpf_decode.specs.declared.image.Header.{Header}
 use Rattle.bpf_decode.specs.declared.rule_set.RuleSet.{RuleSet}
 use Rattle.bpf_decode.specs.declared.rule_set.RuleSet.TheVariants.{One, Two, Three}
 use Rattle.bpf_decode.specs.Class.{ClassMethod, IsMethod, NamesRise, IsClass, IsWithinSet, AreWithinSet, Class, IsImage, heads_bytes, method_bytes, magic, image_bytes}
 use Rattle.bpf_decode.specs.Reading.{◌>>=◌, checked}
-use Rattle.bpf_decode.specs.ImageReading.{GivesImage, after, name_at, flags_at, capacity_at, code_at, heads_at, method_at, methods_at, number_at, bytes_at, rules_of, rules_at, header_at, image_of}
+use Rattle.bpf_decode.specs.ImageReading.{GivesImage, after, name_at, flags_at, capacity_at, code_at, heads_at, made, method_at, methods_at, number_at, bytes_at, rules_of, rules_at, header_at, image_of}
 use Rattle.bpf_decode.proofs.Bytes.{IsBytes, bind_ok, checked_ok}
 use Rattle.bpf_decode.specs.Limits.{between, capacity_limit}
 use Rattle.bpf_decode.proofs.ImageFields.{Takes, Takes-then, ok_is, same_value, between-true, between-is, number_takes, number_again, bytes_take, bytes_again, name_takes, name_again, flags_take, flags_again, limit_wide, capacity_takes, capacity_again, IsCodeField, code_field, code_field_takes, code_field_again, heads_take, heads_again}
@@ -30,9 +31,6 @@ use Rattle.bpf_decode.specs.declared.limits.TheConstants.{METHOD_LIMIT}
 abbrev above : List ℕ → List ℕ → Type 0
 above before name = slice_cmp nat_cmp before name ≡ Less
 
-abbrev made : List ℕ → ℕ → ℕ → ℕ → List Insn → ClassMethod
-made name flags in_cap out_cap is = record { name = name; flags = flags; in_cap = in_cap; out_cap = out_cap; instructions = is }
-
 -- the same of an equal method and an equal rest
 same_method : (rules : RuleSet) (before bytes : List ℕ) (m n : ClassMethod) (behind rest : List ℕ) → m ≡ n → behind ≡ rest → Takes bytes (method_bytes rules m) behind → IsMethod m → IsWithinSet rules m → above before m.name
     → Takes bytes (method_bytes rules n) rest × IsMethod n × above before n.name × IsWithinSet rules n
@@ -42,25 +40,25 @@ same_method rules before bytes m n behind rest same end taken known within rises
 pub method_takes : (rules : RuleSet) (before bytes : List ℕ) (m : ClassMethod) (rest : List ℕ) → IsBytes bytes → method_at rules before bytes ≡ Ok (m, rest) → Takes bytes (method_bytes rules m) rest × IsMethod m × above before m.name × IsWithinSet rules m
 unfolding method_at
 method_takes rules before bytes m rest fits e =
-    let a = bind_ok (name_at before bytes) (λ name. flags_at name.1 >>= λ flags. capacity_at rules flags.1 >>= λ in_cap. capacity_at rules in_cap.1 >>= λ out_cap. code_at out_cap.1 >>= λ code. heads_at rules code.1 >>= λ heads. Ok (made name.0 flags.0 in_cap.0 out_cap.0 code.0, heads.1)) (m, rest) e in
+    let a = bind_ok (name_at before bytes) (λ name. flags_at name.1 >>= λ flags. capacity_at rules flags.1 >>= λ in_cap. capacity_at rules in_cap.1 >>= λ out_cap. code_at out_cap.1 >>= λ code. heads_at rules code.0 code.1 >>= λ loops. Ok (made name.0 flags.0 in_cap.0 out_cap.0 code.0 loops.0, loops.1)) (m, rest) e in
     let t0 = name_takes before bytes a.0.0 a.0.1 fits a.1 in
-    let b = bind_ok (flags_at a.0.1) (λ flags. capacity_at rules flags.1 >>= λ in_cap. capacity_at rules in_cap.1 >>= λ out_cap. code_at out_cap.1 >>= λ code. heads_at rules code.1 >>= λ heads. Ok (made a.0.0 flags.0 in_cap.0 out_cap.0 code.0, heads.1)) (m, rest) a.2 in
+    let b = bind_ok (flags_at a.0.1) (λ flags. capacity_at rules flags.1 >>= λ in_cap. capacity_at rules in_cap.1 >>= λ out_cap. code_at out_cap.1 >>= λ code. heads_at rules code.0 code.1 >>= λ loops. Ok (made a.0.0 flags.0 in_cap.0 out_cap.0 code.0 loops.0, loops.1)) (m, rest) a.2 in
     let t1 = flags_take a.0.1 b.0.0 b.0.1 t0.0.rest_fits b.1 in
-    let c = bind_ok (capacity_at rules b.0.1) (λ in_cap. capacity_at rules in_cap.1 >>= λ out_cap. code_at out_cap.1 >>= λ code. heads_at rules code.1 >>= λ heads. Ok (made a.0.0 b.0.0 in_cap.0 out_cap.0 code.0, heads.1)) (m, rest) b.2 in
+    let c = bind_ok (capacity_at rules b.0.1) (λ in_cap. capacity_at rules in_cap.1 >>= λ out_cap. code_at out_cap.1 >>= λ code. heads_at rules code.0 code.1 >>= λ loops. Ok (made a.0.0 b.0.0 in_cap.0 out_cap.0 code.0 loops.0, loops.1)) (m, rest) b.2 in
     let t2 = capacity_takes rules b.0.1 c.0.0 c.0.1 t1.0.rest_fits c.1 in
-    let d = bind_ok (capacity_at rules c.0.1) (λ out_cap. code_at out_cap.1 >>= λ code. heads_at rules code.1 >>= λ heads. Ok (made a.0.0 b.0.0 c.0.0 out_cap.0 code.0, heads.1)) (m, rest) c.2 in
+    let d = bind_ok (capacity_at rules c.0.1) (λ out_cap. code_at out_cap.1 >>= λ code. heads_at rules code.0 code.1 >>= λ loops. Ok (made a.0.0 b.0.0 c.0.0 out_cap.0 code.0 loops.0, loops.1)) (m, rest) c.2 in
     let t3 = capacity_takes rules c.0.1 d.0.0 d.0.1 t2.0.rest_fits d.1 in
-    let f = bind_ok (code_at d.0.1) (λ code. heads_at rules code.1 >>= λ heads. Ok (made a.0.0 b.0.0 c.0.0 d.0.0 code.0, heads.1)) (m, rest) d.2 in
+    let f = bind_ok (code_at d.0.1) (λ code. heads_at rules code.0 code.1 >>= λ loops. Ok (made a.0.0 b.0.0 c.0.0 d.0.0 code.0 loops.0, loops.1)) (m, rest) d.2 in
     let t4 = code_field_takes d.0.1 f.0.0 f.0.1 t3.0.rest_fits f.1 in
-    let g = bind_ok (heads_at rules f.0.1) (λ heads. Ok (made a.0.0 b.0.0 c.0.0 d.0.0 f.0.0, heads.1)) (m, rest) f.2 in
-    let t5 = heads_take rules f.0.1 g.0.0 g.0.1 t4.0.rest_fits g.1 in
-    let last = same_value (made a.0.0 b.0.0 c.0.0 d.0.0 f.0.0) m g.0.1 rest g.2 in
-    let e45 = Takes-then d.0.1 (code_field f.0.0) f.0.1 (heads_bytes rules) g.0.1 t4.0 t5 in
-    let e34 = Takes-then c.0.1 (little_bytes 2 d.0.0) d.0.1 (code_field f.0.0 ++ heads_bytes rules) g.0.1 t3.0 e45 in
-    let e24 = Takes-then b.0.1 (little_bytes 2 c.0.0) c.0.1 (little_bytes 2 d.0.0 ++ (code_field f.0.0 ++ heads_bytes rules)) g.0.1 t2.0 e34 in
-    let e14 = Takes-then a.0.1 (b.0.0 ∷ []) b.0.1 (little_bytes 2 c.0.0 ++ (little_bytes 2 d.0.0 ++ (code_field f.0.0 ++ heads_bytes rules))) g.0.1 t1.0 e24 in
-    let whole : Takes bytes (method_bytes rules (made a.0.0 b.0.0 c.0.0 d.0.0 f.0.0)) g.0.1 = Takes-then bytes (length a.0.0 ∷ a.0.0) a.0.1 ((b.0.0 ∷ []) ++ (little_bytes 2 c.0.0 ++ (little_bytes 2 d.0.0 ++ (code_field f.0.0 ++ heads_bytes rules)))) g.0.1 t0.0 e14 in
-    let known : IsMethod (made a.0.0 b.0.0 c.0.0 d.0.0 f.0.0) = record {
+    let g = bind_ok (heads_at rules f.0.0 f.0.1) (λ loops. Ok (made a.0.0 b.0.0 c.0.0 d.0.0 f.0.0 loops.0, loops.1)) (m, rest) f.2 in
+    let t5 = heads_take rules f.0.0 f.0.1 g.0.0 g.0.1 t4.0.rest_fits g.1 in
+    let last = same_value (made a.0.0 b.0.0 c.0.0 d.0.0 f.0.0 g.0.0) m g.0.1 rest g.2 in
+    let e45 = Takes-then d.0.1 (code_field f.0.0) f.0.1 (heads_bytes rules g.0.0) g.0.1 t4.0 t5.0 in
+    let e34 = Takes-then c.0.1 (little_bytes 2 d.0.0) d.0.1 (code_field f.0.0 ++ heads_bytes rules g.0.0) g.0.1 t3.0 e45 in
+    let e24 = Takes-then b.0.1 (little_bytes 2 c.0.0) c.0.1 (little_bytes 2 d.0.0 ++ (code_field f.0.0 ++ heads_bytes rules g.0.0)) g.0.1 t2.0 e34 in
+    let e14 = Takes-then a.0.1 (b.0.0 ∷ []) b.0.1 (little_bytes 2 c.0.0 ++ (little_bytes 2 d.0.0 ++ (code_field f.0.0 ++ heads_bytes rules g.0.0))) g.0.1 t1.0 e24 in
+    let whole : Takes bytes (method_bytes rules (made a.0.0 b.0.0 c.0.0 d.0.0 f.0.0 g.0.0)) g.0.1 = Takes-then bytes (length a.0.0 ∷ a.0.0) a.0.1 ((b.0.0 ∷ []) ++ (little_bytes 2 c.0.0 ++ (little_bytes 2 d.0.0 ++ (code_field f.0.0 ++ heads_bytes rules g.0.0)))) g.0.1 t0.0 e14 in
+    let known : IsMethod (made a.0.0 b.0.0 c.0.0 d.0.0 f.0.0 g.0.0) = record {
       named = t0.1.named;
       short = t0.1.short;
       letters = t0.1.letters;
@@ -71,9 +69,10 @@ method_takes rules before bytes m rest fits e =
       some_slot = t4.1.some;
       slots = t4.1.few;
       fit = t4.1.fit;
+      loops = t5.1;
     } in
-    let within : IsWithinSet rules (made a.0.0 b.0.0 c.0.0 d.0.0 f.0.0) = record { in_cap = t2.1; out_cap = t3.1 } in
-    same_method rules before bytes (made a.0.0 b.0.0 c.0.0 d.0.0 f.0.0) m g.0.1 rest last.0 last.1 whole known within t0.1.above
+    let within : IsWithinSet rules (made a.0.0 b.0.0 c.0.0 d.0.0 f.0.0 g.0.0) = record { in_cap = t2.1; out_cap = t3.1; loops = t5.2 } in
+    same_method rules before bytes (made a.0.0 b.0.0 c.0.0 d.0.0 f.0.0 g.0.0) m g.0.1 rest last.0 last.1 whole known within t0.1.above
 
 -- the fields between a method's name and its code, and what follows them
 abbrev behind_name : ClassMethod → List ℕ → List ℕ
@@ -82,23 +81,23 @@ behind_name m code = m.flags ∷ little_bytes 2 m.in_cap ++ little_bytes 2 m.out
 pub method_again : (rules : RuleSet) (before : List ℕ) (m : ClassMethod) (rest : List ℕ) → IsMethod m → IsWithinSet rules m → above before m.name → method_at rules before (method_bytes rules m ++ rest) ≡ Ok (m, rest)
 unfolding method_at
 method_again rules before m rest h within rises =
-    let code_on : List ℕ = spelling m.instructions ++ heads_bytes rules in
-    let heads_on : List ℕ = heads_bytes rules ++ rest in
+    let code_on : List ℕ = spelling m.instructions ++ heads_bytes rules m.loops in
+    let heads_on : List ℕ = heads_bytes rules m.loops ++ rest in
     let regrouped : method_bytes rules m ++ rest ≡ length m.name ∷ (m.name ++ behind_name m (spelling m.instructions ++ heads_on)) =
     ap (λ (x : List ℕ). length m.name ∷ x) (append_assoc m.name (behind_name m code_on) rest)
-    ∙ ap (λ (x : List ℕ). length m.name ∷ (m.name ++ behind_name m x)) (append_assoc (spelling m.instructions) (heads_bytes rules) rest) in
+    ∙ ap (λ (x : List ℕ). length m.name ∷ (m.name ++ behind_name m x)) (append_assoc (spelling m.instructions) (heads_bytes rules m.loops) rest) in
     let code : IsCodeField m.instructions = record { some = h.some_slot; few = h.slots; fit = h.fit } in
     let after_code : List ℕ = spelling m.instructions ++ heads_on in
     let after_out : List ℕ = little_bytes 2 (slot_total m.instructions) ++ after_code in
     let after_in : List ℕ = little_bytes 2 m.out_cap ++ after_out in
     let after_flags : List ℕ = little_bytes 2 m.in_cap ++ after_in in
     ap (method_at rules before) regrouped
-    ∙ ap (λ (r : Result (List ℕ × List ℕ) DecodeError). r >>= λ name. flags_at name.1 >>= λ flags. capacity_at rules flags.1 >>= λ in_cap. capacity_at rules in_cap.1 >>= λ out_cap. code_at out_cap.1 >>= λ code. heads_at rules code.1 >>= λ heads. Ok (made name.0 flags.0 in_cap.0 out_cap.0 code.0, heads.1)) (name_again before m.name (m.flags ∷ after_flags) (record { named = h.named; short = h.short; letters = h.letters; above = rises }))
-    ∙ ap (λ (r : Result (ℕ × List ℕ) DecodeError). r >>= λ flags. capacity_at rules flags.1 >>= λ in_cap. capacity_at rules in_cap.1 >>= λ out_cap. code_at out_cap.1 >>= λ code. heads_at rules code.1 >>= λ heads. Ok (made m.name flags.0 in_cap.0 out_cap.0 code.0, heads.1)) (flags_again m.flags after_flags h.some_flag h.known_flags)
-    ∙ ap (λ (r : Result (ℕ × List ℕ) DecodeError). r >>= λ in_cap. capacity_at rules in_cap.1 >>= λ out_cap. code_at out_cap.1 >>= λ code. heads_at rules code.1 >>= λ heads. Ok (made m.name m.flags in_cap.0 out_cap.0 code.0, heads.1)) (capacity_again rules m.in_cap after_in within.in_cap)
-    ∙ ap (λ (r : Result (ℕ × List ℕ) DecodeError). r >>= λ out_cap. code_at out_cap.1 >>= λ code. heads_at rules code.1 >>= λ heads. Ok (made m.name m.flags m.in_cap out_cap.0 code.0, heads.1)) (capacity_again rules m.out_cap after_out within.out_cap)
-    ∙ ap (λ (r : Result (List Insn × List ℕ) DecodeError). r >>= λ code. heads_at rules code.1 >>= λ heads. Ok (made m.name m.flags m.in_cap m.out_cap code.0, heads.1)) (code_field_again m.instructions heads_on code)
-    ∙ ap (λ (r : Result (ℕ × List ℕ) DecodeError). r >>= λ heads. Ok (made m.name m.flags m.in_cap m.out_cap m.instructions, heads.1)) (heads_again rules rest)
+    ∙ ap (λ (r : Result (List ℕ × List ℕ) DecodeError). r >>= λ name. flags_at name.1 >>= λ flags. capacity_at rules flags.1 >>= λ in_cap. capacity_at rules in_cap.1 >>= λ out_cap. code_at out_cap.1 >>= λ code. heads_at rules code.0 code.1 >>= λ loops. Ok (made name.0 flags.0 in_cap.0 out_cap.0 code.0 loops.0, loops.1)) (name_again before m.name (m.flags ∷ after_flags) (record { named = h.named; short = h.short; letters = h.letters; above = rises }))
+    ∙ ap (λ (r : Result (ℕ × List ℕ) DecodeError). r >>= λ flags. capacity_at rules flags.1 >>= λ in_cap. capacity_at rules in_cap.1 >>= λ out_cap. code_at out_cap.1 >>= λ code. heads_at rules code.0 code.1 >>= λ loops. Ok (made m.name flags.0 in_cap.0 out_cap.0 code.0 loops.0, loops.1)) (flags_again m.flags after_flags h.some_flag h.known_flags)
+    ∙ ap (λ (r : Result (ℕ × List ℕ) DecodeError). r >>= λ in_cap. capacity_at rules in_cap.1 >>= λ out_cap. code_at out_cap.1 >>= λ code. heads_at rules code.0 code.1 >>= λ loops. Ok (made m.name m.flags in_cap.0 out_cap.0 code.0 loops.0, loops.1)) (capacity_again rules m.in_cap after_in within.in_cap)
+    ∙ ap (λ (r : Result (ℕ × List ℕ) DecodeError). r >>= λ out_cap. code_at out_cap.1 >>= λ code. heads_at rules code.0 code.1 >>= λ loops. Ok (made m.name m.flags m.in_cap out_cap.0 code.0 loops.0, loops.1)) (capacity_again rules m.out_cap after_out within.out_cap)
+    ∙ ap (λ (r : Result (List Insn × List ℕ) DecodeError). r >>= λ code. heads_at rules code.0 code.1 >>= λ loops. Ok (made m.name m.flags m.in_cap m.out_cap code.0 loops.0, loops.1)) (code_field_again m.instructions heads_on code)
+    ∙ ap (λ (r : Result (Option PlainLoops × List ℕ) DecodeError). r >>= λ loops. Ok (made m.name m.flags m.in_cap m.out_cap m.instructions loops.0, loops.1)) (heads_again rules m.instructions m.loops rest h.loops within.loops)
 
 -- ---- methods
 

@@ -4,6 +4,7 @@ pub mod Rows
 pub mod Insns
 pub mod Loop
 pub mod CodeLaws
+pub mod Starts
 pub mod ImageFields
 pub mod ImageLoop
 pub mod ImageLaws

@@ -1,5 +1,5 @@
 -- Bytes after the longest image change nothing of what is read.
-use Rattle.std.proofs.Common.{◌≡◌, ℕ, zero, suc, ◌+◌, ◌*◌, ◌≤◌, Bool, true, false, List, [], ◌∷◌, ◌++◌, length, take, drop, Result, Ok, Err, refl, sym, ap, subst, ◌∙◌, arith, inl, inr}
+use Rattle.std.proofs.Common.{◌≡◌, ℕ, zero, suc, ◌+◌, ◌*◌, ◌≤◌, Bool, true, false, List, [], ◌∷◌, ◌++◌, length, take, drop, Option, None, Result, Ok, Err, refl, sym, ap, subst, ◌∙◌, arith, inl, inr}
 use Rattle.std.specs.Prelude.{⊤, nat_le, ◌==◌}
 use Rattle.byteorder.specs.Endian.{little_number}
 use Rattle.std.proofs.lemmas.Bool.{cases_lt, leb-true, le-leb, ne_eqb}
@@ -11,80 +11,19 @@ use Rattle.bpf_decode.specs.declared.insn.Insn.{Insn}
 use Rattle.bpf_decode.specs.declared.image.Header.{Header}
 use Rattle.bpf_decode.specs.declared.rule_set.RuleSet.{RuleSet}
 use Rattle.bpf_decode.specs.declared.rule_set.RuleSet.TheVariants.{One, Two, Three}
-use Rattle.bpf_decode.specs.Class.{ClassMethod, Class, IsImage}
+use Rattle.loop_heads.specs.Loops.{PlainLoops}
+use Rattle.loop_bytes.specs.declared.heads_error.HeadsError.{HeadsError}
+use Rattle.loop_bytes.specs.declared.reading.TheConstants.{LOOPS_LIMIT}
+use Rattle.loop_bytes.specs.Reading.{loops_from}
+use Rattle.loop_bytes.proofs.Beginning.{longer, Leaves, Local, Local-more, Local-then, Local-checked, Local-tested, Local-made, Local-ok, loops_local}
+use Rattle.bpf_decode.specs.Class.{ClassMethod, Class, starts, IsImage}
 use Rattle.bpf_decode.specs.Limits.{is_method_count, is_name_length, are_name_bytes, are_flags, is_capacity, is_slot_count}
 use Rattle.bpf_decode.specs.Reading.{◌>>=◌, checked, code_of}
-use Rattle.bpf_decode.specs.ImageReading.{is_above, after, byte_at, number_at, bytes_at, name_at, flags_at, capacity_at, code_at, heads_at, method_at, methods_at, rules_of, rules_at, header_at, image_of}
+use Rattle.bpf_decode.specs.ImageReading.{is_above, after, byte_at, number_at, bytes_at, name_at, flags_at, capacity_at, code_at, loops_read, heads_at, made, method_at, methods_at, rules_of, rules_at, header_at, image_of}
 use Rattle.bpf_decode.proofs.Bytes.{bind_ok, checked_ok}
 use Rattle.bpf_decode.proofs.ImageFields.{between-true, ok_is}
 use Rattle.bpf_decode.proofs.ImageLaws.{image_is}
 use Rattle.bpf_decode.specs.declared.limits.TheConstants.{METHOD_LIMIT, NAME_LIMIT, SLOT_LIMIT, IMAGE_LIMIT}
-
--- what was read, with more bytes after what is left
-abbrev longer : {A E : Type 0} → List ℕ → Result (A × List ℕ) E → Result (A × List ℕ) E
-longer more (Ok x) = Ok (x.0, x.1 ++ more)
-longer more (Err e) = Err e
-
--- at most k of the bytes were read
-abbrev Leaves : {A E : Type 0} → ℕ → List ℕ → Result (A × List ℕ) E → Type 0
-Leaves k bytes (Ok x) = length bytes ≤ length x.1 + k
-Leaves k bytes (Err e) = ⊤
-
--- it reads at most k bytes, and so of k bytes and more what it reads of those alone
-record Local {A E : Type 0} (k : ℕ) (read : List ℕ → Result (A × List ℕ) E) : Type 0 where
-  same : (front more : List ℕ) → k ≤ length front → read (front ++ more) ≡ longer more (read front)
-  few : (front : List ℕ) → Leaves k front (read front)
-
-Leaves-more : {A E : Type 0} (j k : ℕ) (bytes : List ℕ) (r : Result (A × List ℕ) E) → j ≤ k → Leaves j bytes r → Leaves k bytes r
-Leaves-more j k bytes (Ok x) h l = omega (arith, h, l)
-Leaves-more j k bytes (Err e) h l = tt
-
-Local-more : {A E : Type 0} (j k : ℕ) (read : List ℕ → Result (A × List ℕ) E) → j ≤ k → Local j read → Local k read
-Local-more j k read h l = record {
-  same = λ front more long. l.same front more (omega (arith, h, long));
-  few = λ front. Leaves-more j k front (read front) h (l.few front);
-}
-
--- ---- one step after another
-
-then_same : {A B E : Type 0} (j k : ℕ) (front more : List ℕ) (f : A × List ℕ → Result (B × List ℕ) E) → ((x : A) → Local k (λ rest. f (x, rest))) → j + k ≤ length front → (read whole : Result (A × List ℕ) E) → whole ≡ longer more read → Leaves j front read → (whole >>= f) ≡ longer more (read >>= f)
-then_same j k front more f p long (Ok x) whole e l = rw e ((p x.0).same x.1 more (omega (arith, long, l)))
-then_same j k front more f p long (Err d) whole e l = rw e refl
-
-then_few : {B E : Type 0} (j k : ℕ) (front rest : List ℕ) (r : Result (B × List ℕ) E) → length front ≤ length rest + j → Leaves k rest r → Leaves (j + k) front r
-then_few j k front rest (Ok y) h l = omega (arith, h, l)
-then_few j k front rest (Err d) h l = tt
-
-then_leaves : {A B E : Type 0} (j k : ℕ) (front : List ℕ) (f : A × List ℕ → Result (B × List ℕ) E) → ((x : A) → Local k (λ rest. f (x, rest))) → (read : Result (A × List ℕ) E) → Leaves j front read → Leaves (j + k) front (read >>= f)
-then_leaves j k front f p (Ok x) l = then_few j k front x.1 (f x) l ((p x.0).few x.1)
-then_leaves j k front f p (Err d) l = tt
-
-Local-then : {A B E : Type 0} (j k : ℕ) (read : List ℕ → Result (A × List ℕ) E) (f : A × List ℕ → Result (B × List ℕ) E) → Local j read → ((x : A) → Local k (λ rest. f (x, rest))) → Local (j + k) (λ bytes. read bytes >>= f)
-Local-then j k read f l p = record {
-  same = λ front more long. then_same j k front more f p long (read front) (read (front ++ more)) (l.same front more (omega (arith, long))) (l.few front);
-  few = λ front. then_leaves j k front f p (read front) (l.few front);
-}
-
-abbrev kept : {A E : Type 0} → Bool → E → A → List ℕ → Result (A × List ℕ) E
-kept b e x rest = checked b e (x, rest)
-
--- a test of what was read, before more is
-Local-checked : {A B E : Type 0} (k : ℕ) (b : Bool) (e : E) (x : A) (f : List ℕ → Result (B × List ℕ) E) → (b ≡ true → Local k f) → Local k (λ rest. kept b e x rest >>= λ _. f rest)
-Local-checked k true e x f p = p refl
-Local-checked k false e x f p = record { same = λ front more long. refl; few = λ front. tt }
-
--- and at the end
-Local-tested : {A E : Type 0} (b : Bool) (e : E) (x : A) → Local 0 (λ rest. checked b e (x, rest))
-Local-tested true e x = record { same = λ front more long. refl; few = λ front. omega arith }
-Local-tested false e x = record { same = λ front more long. refl; few = λ front. tt }
-
--- a value made of what was read
-Local-made : {A B E : Type 0} (r : Result A E) (f : A → B) → Local 0 (λ rest. r >>= λ y. Ok (f y, rest))
-Local-made (Ok y) f = record { same = λ front more long. refl; few = λ front. omega arith }
-Local-made (Err e) f = record { same = λ front more long. refl; few = λ front. tt }
-
-Local-ok : {A E : Type 0} (x : A) → Local {E = E} 0 (λ rest. Ok (x, rest))
-Local-ok x = record { same = λ front more long. refl; few = λ front. omega arith }
 
 -- ---- the fields
 
@@ -134,7 +73,7 @@ abbrev code_most : ℕ
 code_most = 2 + 8 * SLOT_LIMIT
 
 abbrev method_most : ℕ
-method_most = name_most + (5 + (code_most + 2))
+method_most = name_most + (5 + (code_most + LOOPS_LIMIT))
 
 name_local : (before : List ℕ) → Local name_most (name_at before)
 unfolding name_at
@@ -163,24 +102,34 @@ code_local =
 
 -- ---- a method, and the methods
 
-abbrev made : List ℕ → ℕ → ℕ → ℕ → List Insn → ClassMethod
-made name flags in_cap out_cap is = record { name = name; flags = flags; in_cap = in_cap; out_cap = out_cap; instructions = is }
+loops_same : (more : List ℕ) (read whole : Result (Option PlainLoops × List ℕ) HeadsError) → whole ≡ longer more read → loops_read whole ≡ longer more (loops_read read)
+loops_same more (Ok x) whole e = rw e refl
+loops_same more (Err d) whole e = rw e refl
 
-heads_local : (rules : RuleSet) → Local 2 (heads_at rules)
+loops_leave : (k : ℕ) (front : List ℕ) (read : Result (Option PlainLoops × List ℕ) HeadsError) → Leaves k front read → Leaves k front (loops_read read)
+loops_leave k front (Ok x) l = l
+loops_leave k front (Err d) l = tt
+
+heads_local : (rules : RuleSet) (is : List Insn) → Local LOOPS_LIMIT (heads_at rules is)
 unfolding heads_at
-heads_local One = Local-more 0 2 (heads_at One) (omega arith) (Local-ok 0)
-heads_local Two = Local-more 0 2 (heads_at Two) (omega arith) (Local-ok 0)
-heads_local Three = Local-then 2 0 number_at (λ n. checked (n.0 == 0) Limit n) number_local (λ n. Local-tested (n == 0) Limit n)
+heads_local One is = Local-more 0 LOOPS_LIMIT (heads_at One is) (omega arith) (Local-ok None)
+heads_local Two is = Local-more 0 LOOPS_LIMIT (heads_at Two is) (omega arith) (Local-ok None)
+heads_local Three is =
+    let l = loops_local (starts is) in
+    record {
+      same = λ front more long. loops_same more (loops_from (starts is) front) (loops_from (starts is) (front ++ more)) (l.same front more long);
+      few = λ front. loops_leave LOOPS_LIMIT front (loops_from (starts is) front) (l.few front);
+    }
 
 method_local : (rules : RuleSet) (before : List ℕ) → Local method_most (method_at rules before)
 unfolding method_at
 method_local rules before =
-    Local-then name_most (5 + (code_most + 2)) (name_at before) (λ name. flags_at name.1 >>= λ flags. capacity_at rules flags.1 >>= λ in_cap. capacity_at rules in_cap.1 >>= λ out_cap. code_at out_cap.1 >>= λ code. heads_at rules code.1 >>= λ heads. Ok (made name.0 flags.0 in_cap.0 out_cap.0 code.0, heads.1)) (name_local before) (λ name.
-    Local-then 1 (4 + (code_most + 2)) flags_at (λ flags. capacity_at rules flags.1 >>= λ in_cap. capacity_at rules in_cap.1 >>= λ out_cap. code_at out_cap.1 >>= λ code. heads_at rules code.1 >>= λ heads. Ok (made name flags.0 in_cap.0 out_cap.0 code.0, heads.1)) flags_local (λ flags.
-    Local-then 2 (2 + (code_most + 2)) (capacity_at rules) (λ in_cap. capacity_at rules in_cap.1 >>= λ out_cap. code_at out_cap.1 >>= λ code. heads_at rules code.1 >>= λ heads. Ok (made name flags in_cap.0 out_cap.0 code.0, heads.1)) (capacity_local rules) (λ in_cap.
-    Local-then 2 (code_most + 2) (capacity_at rules) (λ out_cap. code_at out_cap.1 >>= λ code. heads_at rules code.1 >>= λ heads. Ok (made name flags in_cap out_cap.0 code.0, heads.1)) (capacity_local rules) (λ out_cap.
-    Local-then code_most 2 code_at (λ code. heads_at rules code.1 >>= λ heads. Ok (made name flags in_cap out_cap code.0, heads.1)) code_local (λ code.
-    Local-then 2 0 (heads_at rules) (λ heads. Ok (made name flags in_cap out_cap code, heads.1)) (heads_local rules) (λ heads. Local-ok (made name flags in_cap out_cap code)))))))
+    Local-then name_most (5 + (code_most + LOOPS_LIMIT)) (name_at before) (λ name. flags_at name.1 >>= λ flags. capacity_at rules flags.1 >>= λ in_cap. capacity_at rules in_cap.1 >>= λ out_cap. code_at out_cap.1 >>= λ code. heads_at rules code.0 code.1 >>= λ loops. Ok (made name.0 flags.0 in_cap.0 out_cap.0 code.0 loops.0, loops.1)) (name_local before) (λ name.
+    Local-then 1 (4 + (code_most + LOOPS_LIMIT)) flags_at (λ flags. capacity_at rules flags.1 >>= λ in_cap. capacity_at rules in_cap.1 >>= λ out_cap. code_at out_cap.1 >>= λ code. heads_at rules code.0 code.1 >>= λ loops. Ok (made name flags.0 in_cap.0 out_cap.0 code.0 loops.0, loops.1)) flags_local (λ flags.
+    Local-then 2 (2 + (code_most + LOOPS_LIMIT)) (capacity_at rules) (λ in_cap. capacity_at rules in_cap.1 >>= λ out_cap. code_at out_cap.1 >>= λ code. heads_at rules code.0 code.1 >>= λ loops. Ok (made name flags in_cap.0 out_cap.0 code.0 loops.0, loops.1)) (capacity_local rules) (λ in_cap.
+    Local-then 2 (code_most + LOOPS_LIMIT) (capacity_at rules) (λ out_cap. code_at out_cap.1 >>= λ code. heads_at rules code.0 code.1 >>= λ loops. Ok (made name flags in_cap out_cap.0 code.0 loops.0, loops.1)) (capacity_local rules) (λ out_cap.
+    Local-then code_most LOOPS_LIMIT code_at (λ code. heads_at rules code.0 code.1 >>= λ loops. Ok (made name flags in_cap out_cap code.0 loops.0, loops.1)) code_local (λ code.
+    Local-then LOOPS_LIMIT 0 (heads_at rules code) (λ loops. Ok (made name flags in_cap out_cap code loops.0, loops.1)) (heads_local rules code) (λ loops. Local-ok (made name flags in_cap out_cap code loops)))))))
 
 after_same : {A : Type 0} (done : ℕ) (more : List ℕ) (read whole : Result (A × List ℕ) DecodeError) → whole ≡ longer more read → after done whole ≡ longer more (after done read)
 after_same done more (Ok x) whole e = rw e refl

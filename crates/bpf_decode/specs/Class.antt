@@ -1,5 +1,6 @@
 -- The class images `RCL1`, `RCL2` and `RCL3`: what a class is, and the one spelling of each.
-use Rattle.std.specs.Prelude.{◌≡◌, ℕ, ◌≤◌, List, [], ◌∷◌, ◌++◌, ◌⊎◌, length, codes}
+use Rattle.std.specs.Prelude.{◌≡◌, ℕ, ◌≤◌, ◌-◌, Bool, true, false, List, [], ◌∷◌, ◌++◌, ◌⊎◌, Option, Some, None}
+use Rattle.std.specs.Prelude.{length, replicate, codes}
 use Rattle.std.specs.Ordering.{nat_cmp}
 use Rattle.std.specs.List.{flat_map, AllByRecursion}
 use Rattle.std.specs.Cmp.Lexicographic.{slice_cmp}
@@ -9,7 +10,9 @@ use Rattle.bpf_decode.specs.declared.insn.Insn.{Insn}
 use Rattle.bpf_decode.specs.declared.rule_set.RuleSet.{RuleSet}
 use Rattle.bpf_decode.specs.declared.rule_set.RuleSet.TheVariants.{One, Two, Three}
 use Rattle.bpf_decode.specs.declared.limits.TheConstants.{METHOD_LIMIT, NAME_LIMIT, CAPACITY_LIMIT, SLOT_LIMIT}
-use Rattle.bpf_decode.specs.Instruction.{AllFit, spelling, slot_total}
+use Rattle.loop_heads.specs.Loops.{PlainLoops, IsLoops}
+use Rattle.loop_bytes.specs.HeadBytes.{loops_bytes, HeadFits, AreLoopsOf}
+use Rattle.bpf_decode.specs.Instruction.{AllFit, spelling, slot_count, slot_total}
 use Rattle.bpf_decode.specs.Limits.{capacity_limit}
 
 -- a method without where it lies in memory
@@ -19,6 +22,14 @@ pub record ClassMethod : Type 0 where
   pub in_cap : ℕ
   pub out_cap : ℕ
   pub instructions : List Insn
+  pub loops : Option PlainLoops
+
+-- of each slot, whether an instruction begins there: those of one instruction, and of all
+abbrev pub begins : Insn → List Bool
+begins i = true ∷ replicate (slot_count i - 1) false
+
+abbrev pub starts : List Insn → List Bool
+starts is = flat_map begins is
 
 -- a letter of a method's name: a to z, 0 to 9, or _
 abbrev pub IsNameByte : ℕ → Type 0
@@ -36,6 +47,7 @@ pub record IsMethod (m : ClassMethod) : Type 0 where
   pub some_slot : 1 ≤ slot_total m.instructions
   pub slots : slot_total m.instructions ≤ SLOT_LIMIT
   pub fit : AllFit m.instructions
+  pub loops : AreLoopsOf (starts m.instructions) m.loops
 
 -- the names strictly rise, by their bytes
 abbrev pub NamesRise : List ClassMethod → Type 0
@@ -50,28 +62,40 @@ pub record IsClass (ms : List ClassMethod) : Type 0 where
   pub methods : AllByRecursion IsMethod ms
   pub names : NamesRise ms
 
--- a method whose capacities a rule set allows
+-- loops that are made, with numbers that their bytes hold (a step of the code, in private contracts)
+abbrev pub LoopsHold : Option PlainLoops → Type 0
+LoopsHold None = Unit {0}
+LoopsHold (Some l) = IsLoops l × AllByRecursion HeadFits l.heads
+
+-- rule set 3 alone has loops
+abbrev pub MayLoop : RuleSet → Option PlainLoops → Type 0
+MayLoop One loops = loops ≡ None
+MayLoop Two loops = loops ≡ None
+MayLoop Three loops = Unit {0}
+
+-- a method whose capacities and loops a rule set allows
 pub record IsWithinSet (rules : RuleSet) (m : ClassMethod) : Type 0 where
   pub in_cap : m.in_cap ≤ capacity_limit rules
   pub out_cap : m.out_cap ≤ capacity_limit rules
+  pub loops : MayLoop rules m.loops
 
--- methods whose capacities a rule set allows
+-- methods whose capacities and loops a rule set allows
 abbrev pub AreWithinSet : RuleSet → List ClassMethod → Type 0
 AreWithinSet rules ms = AllByRecursion (IsWithinSet rules) ms
 
--- what follows a method's code: in rule set 3 the number of its heads, which is 0
-abbrev pub heads_bytes : RuleSet → List ℕ
-heads_bytes One = []
-heads_bytes Two = []
-heads_bytes Three = 0 ∷ 0 ∷ []
+-- what follows a method's code: in rule set 3 its loops
+abbrev pub heads_bytes : RuleSet → Option PlainLoops → List ℕ
+heads_bytes One loops = []
+heads_bytes Two loops = []
+heads_bytes Three loops = loops_bytes loops
 
 -- a method's bytes: its name after its length, flags, in_cap, out_cap, the number of slots, its
--- code, and its heads
+-- code, and its loops
 abbrev pub method_bytes : RuleSet → ClassMethod → List ℕ
 method_bytes rules m =
     (length m.name ∷ m.name)
     ++ (m.flags ∷ little_bytes 2 m.in_cap ++ little_bytes 2 m.out_cap ++ little_bytes 2 (slot_total m.instructions) ++
-    spelling m.instructions ++ heads_bytes rules)
+    spelling m.instructions ++ heads_bytes rules m.loops)
 
 -- a class as it is written: by which rules it is verified, and its methods
 pub record Class : Type 0 where

@@ -1,19 +1,23 @@
 -- Reading a class image from left to right, with the first refusal that is met.
-use Rattle.std.specs.Prelude.{◌≡◌, ◌<◌, ℕ, zero, suc, ◌+◌, ◌*◌, ◌==◌, ◌⊎◌, nat_le, nat_eq, Bool, List, [], ◌∷◌, length}
-use Rattle.std.specs.Prelude.{take, drop, codes, Result, Ok, Err, if◌then◌else◌}
+use Rattle.std.specs.Prelude.{◌≡◌, ◌<◌, ℕ, zero, suc, ◌+◌, ◌*◌, ◌==◌, ◌⊎◌, nat_le, nat_eq, Bool, false, List, [], ◌∷◌}
+use Rattle.std.specs.Prelude.{length, take, drop, get_or, codes, Option, Some, None, Result, Ok, Err, if◌then◌else◌}
 use Rattle.std.specs.Cmp.Lexicographic.{slice_cmp, pointwise}
 use Rattle.std.specs.Ordering.{nat_cmp, is_lt}
 use Rattle.byteorder.specs.Endian.{little_number}
 use Rattle.bpf_decode.specs.declared.decode_error.DecodeError.{DecodeError}
 use Rattle.bpf_decode.specs.declared.decode_error.DecodeError.TheVariants.{Truncated, Magic, Name, Order, Flags, Limit}
-use Rattle.bpf_decode.specs.declared.decode_error.DecodeError.TheVariants.{Trailing, NoMemory}
+use Rattle.bpf_decode.specs.declared.decode_error.DecodeError.TheVariants.{Trailing, NoMemory, Head}
 use Rattle.bpf_decode.specs.declared.image_error.ImageError.{ImageError}
 use Rattle.bpf_decode.specs.declared.insn.Insn.{Insn}
 use Rattle.bpf_decode.specs.Instruction.{slot_total}
 use Rattle.bpf_decode.specs.declared.image.Header.{Header}
 use Rattle.bpf_decode.specs.declared.rule_set.RuleSet.{RuleSet}
 use Rattle.bpf_decode.specs.declared.rule_set.RuleSet.TheVariants.{One, Two, Three}
-use Rattle.bpf_decode.specs.Class.{ClassMethod, Class}
+use Rattle.bpf_decode.specs.Class.{ClassMethod, Class, starts}
+use Rattle.loop_heads.specs.Loops.{PlainHead, PlainLoops}
+use Rattle.loop_bytes.specs.declared.heads_error.HeadsError.{HeadsError}
+use Rattle.loop_bytes.specs.declared.heads_error.HeadsError.TheVariants as heads
+use Rattle.loop_bytes.specs.Reading.{loops_from}
 use Rattle.bpf_decode.specs.Limits.{is_method_count, is_name_length, are_name_bytes, are_flags, is_capacity}
 use Rattle.bpf_decode.specs.Limits.{is_slot_count}
 use Rattle.bpf_decode.specs.Reading.{◌>>=◌, checked, code_of}
@@ -66,13 +70,27 @@ code_at bytes = do
   is ← code_of code.0
   Ok (is, code.1)
 
--- the number of a method's heads, which has to be 0: only in rule set 3 it is written
-unfoldable pub heads_at : RuleSet → List ℕ → Result (ℕ × List ℕ) DecodeError
-heads_at One bytes = Ok (0, bytes)
-heads_at Two bytes = Ok (0, bytes)
-heads_at Three bytes = do
-  n ← number_at bytes
-  checked (n.0 == 0) Limit n
+-- a refusal of loops, as one of an image
+abbrev pub refusal_of : HeadsError → DecodeError
+refusal_of heads.NoMemory = NoMemory
+refusal_of heads.Truncated = Truncated
+refusal_of heads.Limit = Limit
+refusal_of (heads.Head slot) = Head slot
+
+abbrev pub loops_read : {A : Type 0} → Result A HeadsError → Result A DecodeError
+loops_read (Ok x) = Ok x
+loops_read (Err e) = Err (refusal_of e)
+
+-- the loops of a method with that code, which rule set 3 alone has
+unfoldable pub heads_at : RuleSet → List Insn → List ℕ → Result (Option PlainLoops × List ℕ) DecodeError
+heads_at One is bytes = Ok (None, bytes)
+heads_at Two is bytes = Ok (None, bytes)
+heads_at Three is bytes = loops_read (loops_from (starts is) bytes)
+
+-- a method of those fields
+abbrev pub made : List ℕ → ℕ → ℕ → ℕ → List Insn → Option PlainLoops → ClassMethod
+made name flags in_cap out_cap is loops =
+    record { name = name; flags = flags; in_cap = in_cap; out_cap = out_cap; instructions = is; loops = loops }
 
 -- a method after the name of the one before it
 unfoldable pub method_at : RuleSet → List ℕ → List ℕ → Result (ClassMethod × List ℕ) DecodeError
@@ -82,8 +100,8 @@ method_at rules before bytes = do
   in_cap ← capacity_at rules flags.1
   out_cap ← capacity_at rules in_cap.1
   code ← code_at out_cap.1
-  heads ← heads_at rules code.1
-  Ok (record { name = name.0; flags = flags.0; in_cap = in_cap.0; out_cap = out_cap.0; instructions = code.0 }, heads.1)
+  loops ← heads_at rules code.0 code.1
+  Ok (made name.0 flags.0 in_cap.0 out_cap.0 code.0 loops.0, loops.1)
 
 -- the rule set that four bytes name
 abbrev pub rules_of : List ℕ → Result RuleSet DecodeError
@@ -159,6 +177,23 @@ RefusesImage bytes e = ((e.error ≡ NoMemory) × ReadsMethods bytes e.methods) 
 
 -- ---- methods that are given
 
+-- x, unless there is a refusal
+abbrev pub unless : {A : Type 0} → Option DecodeError → A → Result A DecodeError
+unless None x = Ok x
+unless (Some e) x = Err e
+
+-- the first head at which no instruction begins
+abbrev pub heads_refusal : List Bool → List PlainHead → Option DecodeError
+heads_refusal starts [] = None
+heads_refusal starts (h ∷ hs) = if get_or starts h.slot false then heads_refusal starts hs else Some (Head h.slot)
+
+-- loops of a method with that code: in sets 1 and 2 there are none
+abbrev pub loops_refusal : RuleSet → List Insn → Option PlainLoops → Option DecodeError
+loops_refusal rules is None = None
+loops_refusal One is (Some l) = Some Limit
+loops_refusal Two is (Some l) = Some Limit
+loops_refusal Three is (Some l) = heads_refusal (starts is) l.heads
+
 -- a method after the name of the one before it
 abbrev pub method_after : RuleSet → List ℕ → ClassMethod → Result ClassMethod DecodeError
 method_after rules before m = do
@@ -168,7 +203,8 @@ method_after rules before m = do
   flagged ← checked (are_flags m.flags) Flags m
   read ← checked (is_capacity rules m.in_cap) Limit m
   written ← checked (is_capacity rules m.out_cap) Limit m
-  checked (is_slot_count (slot_total m.instructions)) Limit m
+  filled ← checked (is_slot_count (slot_total m.instructions)) Limit m
+  unless (loops_refusal rules m.instructions m.loops) m
 
 -- the same of methods: `done` stand before them, the last of which has the name `before`
 unfoldable pub methods_after : RuleSet → ℕ → List ℕ → List ClassMethod → Result (List ClassMethod) ImageError

@@ -2,6 +2,8 @@
 use Rattle.std.specs.Prelude.{◌≡◌, ℕ, zero, suc, ◌+◌, ◌*◌, ◌/◌, ◌%◌, ◌==◌, ◌&&◌, ◌⊎◌, nat_le, Bool, List, [], ◌∷◌}
 use Rattle.std.specs.Prelude.{length, drop, Result, Ok, Err, if◌then◌else◌}
 use Rattle.std.specs.Option.{ok_or}
+-- one step after the other, and tests: a refusal stays the refusal
+pub use Rattle.loop_bytes.specs.Reading.{◌>>=◌, checked, Reads}
 use Rattle.bpf_decode.specs.declared.decode_error.DecodeError.{DecodeError}
 use Rattle.bpf_decode.specs.declared.decode_error.DecodeError.TheVariants as errors
 use Rattle.bpf_decode.specs.declared.insn.Insn.{Insn}
@@ -9,22 +11,7 @@ use Rattle.bpf_decode.specs.Instruction.{slot_count}
 use Rattle.bpf_decode.specs.Fields.{Fields, fields_of}
 use Rattle.bpf_decode.specs.Table.{row_of, fields_allowed, high_half, instruction}
 
--- what the function gives of a value; a refusal stays the refusal
-infixl 10 ◌>>=◌
-abbrev pub ◌>>=◌ : {A B E : Type 0} → Result A E → (A → Result B E) → Result B E
-(Ok x) >>= f = f x
-(Err e) >>= f = Err e
-
--- x if the test holds, else that refusal
-abbrev pub checked : {A E : Type 0} → Bool → E → A → Result A E
-checked test e x = if test then Ok x else Err e
-
--- What a function returned, seen by view, is what reading gives.
-abbrev pub Reads : {X Y E : Type 0} → (X → Y) → Result X E → Result Y E → Type 0
-Reads view (Ok x) read = read ≡ Ok (view x)
-Reads view (Err e) read = read ≡ Err e
-
--- The same, unless memory ran out.
+-- What a function returned, seen by view, is what reading gives, unless memory ran out.
 abbrev pub Gives : {X Y : Type 0} → (X → Y) → Result X DecodeError → Result Y DecodeError → Type 0
 Gives view (Ok x) read = read ≡ Ok (view x)
 Gives view (Err e) read = (e ≡ errors.NoMemory) ⊎ (read ≡ Err e)

@@ -5,7 +5,7 @@ use Rattle.bpf_decode.specs.declared.decode_error.DecodeError.{DecodeError}
 use Rattle.bpf_decode.specs.declared.image_error.ImageError.{ImageError}
 use Rattle.bpf_decode.specs.declared.decode_error.DecodeError.TheVariants.{Truncated, Magic, Opcode, Register}
 use Rattle.bpf_decode.specs.declared.decode_error.DecodeError.TheVariants.{NonzeroField, WideHalf, Name, Order, Flags}
-use Rattle.bpf_decode.specs.declared.decode_error.DecodeError.TheVariants.{Limit, Trailing, NoMemory}
+use Rattle.bpf_decode.specs.declared.decode_error.DecodeError.TheVariants.{Limit, Trailing, NoMemory, Head}
 
 -- the numbers of the refusals, and their names
 abbrev pub number_of : DecodeError → ℕ
@@ -21,6 +21,7 @@ number_of Flags = 9
 number_of Limit = 10
 number_of Trailing = 11
 number_of NoMemory = 12
+number_of (Head slot) = 13
 
 abbrev pub name_of : DecodeError → List ℕ
 name_of Truncated = codes "Truncated"
@@ -35,8 +36,9 @@ name_of Flags = codes "Flags"
 name_of Limit = codes "Limit"
 name_of Trailing = codes "Trailing"
 name_of NoMemory = codes "NoMemory"
+name_of (Head slot) = codes "Head"
 
--- the slot of a refused instruction
+-- the slot of a refused instruction or head
 abbrev pub slot_of : DecodeError → Option ℕ
 slot_of Truncated = None
 slot_of Magic = None
@@ -50,6 +52,7 @@ slot_of Flags = None
 slot_of Limit = None
 slot_of Trailing = None
 slot_of NoMemory = None
+slot_of (Head slot) = Some slot
 
 -- a refusal's text: number and name
 abbrev pub text_of : DecodeError → List ℕ

@@ -1,15 +1,19 @@
-ghost use Rattle.std.specs.Prelude.{◌≡◌, IfOk};
-ghost use Rattle.bpf_decode.specs.Class.{IsClass, AreWithinSet};
+ghost use Rattle.std.specs.Prelude.{◌≡◌, true, IfOk};
+ghost use Rattle.std.specs.Option.{option_copied};
+ghost use Rattle.bpf_decode.specs.Class.{IsClass, AreWithinSet, LoopsHold, starts};
 ghost use Rattle.bpf_decode.specs.Instruction.{AllFit};
 ghost use Rattle.bpf_decode.specs.Reading.{Reads};
-ghost use Rattle.bpf_decode.specs.ImageReading.{method_after, methods_of, class_of};
+ghost use Rattle.bpf_decode.specs.ImageReading.{unless, heads_refusal, loops_refusal, method_after, methods_of};
+ghost use Rattle.bpf_decode.specs.ImageReading.{class_of};
 
-use crate::code::slots;
+use crate::code::{is_start, slots};
 use crate::decode_error::DecodeError;
 use crate::image_error::ImageError;
+use crate::insn::Insn;
 use crate::limits;
 use crate::method::Method;
 use crate::rule_set::RuleSet;
+use loop_heads::{Head, Loops};
 use std::marker::Model;
 
 /// A class: its rule set, and 1 to 32 methods within the limits and those of the rule set, by
@@ -43,8 +47,9 @@ impl ClassImage {
     ///
     /// Refusals, in the order of the image's fields, with the number of methods that are right
     /// before it: `Limit` for their count; of a method `Name`, `Order`, `Flags`, and `Limit` for a
-    /// capacity above the rule set's `capacity_limit`, or its slots. Such methods may have no image
-    /// (a name of 300 bytes has no length byte), so this order is a definition of its own.
+    /// capacity above the rule set's `capacity_limit`, its slots, or loops in rule sets 1 and 2, and
+    /// `Head` for the first head at which no instruction begins. Such methods may have no image (a
+    /// name of 300 bytes has no length byte), so this order is a definition of its own.
     pub fn new(methods: Vec<Method>, rules: RuleSet) -> Result<ClassImage, ImageError>
         ensures exact { result ≡ class_of rules methods.items }
         ensures accepts { IsOk result ↔ (IsClass methods.items × AreWithinSet rules methods.items) }
@@ -119,7 +124,10 @@ fn check_methods(rules: RuleSet, methods: &[Method]) -> Result<(), ImageError>
 fn check_method(rules: RuleSet, before: &[u8], method: &Method) -> Result<(), DecodeError>
     ensures read { Reads (λ _. method.now) result (method_after rules before.now method.now) }
     ensures fit { AllFit method.now.instructions }
+    ensures hold { LoopsHold method.now.loops }
 {
+    let loops = method.loops();
+    prove!(hold(loops));
     let name = method.name().as_bytes();
     let slots = slots(method.instructions());
     if !limits::is_name_length(name.len()) {
@@ -142,6 +150,48 @@ fn check_method(rules: RuleSet, before: &[u8], method: &Method) -> Result<(), De
     }
     if !limits::is_slot_count(slots) {
         return Err(DecodeError::Limit);
+    }
+    check_loops(rules, method.instructions(), loops)
+}
+
+/// For the prover alone: loops that are made are loops, and their numbers are within their types'
+/// ranges. Nothing of it runs.
+fn hold(loops: Option<&Loops>) -> bool
+    ensures always { result ≡ true }
+    ensures hold { LoopsHold (option_copied loops.entry) }
+{
+    match loops {
+        None => true,
+        Some(loops) => loop_bytes::fits(loops.heads()),
+    }
+}
+
+/// Tests the loops of a method with that code: in sets 1 and 2 it may have none. Returns the first
+/// refusal otherwise.
+fn check_loops(
+    rules: RuleSet,
+    instructions: &[Insn],
+    loops: Option<&Loops>,
+) -> Result<(), DecodeError>
+    ensures { result ≡ unless (loops_refusal rules instructions.now (option_copied loops.entry)) tt }
+{
+    let Some(loops) = loops else {
+        return Ok(());
+    };
+    match rules {
+        RuleSet::One | RuleSet::Two => Err(DecodeError::Limit),
+        RuleSet::Three => check_heads(instructions, loops.heads()),
+    }
+}
+
+/// Tests that an instruction of the code begins at each head.
+fn check_heads(instructions: &[Insn], heads: &[Head]) -> Result<(), DecodeError>
+    ensures { result ≡ unless (heads_refusal (starts instructions.now) heads.now) tt }
+{
+    for head in heads {
+        if !is_start(instructions, head.slot()) {
+            return Err(DecodeError::Head(head.slot() as usize));
+        }
     }
     Ok(())
 }

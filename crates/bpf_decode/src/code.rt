@@ -1,8 +1,9 @@
 //! Code as bytes: reading, and the one spelling.
 
-ghost use Rattle.std.specs.Prelude.{◌≡◌, ◌≤◌, ◌<◌, ◌++◌, List, length, IfOk, IfErr, OnOk, true};
+ghost use Rattle.std.specs.Prelude.{◌≡◌, ◌≤◌, ◌<◌, ◌++◌, List, length, IfOk, IfErr, OnOk, true, false, get_or};
 ghost use Rattle.bpf_decode.specs.Instruction.{IsCode, AllFit, Fits, OperandFits, slot, bytes_of, spelling, slot_count};
 ghost use Rattle.bpf_decode.specs.Instruction.{slot_total};
+ghost use Rattle.bpf_decode.specs.Class.{starts};
 ghost use Rattle.bpf_decode.specs.Table.{opcode, operand_slot};
 ghost use Rattle.bpf_decode.specs.Reading.{Gives, width_of, insn_at, code_of, count_of};
 ghost use Rattle.bpf_decode.specs.declared.insn.Insn.{Insn};
@@ -238,6 +239,35 @@ pub fn encode(alloc: Global, insns: &[Insn]) -> Result<Vec<u8>, DecodeError>
     let mut out = Vec::new(alloc);
     put_code(&mut out, insns)?;
     Ok(out)
+}
+
+/// Of each slot, whether an instruction begins there. It is refused for want of memory alone.
+pub(crate) fn starts(alloc: Global, insns: &[Insn]) -> Result<Vec<bool>, AllocError>
+    ensures { IfOk result (λ v. v.items ≡ starts insns.now) }
+{
+    let mut starts = Vec::new(alloc);
+    for insn in insns {
+        starts.push(true)?;
+        if width(insn) == 2 {
+            starts.push(false)?;
+        }
+    }
+    Ok(starts)
+}
+
+/// True if an instruction begins at that slot.
+pub(crate) fn is_start(insns: &[Insn], slot: u16) -> bool
+    ensures { result ≡ get_or (starts insns.now) slot false }
+{
+    let slot = slot as usize;
+    let mut at = 0;
+    for insn in insns {
+        if at >= slot {
+            return at == slot;
+        }
+        at += width(insn);
+    }
+    false
 }
 
 /// The number of slots that the instructions take.

@@ -29,16 +29,20 @@ pub enum DecodeError {
     Order,
     /// Flags are none of 1, 2 and 3.
     Flags,
-    /// A count, a capacity, a number of slots or a number of heads is out of its range.
+    /// A count, a capacity, a number of slots or of heads, or a budget is out of its range.
     Limit,
     /// Bytes follow the last method.
     Trailing,
     /// Memory ran out.
     NoMemory,
+    /// The head of that slot isn't above the one before it or at no instruction, or a place of it has
+    /// a number or a kind that isn't one, a number that isn't above the one before it, or bounds that
+    /// aren't in order.
+    Head(usize),
 }
 
 impl DecodeError {
-    /// Its number, 1 to 12.
+    /// Its number, 1 to 13.
     pub fn number(self) -> u8
         ensures { result ≡ number_of self }
     {
@@ -55,6 +59,7 @@ impl DecodeError {
             DecodeError::Limit => 10,
             DecodeError::Trailing => 11,
             DecodeError::NoMemory => 12,
+            DecodeError::Head(_) => 13,
         }
     }
 
@@ -75,6 +80,7 @@ impl DecodeError {
             DecodeError::Limit => "Limit",
             DecodeError::Trailing => "Trailing",
             DecodeError::NoMemory => "NoMemory",
+            DecodeError::Head(_) => "Head",
         }
     }
 
@@ -86,7 +92,7 @@ impl DecodeError {
     {
         match self {
             DecodeError::Opcode(slot) | DecodeError::Register(slot) | DecodeError::NonzeroField(slot)
-            | DecodeError::WideHalf(slot) => Some(slot),
+            | DecodeError::WideHalf(slot) | DecodeError::Head(slot) => Some(slot),
             DecodeError::Truncated | DecodeError::Magic | DecodeError::Name | DecodeError::Order => None,
             DecodeError::Flags | DecodeError::Limit | DecodeError::Trailing | DecodeError::NoMemory => None,
         }

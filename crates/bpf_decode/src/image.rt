@@ -3,17 +3,20 @@
 ghost use Rattle.std.specs.Prelude.{◌≡◌, ◌++◌, [], length, string_bytes, IsTrue, IfOk, IfErr, OnOk};
 ghost use Rattle.std.specs.List.{flat_map};
 ghost use Rattle.bpf_decode.specs.Class.{Class, IsMethod, IsClass, AreWithinSet, IsImage, heads_bytes, method_bytes};
-ghost use Rattle.bpf_decode.specs.Class.{magic, image_bytes};
+ghost use Rattle.bpf_decode.specs.Class.{magic, image_bytes, starts};
+ghost use Rattle.std.specs.Option.{option_copied};
+ghost use Rattle.loop_bytes.specs.Reading.{loops_from};
 ghost use Rattle.byteorder.specs.Endian.{little_bytes};
 ghost use Rattle.bpf_decode.specs.Reading.{Reads, Gives};
 ghost use Rattle.bpf_decode.specs.Limits.{are_name_bytes};
 ghost use Rattle.bpf_decode.specs.ImageReading.{GivesImage, RefusesMethods, RefusesImage, byte_at, number_at, bytes_at};
 ghost use Rattle.bpf_decode.specs.ImageReading.{name_at, flags_at, capacity_at, code_at, heads_at, method_at};
-ghost use Rattle.bpf_decode.specs.ImageReading.{methods_at, rules_of, rules_at, header_at, image_of};
+ghost use Rattle.bpf_decode.specs.ImageReading.{refusal_of, loops_read, methods_at, rules_of, rules_at, header_at};
+ghost use Rattle.bpf_decode.specs.ImageReading.{image_of};
 ghost use Rattle.bpf_decode.specs.declared.decode_error.DecodeError.TheVariants.{NoMemory};
 
 use crate::class_image::ClassImage;
-use crate::code::{decode, put_code, slots};
+use crate::code::{decode, put_code, slots, starts};
 use crate::decode_error::DecodeError;
 use crate::image_error::ImageError;
 use crate::insn::{Insn, Operand};
@@ -21,6 +24,8 @@ use crate::limits;
 use crate::method::Method;
 use crate::rule_set::RuleSet;
 use byteorder::{ByteOrder, LittleEndian};
+use loop_bytes::{HeadsError, push_loops, read_loops};
+use loop_heads::Loops;
 use std::alloc::{AllocError, Global};
 
 fn byte_at(bytes: &[u8]) -> Result<(u8, &[u8]), DecodeError>
@@ -106,20 +111,49 @@ fn code_at(alloc: Global, bytes: &[u8]) -> Result<(Vec<Insn>, &[u8]), DecodeErro
     Ok((decode(alloc, code)?, rest))
 }
 
-/// The number of heads after a method's code, which rule set 3 alone has. It has to be 0.
+/// A refusal of loops, as one of an image.
+fn refusal_of(error: HeadsError) -> DecodeError
+    ensures { result ≡ refusal_of error }
+{
+    match error {
+        HeadsError::NoMemory => DecodeError::NoMemory,
+        HeadsError::Truncated => DecodeError::Truncated,
+        HeadsError::Limit => DecodeError::Limit,
+        HeadsError::Head(slot) => DecodeError::Head(slot as usize),
+    }
+}
+
+/// The loops of a method with that code.
+fn loops_at<'a>(
+    alloc: Global,
+    instructions: &[Insn],
+    bytes: &'a [u8],
+) -> Result<(Option<Loops>, &'a [u8]), DecodeError>
+    ensures { Gives (λ x. (x.0, x.1.now)) result (loops_read (loops_from (starts instructions.now) bytes.now)) }
+{
+    let starts = starts(alloc, instructions)?;
+    match read_loops(alloc, bytes, &starts) {
+        Ok(read) => {
+            let rest = &bytes[read.length..];
+            Ok((read.into_loops(), rest))
+        }
+        Err(error) => Err(refusal_of(error)),
+    }
+}
+
+/// The loops after a method's code, which rule set 3 alone has.
 #[tactic(auto, unfolding(crate::specs::ImageReading::heads_at))]
-fn heads_at(rules: RuleSet, bytes: &[u8]) -> Result<(u16, &[u8]), DecodeError>
-    ensures { Reads (λ x. (x.0, x.1.now)) result (heads_at rules bytes.now) }
+fn heads_at<'a>(
+    alloc: Global,
+    rules: RuleSet,
+    instructions: &[Insn],
+    bytes: &'a [u8],
+) -> Result<(Option<Loops>, &'a [u8]), DecodeError>
+    ensures { Gives (λ x. (x.0, x.1.now)) result (heads_at rules instructions.now bytes.now) }
 {
     match rules {
-        RuleSet::One | RuleSet::Two => Ok((0, bytes)),
-        RuleSet::Three => {
-            let (heads, rest) = number_at(bytes)?;
-            if heads != 0 {
-                return Err(DecodeError::Limit);
-            }
-            Ok((heads, rest))
-        }
+        RuleSet::One | RuleSet::Two => Ok((None, bytes)),
+        RuleSet::Three => loops_at(alloc, instructions, bytes),
     }
 }
 
@@ -138,13 +172,10 @@ fn method_at<'a>(
     let (in_cap, rest) = capacity_at(rules, rest)?;
     let (out_cap, rest) = capacity_at(rules, rest)?;
     let (instructions, rest) = code_at(alloc, rest)?;
-    let (_heads, rest) = heads_at(rules, rest)?;
+    let (loops, rest) = heads_at(alloc, rules, &instructions, rest)?;
     let text = name_text(alloc, name)?;
-    Ok((
-        Method::new(text, flags, in_cap, out_cap, instructions),
-        name,
-        rest,
-    ))
+    let method = Method::new(text, flags, in_cap, out_cap, instructions);
+    Ok((method.with_loops(loops), name, rest))
 }
 
 /// The bytes of a legal name as text: each is one of a-z, 0-9 and `_`. It fails for want of memory
@@ -282,13 +313,13 @@ fn put_number(out: &mut Vec<u8>, number: u16) -> Result<(), AllocError>
     out.extend_from_slice(&bytes)
 }
 
-/// Writes what follows a method's code: in rule set 3 the number of its heads, which is 0.
-fn put_heads(out: &mut Vec<u8>, rules: RuleSet) -> Result<(), AllocError>
-    ensures { OnOk result (out.new.items ≡ out.old.items ++ heads_bytes rules) }
+/// Writes what follows a method's code: in rule set 3 its loops.
+fn put_heads(out: &mut Vec<u8>, rules: RuleSet, loops: Option<&Loops>) -> Result<(), AllocError>
+    ensures { OnOk result (out.new.items ≡ out.old.items ++ heads_bytes rules (option_copied loops.entry)) }
 {
     match rules {
         RuleSet::One | RuleSet::Two => Ok(()),
-        RuleSet::Three => put_number(out, 0),
+        RuleSet::Three => push_loops(out, loops),
     }
 }
 
@@ -305,7 +336,7 @@ fn put_method(out: &mut Vec<u8>, rules: RuleSet, method: &Method) -> Result<(), 
     put_number(out, method.out_cap())?;
     put_number(out, slots(instructions) as u16)?;
     put_code(out, instructions)?;
-    put_heads(out, rules)
+    put_heads(out, rules, method.loops())
 }
 
 /// Writes methods at the end.

@@ -6,6 +6,7 @@ ghost use Rattle.bpf_decode.specs.Limits.{is_method_name, are_flags, capacity_li
 ghost use Rattle.bpf_decode.specs.ImageReading.{is_above};
 
 use crate::rule_set::RuleSet;
+use loop_bytes::LOOPS_LIMIT;
 
 /// A class has 1 to 32 methods.
 pub const METHOD_LIMIT: usize = 32;
@@ -24,9 +25,9 @@ pub const CAPACITY_LIMIT: u16 = 65_535;
 /// A method has 1 to 4,096 slots.
 pub const SLOT_LIMIT: usize = 4096;
 
-/// The bytes of the longest image, which is one of rule set 3: the header's 8, and for each method
-/// 8, its name, its slots and 2 for the number of its heads.
-pub const IMAGE_LIMIT: usize = 8 + METHOD_LIMIT * (8 + NAME_LIMIT + 8 * SLOT_LIMIT + 2);
+/// No image has more bytes: the header's 8, and for each method 8, its name, its slots and in rule set
+/// 3 its loops.
+pub const IMAGE_LIMIT: usize = 8 + METHOD_LIMIT * (8 + NAME_LIMIT + 8 * SLOT_LIMIT + LOOPS_LIMIT);
 
 /// True if a class may have `count` methods: 1 to `METHOD_LIMIT`.
 pub(crate) fn is_method_count(count: usize) -> bool
