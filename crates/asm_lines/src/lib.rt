@@ -20,7 +20,11 @@ pub use fault::{AsmError, AsmFault};
 pub use flag_words::flags;
 pub use form::Form;
 pub use header::Header;
-pub use number::Number;
-pub use print::{class_text, class_with_slots, insns_text};
-pub use statement::{Statement, statements};
+pub use number::{Number, integer};
+pub use operand::unsigned;
+pub use print::{
+    class_text, class_with_slots, insns_text, push_at_slot, push_directive, push_insn, rules_line,
+};
+pub use statement::{Statement, lines, read_line, statements};
 pub use target::{Name, Target};
+pub use text::{after_word, content, first_word, trim_start};

@@ -17,6 +17,19 @@ impl Number {
     ghost use Rattle.std.specs.Prelude.{◌≡◌, ◌≤◌, ◌<◌, ◌^◌, ◌-◌, IsTrue};
     ghost use Rattle.asm_lines.specs.Numbers.{value_of, is_within};
 
+    /// The number as an `i64`. It is within its range.
+    pub fn to_i64(self) -> i64
+        requires { IsTrue (is_within (2 ^ 63) (2 ^ 63 - 1) self) }
+        ensures { result ≡ value_of self }
+    {
+        let size = self.magnitude as i128;
+        if self.negative {
+            (-size) as i64
+        } else {
+            size as i64
+        }
+    }
+
     /// The number as an `i32`. It is within its range.
     pub(crate) fn to_i32(self) -> i32
         requires { IsTrue (is_within (2 ^ 31) (2 ^ 31 - 1) self) }
@@ -118,9 +131,10 @@ fn plus(text: &[u8], above: u64) -> Result<Number, AsmFault>
     }
 }
 
-/// A number from minus `below` to `above`, with `-` before a negative one alone.
+/// An integer from minus `below` to `above`, with `-` before a negative one alone. Faults: `Operand`
+/// for a word that is none, `Range` for one that is out of its range.
 #[tactic(auto, unfolding(crate::specs::Numbers::plain_within))]
-pub(crate) fn plain(text: &[u8], below: u64, above: u64) -> Result<Number, AsmFault>
+pub fn integer(text: &[u8], below: u64, above: u64) -> Result<Number, AsmFault>
     ensures { result ≡ plain_within below above text.now }
 {
     match text {

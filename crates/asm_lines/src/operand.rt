@@ -7,7 +7,7 @@ ghost use Rattle.asm_lines.specs.Operands.{source_of, is_sign, offset_or_zero, p
 ghost use Rattle.asm_lines.specs.Operands.{far_target_of};
 
 use crate::fault::AsmFault;
-use crate::number::{decimal_within, plain, signed};
+use crate::number::{decimal_within, integer, signed};
 use crate::target::{Name, Target};
 use crate::text::{is_label_name, place_of_either};
 use bpf_decode::{Operand, Register};
@@ -52,7 +52,7 @@ pub(crate) fn register(text: &[u8]) -> Result<Register, AsmFault>
 pub(crate) fn immediate(text: &[u8]) -> Result<i32, AsmFault>
     ensures { result ≡ immediate_of text.now }
 {
-    match plain(text, 2147483648, 2147483647) {
+    match integer(text, 2147483648, 2147483647) {
         Ok(number) => Ok(number.to_i32()),
         Err(fault) => Err(fault),
     }
@@ -88,11 +88,11 @@ fn distance(text: &[u8]) -> Result<i32, AsmFault>
 #[rattlefmt::skip]
 #[tactic(auto, unfolding(crate::specs::Operands::unsigned_of),
     using(crate::proofs::NumberLemmas::unsigned_fits, crate::proofs::NumberLemmas::signed_fits))]
-pub(crate) fn unsigned(text: &[u8], most: u64) -> Result<u64, AsmFault>
+pub fn unsigned(text: &[u8], most: u64) -> Result<u64, AsmFault>
     ensures read { result ≡ unsigned_of most text.now }
     ensures within { IfOk result (λ n. n ≤ most) }
 {
-    match plain(text, 0, most) {
+    match integer(text, 0, most) {
         Ok(number) => Ok(number.magnitude),
         Err(fault) => Err(fault),
     }

@@ -188,9 +188,10 @@ fn push_store(
     push_next(out, Item::Source(source))
 }
 
-/// An instruction's line, without its end.
+/// Writes an instruction's line at the end, without a line feed. It fails for want of memory alone,
+/// and a part of it may then be written.
 #[rattlefmt::skip]
-fn push_insn(out: &mut String, insn: Insn) -> Result<(), AllocError>
+pub fn push_insn(out: &mut String, insn: Insn) -> Result<(), AllocError>
     ensures { OnOk result (string_bytes out.new ≡ string_bytes out.old ++ line_of insn) }
 {
     match insn {
@@ -231,8 +232,9 @@ fn push_insns(out: &mut String, insns: &[Insn]) -> Result<(), AllocError>
     Ok(())
 }
 
-/// The line that begins a method, without its end.
-fn push_directive(out: &mut String, method: &Method) -> Result<(), AllocError>
+/// Writes the line that begins a method at the end, without a line feed. It fails for want of memory
+/// alone, and a part of it may then be written.
+pub fn push_directive(out: &mut String, method: &Method) -> Result<(), AllocError>
     ensures { OnOk result (string_bytes out.new ≡ string_bytes out.old ++ directive_line method.now) }
 {
     write!(
@@ -257,8 +259,9 @@ fn push_methods(out: &mut String, methods: &[Method]) -> Result<(), AllocError>
     Ok(())
 }
 
-/// An instruction's line with its slot in a comment, without its end.
-fn push_at_slot(out: &mut String, insn: Insn, slot: usize) -> Result<(), AllocError>
+/// Writes an instruction's line with its slot in a comment at the end, without a line feed. It fails
+/// for want of memory alone, and a part of it may then be written.
+pub fn push_at_slot(out: &mut String, insn: Insn, slot: usize) -> Result<(), AllocError>
     ensures { OnOk result (string_bytes out.new ≡ string_bytes out.old ++ slot_line slot insn) }
 {
     push_insn(out, insn)?;
@@ -297,8 +300,8 @@ pub fn insns_text(alloc: Global, insns: &[Insn]) -> Result<String, AllocError>
     Ok(out)
 }
 
-/// The line of a rule set, with its end: rule set 1 has none.
-fn rules_line(rules: RuleSet) -> &'static str
+/// The line of a rule set, with its line feed: rule set 1 has none.
+pub fn rules_line(rules: RuleSet) -> &'static str
     ensures { result.now ≡ rules_text rules }
 {
     match rules {

@@ -82,9 +82,9 @@ fn label_name(text: &[u8]) -> Option<&[u8]>
     }
 }
 
-/// Reads a line's content.
+/// The statement of a line's content.
 #[tactic(auto, unfolding(crate::specs::Statements::statement_of))]
-fn read_line(text: &[u8]) -> Statement
+pub fn read_line(text: &[u8]) -> Statement
     ensures { result ≡ statement_of text.now }
 {
     if text.is_empty() {
@@ -103,8 +103,8 @@ fn read_line(text: &[u8]) -> Statement
     Statement::Instruction(instruction(text))
 }
 
-/// The lines of a text.
-fn lines(alloc: Global, text: &str) -> Result<Vec<&str>, AllocError>
+/// The lines of a text, between its line feeds.
+pub fn lines(alloc: Global, text: &str) -> Result<Vec<&str>, AllocError>
     ensures { IfOk result (λ v. map (λ l. l.now) v.items ≡ lines_of text.now) }
 {
     text.split('\n').collect(alloc)

@@ -15,8 +15,9 @@ fn is_blank(byte: u8) -> bool
     byte == b' ' || byte == b'\t'
 }
 
+/// The text without the blanks at its start.
 #[tactic(auto, unfolding(crate::specs::Texts::trim_start))]
-fn trim_start(text: &[u8]) -> &[u8]
+pub fn trim_start(text: &[u8]) -> &[u8]
     ensures { result.now ≡ trim_start text.now }
 {
     let mut rest = text;
@@ -81,7 +82,7 @@ fn place_of_blank(text: &[u8]) -> usize
 
 /// The content of a line: without its comment and the blanks at its ends.
 #[tactic(auto, unfolding(crate::specs::Texts::content))]
-pub(crate) fn content(line: &[u8]) -> &[u8]
+pub fn content(line: &[u8]) -> &[u8]
     ensures { result.now ≡ content line.now }
 {
     trim(&line[..place_of(line, b';')])
@@ -89,7 +90,7 @@ pub(crate) fn content(line: &[u8]) -> &[u8]
 
 /// The first word.
 #[tactic(auto, unfolding(crate::specs::Texts::first_word))]
-pub(crate) fn first_word(text: &[u8]) -> &[u8]
+pub fn first_word(text: &[u8]) -> &[u8]
     ensures { result.now ≡ first_word text.now }
 {
     &text[..place_of_blank(text)]
@@ -97,7 +98,7 @@ pub(crate) fn first_word(text: &[u8]) -> &[u8]
 
 /// The text after the first word and the blanks that follow it.
 #[tactic(auto, unfolding(crate::specs::Texts::after_word))]
-pub(crate) fn after_word(text: &[u8]) -> &[u8]
+pub fn after_word(text: &[u8]) -> &[u8]
     ensures { result.now ≡ after_word text.now }
 {
     trim_start(&text[place_of_blank(text)..])

@@ -7,8 +7,9 @@ use Rattle.std.proofs.lemmas.Bool.Decides.{nat_tests}
 use Rattle.std.proofs.lemmas.List.{append-nil, length-append, take-append-drop}
 use Rattle.bpf_decode.specs.declared.insn.Insn.{Insn}
 use Rattle.bpf_decode.specs.declared.rule_set.RuleSet.{RuleSet}
-use Rattle.bpf_decode.specs.declared.rule_set.RuleSet.TheVariants.{One}
-use Rattle.bpf_decode.specs.Class.{ClassMethod, Class, IsWithinSet, AreWithinSet}
+use Rattle.bpf_decode.specs.declared.rule_set.RuleSet.TheVariants.{One, Two, Three}
+use Rattle.loop_heads.specs.Loops.{PlainLoops}
+use Rattle.bpf_decode.specs.Class.{ClassMethod, Class, MayLoop, IsWithinSet, AreWithinSet}
 use Rattle.bpf_decode.specs.ImageReading.{is_above}
 use Rattle.asm_lines.specs.declared.fault.AsmFault.{AsmFault}
 use Rattle.asm_lines.specs.declared.fault.AsmFault.TheVariants as faults
@@ -141,6 +142,11 @@ bodied h (Ok is) m k =
     let insns : is ≡ m.instructions = ap (λ (x : ClassMethod). x.instructions) same in
     (ap (λ x. Ok x) insns, sym same ∙ ap (method_with h) insns)
 
+none_may : (rules : RuleSet) (o : Option PlainLoops) → o ≡ None → MayLoop rules o
+none_may One o e = e
+none_may Two o e = e
+none_may Three o e = tt
+
 opened : (rules : RuleSet) (done : List ClassMethod) (line : ℕ) (h : MethodHeader) (lines : List Statement) (m : ClassMethod) → method_at rules done line (Ok h) lines ≡ Ok m → IsOpened rules done h lines m
 opened rules done line h lines m k =
     let a = unfaulted (opening_fault rules done (not (has_instruction lines)) h) line (with_body h (body (line + 1) lines)) m k in
@@ -151,7 +157,7 @@ opened rules done line h lines m k =
     let read : m.in_cap ≡ h.in_cap = ap (λ (x : ClassMethod). x.in_cap) b.1 in
     let written : m.out_cap ≡ h.out_cap = ap (λ (x : ClassMethod). x.out_cap) b.1 in
     let small = test_within rules h t.3 in
-    let within : IsWithinSet rules m = record { in_cap = omega (arith, small.0, read); out_cap = omega (arith, small.1, written) } in
+    let within : IsWithinSet rules m = record { in_cap = omega (arith, small.0, read); out_cap = omega (arith, small.1, written); loops = none_may rules m.loops (ap (λ (x : ClassMethod). x.loops) b.1) } in
     record { head = b.1; lines_are = read_lines (line + 1) lines m.instructions t.1 b.0; above = ap (is_above (last_name [] done)) name ∙ t.2; within = within; room = grind (arith, nat_tests) }
 
 next_read : (r : Result ClassMethod AsmError) (f : ClassMethod → Result (List ClassMethod) AsmError) (all : List ClassMethod) → next_method r f ≡ Ok all → (m : ClassMethod) × ((r ≡ Ok m) × (f m ≡ Ok all))
@@ -298,4 +304,4 @@ class_text_if_read (Ok v) text h = read_is_class_text text v h
 
 -- the canonical text of a class is in the grammar
 pub class_texts_in_grammar : ClassTextsAreInGrammar
-class_texts_in_grammar c h w = read_is_class_text (class_text c) c (class_texts_give_back c h w)
+class_texts_in_grammar c h w none = read_is_class_text (class_text c) c (class_texts_give_back c h w none)

@@ -1,5 +1,5 @@
 -- Lemmas on the reading of classes.
-use Rattle.std.proofs.Common.{◌≡◌, ◌⊎◌, inl, inr, ℕ, ◌+◌, ◌≤◌, ◌<◌, Bool, true, false, ◌&&◌, IsTrue, List, [], ◌∷◌, ◌++◌, length, take, drop, get_or, ◌-◌, Result, Ok, Err, refl, sym, ap, ◌∙◌, arith}
+use Rattle.std.proofs.Common.{◌≡◌, ◌⊎◌, inl, inr, ℕ, ◌+◌, ◌≤◌, ◌<◌, Bool, true, false, ◌&&◌, IsTrue, List, [], ◌∷◌, ◌++◌, length, take, drop, get_or, ◌-◌, Option, None, Result, Ok, Err, refl, sym, ap, ◌∙◌, arith}
 use Rattle.std.proofs.lemmas.List.{drop_more, drop_all, take_all, length-drop}
 use Rattle.std.specs.List.{before_first}
 use Rattle.asm_lines.specs.declared.statement.Statement.{Statement}
@@ -7,12 +7,14 @@ use Rattle.asm_lines.specs.declared.statement.Statement.TheVariants.{Empty, Labe
 use Rattle.std.proofs.lemmas.Bool.Decides.{nat_tests}
 use Rattle.bpf_decode.specs.Instruction.{slot_total}
 use Rattle.bpf_decode.specs.declared.rule_set.RuleSet.{RuleSet}
-use Rattle.bpf_decode.specs.declared.rule_set.RuleSet.TheVariants.{One}
+use Rattle.bpf_decode.specs.declared.rule_set.RuleSet.TheVariants.{One, Two, Three}
+use Rattle.bpf_decode.specs.declared.insn.Insn.{Insn}
+use Rattle.loop_heads.specs.Loops.{PlainLoops}
 use Rattle.bpf_decode.specs.Class.{ClassMethod, Class}
 use Rattle.bpf_decode.specs.declared.image_error.ImageError.{ImageError}
 use Rattle.bpf_decode.specs.Reading.{◌>>=◌}
 use Rattle.bpf_decode.specs.Limits.{between, are_name_bytes, capacity_limit, is_capacity}
-use Rattle.bpf_decode.specs.ImageReading.{after, is_above, method_after, methods_after, methods_of}
+use Rattle.bpf_decode.specs.ImageReading.{after, is_above, unless, loops_refusal, method_after, methods_after, methods_of}
 use Rattle.asm_lines.specs.declared.fault.AsmFault.{AsmFault}
 use Rattle.asm_lines.specs.declared.fault.AsmError.{AsmError}
 use Rattle.asm_lines.specs.Fault.{no_memory}
@@ -31,9 +33,14 @@ and_right : (a b : Bool) → IsTrue (a && b) → b ≡ true
 and_right true b h = h
 and_right false b h = absurd cc
 
+none_is_refused : (rules : RuleSet) (is : List Insn) (m : ClassMethod) → unless (loops_refusal rules is None) m ≡ Ok m
+none_is_refused One is m = refl
+none_is_refused Two is m = refl
+none_is_refused Three is m = refl
+
 -- a method whose fields pass each test is right after that name
-pub passes : (rules : RuleSet) (before : List ℕ) (m : ClassMethod) → between 1 NAME_LIMIT (length m.name) ≡ true → are_name_bytes m.name ≡ true → is_above before m.name ≡ true → between 1 3 m.flags ≡ true → is_capacity rules m.in_cap ≡ true → is_capacity rules m.out_cap ≡ true → between 1 SLOT_LIMIT (slot_total m.instructions) ≡ true → method_after rules before m ≡ Ok m
-passes rules before m a b c d e f g = rw (a, b, c, d, e, f, g) refl
+pub passes : (rules : RuleSet) (before : List ℕ) (m : ClassMethod) → between 1 NAME_LIMIT (length m.name) ≡ true → are_name_bytes m.name ≡ true → is_above before m.name ≡ true → between 1 3 m.flags ≡ true → is_capacity rules m.in_cap ≡ true → is_capacity rules m.out_cap ≡ true → between 1 SLOT_LIMIT (slot_total m.instructions) ≡ true → m.loops ≡ None → method_after rules before m ≡ Ok m
+passes rules before m a b c d e f g h = rw (a, b, c, d, e, f, g) (ap (λ (l : Option PlainLoops). unless (loops_refusal rules m.instructions l) m) h ∙ none_is_refused rules m.instructions m)
 
 onto : (r : Result ClassMethod ImageError) (s t : Result (List ClassMethod) ImageError) (x : ClassMethod) (xs ys : List ClassMethod) → (r >>= λ first. s >>= λ others. Ok (first ∷ others)) ≡ Ok (x ∷ xs) → (s ≡ Ok xs → t ≡ Ok ys) → (r >>= λ first. t >>= λ others. Ok (first ∷ others)) ≡ Ok (x ∷ ys)
 onto (Err e) s t x xs ys h g = absurd cc
@@ -52,8 +59,8 @@ one_more rules done before (x ∷ xs) m h k =
 
 -- a method of a header within the limits, whose slots are within theirs, is right after the name of
 -- the last one
-pub header_passes : (rules : RuleSet) (before : List ℕ) (h : MethodHeader) (m : ClassMethod) → IsTrue (is_header h) → is_within_set rules h ≡ true → is_above before h.name ≡ true → m.name ≡ h.name → m.flags ≡ h.flags → m.in_cap ≡ h.in_cap → m.out_cap ≡ h.out_cap → 1 ≤ slot_total m.instructions → slot_total m.instructions ≤ SLOT_LIMIT → method_after rules before m ≡ Ok m
-header_passes rules before h m valid within above a b c d some few =
+pub header_passes : (rules : RuleSet) (before : List ℕ) (h : MethodHeader) (m : ClassMethod) → IsTrue (is_header h) → is_within_set rules h ≡ true → is_above before h.name ≡ true → m.name ≡ h.name → m.flags ≡ h.flags → m.in_cap ≡ h.in_cap → m.out_cap ≡ h.out_cap → 1 ≤ slot_total m.instructions → slot_total m.instructions ≤ SLOT_LIMIT → m.loops ≡ None → method_after rules before m ≡ Ok m
+header_passes rules before h m valid within above a b c d some few none =
     let in_three = and_left (is_method_name h.name && between 1 3 h.flags) (between 0 CAPACITY_LIMIT h.in_cap) (and_left (is_method_name h.name && between 1 3 h.flags && between 0 CAPACITY_LIMIT h.in_cap) (between 0 CAPACITY_LIMIT h.out_cap) valid) in
     let in_two = and_left (is_method_name h.name) (between 1 3 h.flags) in_three in
     passes rules before m
@@ -64,6 +71,7 @@ header_passes rules before h m valid within above a b c d some few =
     (ap (is_capacity rules) c ∙ and_left (is_capacity rules h.in_cap) (is_capacity rules h.out_cap) within)
     (ap (is_capacity rules) d ∙ and_right (is_capacity rules h.in_cap) (is_capacity rules h.out_cap) within)
     (grind (arith, nat_tests))
+    none
 
 -- what the test of a header's capacities says
 pub within_test : (rules : RuleSet) (h : MethodHeader) → h.in_cap ≤ capacity_limit rules → h.out_cap ≤ capacity_limit rules → is_within_set rules h ≡ true

@@ -1,5 +1,5 @@
 -- The canonical text of a class is read as that class.
-use Rattle.std.proofs.Common.{◌≡◌, ℕ, ◌==◌, ◌+◌, ◌≤◌, ◌<◌, Bool, true, false, List, [], ◌∷◌, ◌++◌, length, cond, Some, Result, Ok, refl, sym, ap, ◌∙◌, arith, codes, append_assoc, nat_le, lit≤, subst}
+use Rattle.std.proofs.Common.{◌≡◌, ℕ, ◌==◌, ◌+◌, ◌≤◌, ◌<◌, Bool, true, false, List, [], ◌∷◌, ◌++◌, length, cond, Option, Some, None, Result, Ok, refl, sym, ap, ◌∙◌, arith, codes, append_assoc, nat_le, lit≤, subst}
 use Rattle.std.specs.List.{list_all, before_first, AllByRecursion}
 use Rattle.std.specs.Fmt.{decimal}
 use Rattle.std.specs.Ordering.{is_lt}
@@ -24,7 +24,8 @@ use Rattle.asm_lines.specs.Statements.{flags_of, header_of, statement_of, statem
 use Rattle.asm_lines.specs.Canonical.{flags_text, directive_line, canonical_text, methods_text, rules_text, line_of}
 use Rattle.bpf_asm.specs.Bodies.{body_from, body, has_instruction}
 use Rattle.bpf_asm.specs.Classes.{is_directive, last_name, is_within_set, method_at, class_from, with_rules, ruled_from, read_class_text}
-use Rattle.bpf_asm.specs.Laws.{ClassTextsGiveBack}
+use Rattle.bpf_asm.specs.Laws.{HaveNoLoops, ClassTextsGiveBack}
+use Rattle.loop_heads.specs.Loops.{PlainLoops}
 use Rattle.bpf_asm.proofs.ClassLemmas.{within_test}
 use Rattle.bpf_asm.proofs.PlainBytes.{is_plain, is_quiet, Free, and_left, plain_blank, before_at, before_none, drop_seam, trim_end_free, trim_end_behind, trim_start_stays, trim_start_space, blanks_free, quiet_where, all_append}
 use Rattle.bpf_asm.proofs.NumberTexts.{plain_decimal, decimal_plain}
@@ -242,11 +243,15 @@ holds : (m : ClassMethod) (ms : List ClassMethod) → IsMethod m → Holds m (be
 holds m [] h = holds_end m h
 holds m (n ∷ ms) h = holds_before m (Ok (header n)) (said n.instructions ++ said_class ms) h
 
-method_reads : (rules : RuleSet) (done : List ClassMethod) (line : ℕ) (m : ClassMethod) (lines : List Statement) → length done < METHOD_LIMIT → IsWithinSet rules m → is_above (last_name [] done) m.name ≡ true → Holds m lines → method_at rules done line (Ok (header m)) lines ≡ Ok m
-method_reads rules done line m lines room within above h =
+-- the same method with other loops
+abbrev looped : ClassMethod → Option PlainLoops → ClassMethod
+looped m l = record { name = m.name; flags = m.flags; in_cap = m.in_cap; out_cap = m.out_cap; instructions = m.instructions; loops = l }
+
+method_reads : (rules : RuleSet) (done : List ClassMethod) (line : ℕ) (m : ClassMethod) (lines : List Statement) → length done < METHOD_LIMIT → IsWithinSet rules m → m.loops ≡ None → is_above (last_name [] done) m.name ≡ true → Holds m lines → method_at rules done line (Ok (header m)) lines ≡ Ok m
+method_reads rules done line m lines room within none above h =
     let test : nat_le METHOD_LIMIT (length done) ≡ false = grind (arith, nat_tests) in
     let small : is_within_set rules (header m) ≡ true = within_test rules (header m) within.in_cap within.out_cap in
-    rw (test, h.some, small, above, h.reads (line + 1)) refl
+    rw (test, h.some, small, above, h.reads (line + 1)) (ap (λ (l : Option PlainLoops). Ok (looped m l)) (sym none))
 
 -- lines of a method that was read
 skip : (rules : RuleSet) (done : List ClassMethod) (r : Result (List ClassMethod) AsmError) (rest : List Statement) → (length done == 0) ≡ false → ((line : ℕ) → class_from rules done line rest ≡ r) → (is : List Insn) (line : ℕ) → class_from rules done line (said is ++ rest) ≡ r
@@ -277,17 +282,17 @@ push_some done m =
     let some : 1 ≤ length (done ++ (m ∷ [])) = omega arith in
     grind (arith, nat_tests)
 
-class_reads : (rules : RuleSet) (done ms : List ClassMethod) → AllByRecursion IsMethod ms → AreWithinSet rules ms → length done + length ms ≤ METHOD_LIMIT → NamesAbove (last_name [] done) ms → 1 ≤ length done + length ms → (line : ℕ) → class_from rules done line (said_class ms) ≡ Ok (done ++ ms)
+class_reads : (rules : RuleSet) (done ms : List ClassMethod) → AllByRecursion IsMethod ms → AreWithinSet rules ms → HaveNoLoops ms → length done + length ms ≤ METHOD_LIMIT → NamesAbove (last_name [] done) ms → 1 ≤ length done + length ms → (line : ℕ) → class_from rules done line (said_class ms) ≡ Ok (done ++ ms)
 unfolding class_from
-class_reads rules done [] h w few above some line =
+class_reads rules done [] h w none few above some line =
     let test : (length done == 0) ≡ false = grind (arith, nat_tests) in
     rw test (ap (λ r. Ok r) (sym (append-nil done)))
-class_reads rules done (m ∷ ms) h w few above some line =
+class_reads rules done (m ∷ ms) h w none few above some line =
     let pushed = length-append done (m ∷ []) in
     let next : NamesAbove (last_name [] (done ++ (m ∷ []))) ms = rw (last_push [] done m) above.1 in
-    rw (method_reads rules done line m (before_first is_directive (said m.instructions ++ said_class ms)) (omega arith) w.0 above.0 (holds m ms h.0))
+    rw (method_reads rules done line m (before_first is_directive (said m.instructions ++ said_class ms)) (omega arith) w.0 none.0 above.0 (holds m ms h.0))
     (skip rules (done ++ (m ∷ [])) (Ok (done ++ (m ∷ ms))) (said_class ms) (push_some done m)
-    (λ l. class_reads rules (done ++ (m ∷ [])) ms h.1 w.1 (omega arith) next (omega arith) l ∙ ap (λ r. Ok r) (append_assoc done (m ∷ []) ms))
+    (λ l. class_reads rules (done ++ (m ∷ [])) ms h.1 w.1 none.1 (omega arith) next (omega arith) l ∙ ap (λ r. Ok r) (append_assoc done (m ∷ []) ms))
     m.instructions (line + 1))
 
 directive_has : (d : Result MethodHeader AsmFault) (rest : List Statement) → has_instruction rest ≡ true → has_instruction (Directive d ∷ rest) ≡ true
@@ -362,20 +367,20 @@ ruled_one [] line some = absurd (omega arith)
 ruled_one (m ∷ ms) line some = refl
 
 -- the methods of a class from a line on
-methods_read : (rules : RuleSet) (ms : List ClassMethod) → IsClass ms → AreWithinSet rules ms → (line : ℕ) → class_from rules [] line (said_class ms) ≡ Ok ms
-methods_read rules ms c w line =
+methods_read : (rules : RuleSet) (ms : List ClassMethod) → IsClass ms → AreWithinSet rules ms → HaveNoLoops ms → (line : ℕ) → class_from rules [] line (said_class ms) ≡ Ok ms
+methods_read rules ms c w none line =
     let some = c.some in
     let limit = c.limit in
-    class_reads rules [] ms c.methods w (omega arith) (names_from ms c.methods c.names) (omega arith) line
+    class_reads rules [] ms c.methods w none (omega arith) (names_from ms c.methods c.names) (omega arith) line
 
-ruled_reads : (rules : RuleSet) (ms : List ClassMethod) → IsClass ms → AreWithinSet rules ms → ruled_from 1 (said_ruled rules ms) ≡ Ok (record { rules = rules; methods = ms })
+ruled_reads : (rules : RuleSet) (ms : List ClassMethod) → IsClass ms → AreWithinSet rules ms → HaveNoLoops ms → ruled_from 1 (said_ruled rules ms) ≡ Ok (record { rules = rules; methods = ms })
 unfolding ruled_from
-ruled_reads One ms c w = ruled_one ms 1 c.some ∙ ap (with_rules One) (methods_read One ms c w 1)
-ruled_reads Two ms c w = ap (with_rules Two) (methods_read Two ms c w 2)
-ruled_reads Three ms c w = ap (with_rules Three) (methods_read Three ms c w 2)
+ruled_reads One ms c w none = ruled_one ms 1 c.some ∙ ap (with_rules One) (methods_read One ms c w none 1)
+ruled_reads Two ms c w none = ap (with_rules Two) (methods_read Two ms c w none 2)
+ruled_reads Three ms c w none = ap (with_rules Three) (methods_read Three ms c w none 2)
 
 -- the canonical text gives the class back
 pub class_texts_give_back : ClassTextsGiveBack
 unfolding read_class_text
-class_texts_give_back c h w =
-    rw (ruled_says c.rules c.methods h.methods, ruled_has c.rules c.methods h.methods h.some) (ruled_reads c.rules c.methods h w)
+class_texts_give_back c h w none =
+    rw (ruled_says c.rules c.methods h.methods, ruled_has c.rules c.methods h.methods h.some) (ruled_reads c.rules c.methods h w none)

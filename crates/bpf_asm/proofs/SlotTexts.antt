@@ -113,7 +113,7 @@ class_same Three ms h = below_line (codes ".rules 3") (methods_with_slots ms) (m
 
 pub slot_texts_give_back : SlotTextsGiveBack
 unfolding read_class_text
-slot_texts_give_back c h w = ap class_assembled (class_same c.rules c.methods h.methods) ∙ class_texts_give_back c h w
+slot_texts_give_back c h w none = ap class_assembled (class_same c.rules c.methods h.methods) ∙ class_texts_give_back c h w none
 
 pub slot_texts_in_grammar : SlotTextsAreInGrammar
-slot_texts_in_grammar c h w = read_is_class_text (class_with_slots c) c (slot_texts_give_back c h w)
+slot_texts_in_grammar c h w none = read_is_class_text (class_with_slots c) c (slot_texts_give_back c h w none)

@@ -45,10 +45,17 @@ opening_fault rules done bare h =
     if nat_le METHOD_LIMIT (length done) || bare || not (is_within_set rules h) then Some faults.Range
     else (if is_above (last_name [] done) h.name then None else Some faults.Label)
 
--- a method of that header and those instructions
+-- a method of that header and those instructions, without loops
 abbrev pub method_with : MethodHeader → List Insn → ClassMethod
 method_with h insns =
-    record { name = h.name; flags = h.flags; in_cap = h.in_cap; out_cap = h.out_cap; instructions = insns }
+    record {
+      name = h.name;
+      flags = h.flags;
+      in_cap = h.in_cap;
+      out_cap = h.out_cap;
+      instructions = insns;
+      loops = None;
+    }
 
 -- that method, or what is refused of its lines
 abbrev pub with_body : MethodHeader → Result (List Insn) AsmError → Result ClassMethod AsmError

@@ -25,7 +25,7 @@ fn draft_slots(draft: &Result<Draft, AsmFault>) -> usize
 }
 
 /// The number of slots that a line takes: 0 if it has no instruction.
-pub(crate) fn line_slots(line: &Statement) -> usize
+pub fn line_slots(line: &Statement) -> usize
     ensures slots { result ≡ line_slots line.now }
     ensures few { result ≤ 2 }
 {
@@ -240,7 +240,7 @@ fn is_instruction(line: &Statement) -> bool
 }
 
 /// True if one of the lines is an instruction's.
-pub(crate) fn has_instruction(lines: &[Statement]) -> bool
+pub fn has_instruction(lines: &[Statement]) -> bool
     ensures { result ≡ has_instruction lines.now }
 {
     lines.iter().any(is_instruction)

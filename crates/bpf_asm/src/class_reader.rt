@@ -262,9 +262,10 @@ fn methods_of(
     Ok(methods)
 }
 
-/// A class, from the statements of its lines.
+/// The class of lines, by the statement of each. A refusal names the first line that has a fault,
+/// and the least fault there; want of memory may come in place of any answer.
 #[tactic(auto, using(crate::proofs::ClassLemmas::is_class))]
-fn class_assembled(alloc: Global, lines: &[Statement]) -> Result<ClassImage, AsmError>
+pub fn assemble_lines(alloc: Global, lines: &[Statement]) -> Result<ClassImage, AsmError>
     requires { length lines.now + 2 < 2 ^ 64 }
     ensures { MatchResult result (λ c. class_assembled lines.now ≡ Ok c) (λ e. (e ≡ no_memory) ⊎
         (class_assembled lines.now ≡ Err e)) }
@@ -294,7 +295,7 @@ fn read_class_text(alloc: Global, text: &str) -> Result<ClassImage, AsmError>
         (read_class_text text.now ≡ Err e)) }
 {
     let lines = statements(alloc, text)?;
-    class_assembled(alloc, &lines)
+    assemble_lines(alloc, &lines)
 }
 
 /// The class of a text. A refusal names the first line that has a fault, and the least fault there;

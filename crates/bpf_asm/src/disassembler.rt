@@ -20,7 +20,8 @@ pub fn disassemble(alloc: Global, insns: &[Insn]) -> Result<String, AsmError>
     Ok(insns_text(alloc, insns)?)
 }
 
-/// The canonical text of a class. It is refused for want of memory alone.
+/// The canonical text of a class, which leaves out its loops. It is refused for want of memory
+/// alone.
 pub fn disassemble_class(alloc: Global, class: &ClassImage) -> Result<String, AsmError>
     ensures text { IfOk result (λ s. string_bytes s ≡ class_text class.now) }
     ensures memory { IfErr result (λ e. e ≡ no_memory) }
@@ -29,8 +30,8 @@ pub fn disassemble_class(alloc: Global, class: &ClassImage) -> Result<String, As
 }
 
 /// The canonical text of a class, with ` ; slot N` at the end of each instruction's line. A refusal
-/// names the instruction by the slot N. It assembles to the same class (`one_slot_text`). It is
-/// refused for want of memory alone.
+/// names the instruction by the slot N. It leaves out loops, and of a class without them it assembles
+/// to the same class (`one_slot_text`). It is refused for want of memory alone.
 pub fn disassemble_with_slots(alloc: Global, class: &ClassImage) -> Result<String, AsmError>
     ensures text { IfOk result (λ s. string_bytes s ≡ class_with_slots class.now) }
     ensures memory { IfErr result (λ e. e ≡ no_memory) }

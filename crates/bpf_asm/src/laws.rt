@@ -9,14 +9,15 @@ pub fn one_text()
     ensures { TextsGiveBack × TextsAreInGrammar }
 {}
 
-/// The canonical text of a class is read as that class, and is in the grammar: `assemble_class`
-/// inverts `disassemble_class`, and no two classes have one canonical text.
+/// The canonical text of a class without loops is read as that class, and is in the grammar:
+/// `assemble_class` inverts `disassemble_class` there, and no two such classes have one canonical
+/// text.
 pub fn one_class_text()
     ensures { ClassTextsGiveBack × ClassTextsAreInGrammar }
 {}
 
-/// The text of a class with slots is read as that class, and is in the grammar: `assemble_class`
-/// inverts `disassemble_with_slots`.
+/// The text of a class without loops, with slots, is read as that class, and is in the grammar:
+/// `assemble_class` inverts `disassemble_with_slots` there.
 pub fn one_slot_text()
     ensures { SlotTextsGiveBack × SlotTextsAreInGrammar }
 {}

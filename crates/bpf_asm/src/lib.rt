@@ -11,6 +11,7 @@ mod laws;
 
 pub use asm_lines::{AsmError, AsmFault};
 pub use assembler::assemble;
-pub use class_reader::assemble_class;
+pub use body::{has_instruction, line_slots};
+pub use class_reader::{assemble_class, assemble_lines};
 pub use disassembler::{disassemble, disassemble_class, disassemble_with_slots};
 pub use laws::{one_class_text, one_reading, one_slot_text, one_text};

@@ -1,0 +1,6 @@
+use Rattle.std.proofs.Common.{◌≡◌, drop}
+use Rattle.loop_heads.specs.Loops.{head_at}
+use Rattle.loop_asm.proofs.method.is_at.Given as goal
+
+abbrev pub invariant-loop-head : goal.invariant-loop-head
+invariant-loop-head l = head_at (drop l.head-index l.heads) l.slot ≡ head_at l.heads l.slot
