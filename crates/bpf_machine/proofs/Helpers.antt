@@ -43,7 +43,7 @@ module _ (caps : Caps) (lay : Layout) (ok : IsLayout caps lay) where
   range_sim writes (Ptr r o) n = range_cases writes r o n (n == 0) refl
 
   arguments_sim : (s : Typed) (more : List Argument) (k : ℕ) → Sim Any same (typed_arguments caps s more k) (arguments caps lay (image lay s) more k)
-  arguments_sim s [] k = sim_same (Some (nothing_given s.caller))
+  arguments_sim s [] k = sim_same (Some (nothing_given s.limits s.caller))
   arguments_sim s (Number ∷ more) k =
       number_in caps lay same s k _ _ (λ n. sim_bind _ _ _ _ _ _ _ _ (arguments_sim s more (k + 1)) (λ g _ _. sim_same (Some (with_number n g))))
   arguments_sim s (OutputLength ∷ more) k =
@@ -67,5 +67,5 @@ module _ (caps : Caps) (lay : Layout) (ok : IsLayout caps lay) where
       sim_bind Any same Any (image lay) _ _ _ _ (arguments_sim s takes.arguments 1) (λ given _ _.
       let e = effect id s.object (asked given) in
       sim_some Any (image lay) _ _ tt
-      (ap (λ regs. record { slot = s.slot; regs = Some e.answer ∷ None ∷ None ∷ None ∷ None ∷ None ∷ regs; memory = write_room (image_memory lay s.memory) given.target e.bytes; object = e.object; out_len = unwrap_or e.out_len s.out_len; caller = s.caller; edits = with_edits (edits id s.object (asked given)) s.edits }) (drop-map (option_map (address lay)) 6 s.regs)
-      ∙ ap (λ memory. record { slot = s.slot; regs = Some e.answer ∷ None ∷ None ∷ None ∷ None ∷ None ∷ map (option_map (address lay)) (drop 6 s.regs); memory = memory; object = e.object; out_len = unwrap_or e.out_len s.out_len; caller = s.caller; edits = with_edits (edits id s.object (asked given)) s.edits }) (room_image lay s.memory given.target e.bytes)))))
+      (ap (λ regs. record { slot = s.slot; regs = Some e.answer ∷ None ∷ None ∷ None ∷ None ∷ None ∷ regs; memory = write_room (image_memory lay s.memory) given.target e.bytes; object = e.object; out_len = unwrap_or e.out_len s.out_len; caller = s.caller; limits = s.limits; edits = with_edits (edits id s.object (asked given)) s.edits }) (drop-map (option_map (address lay)) 6 s.regs)
+      ∙ ap (λ memory. record { slot = s.slot; regs = Some e.answer ∷ None ∷ None ∷ None ∷ None ∷ None ∷ map (option_map (address lay)) (drop 6 s.regs); memory = memory; object = e.object; out_len = unwrap_or e.out_len s.out_len; caller = s.caller; limits = s.limits; edits = with_edits (edits id s.object (asked given)) s.edits }) (room_image lay s.memory given.target e.bytes)))))

@@ -14,6 +14,7 @@ use Rattle.bpf_decode.specs.declared.operation.OpWidth.TheVariants.{Bits32, Bits
 use Rattle.bpf_machine.specs.declared.limits.TheConstants.{STACK_SIZE}
 use Rattle.bpf_decode.specs.declared.region.Region.{Region}
 use Rattle.bpf_decode.specs.declared.region.Region.TheVariants.{Input, Output, Stack}
+use Rattle.object_store.specs.Limits.{profile}
 use Rattle.object_store.specs.Object.{PlainObject, IsObject, AreBytes, part}
 use Rattle.helpers.specs.declared.argument.Argument.{Argument}
 use Rattle.helpers.specs.declared.argument.Argument.TheVariants.{Number, OutputLength, Readable, Writable}
@@ -40,18 +41,18 @@ module _ {A : Type 0} (P : A → Type 0) where
   where_none : Where P None
   where_none = record { by = λ x e. absurd (none-some x e) }
 
-  where_some : (x : A) → P x → Where P (Some x)
+  pub where_some : (x : A) → P x → Where P (Some x)
   where_some x p = record { by = λ y e. subst P (same_Some x y e) p }
 
   where_if : (b : Bool) (a c : Option A) → Where P a → Where P c → Where P (if b then a else c)
   where_if true a c h k = h
   where_if false a c h k = k
 
-  where_only : (b : Bool) (a : Option A) → Where P a → Where P (only b a)
+  pub where_only : (b : Bool) (a : Option A) → Where P a → Where P (only b a)
   where_only true a h = h
   where_only false a h = where_none
 
-  where_bind : {B : Type 0} (a : Option B) (f : B → Option A) → ((x : B) → a ≡ Some x → Where P (f x)) → Where P (a >>= f)
+  pub where_bind : {B : Type 0} (a : Option B) (f : B → Option A) → ((x : B) → a ≡ Some x → Where P (f x)) → Where P (a >>= f)
   where_bind None f h = where_none
   where_bind (Some x) f h = h x refl
 
@@ -60,9 +61,11 @@ pub record IsGood (caps : Caps) (s : State ℕ) : Type 0 where
   pub sized : IsMemory caps s.memory
   pub bytes : (r : Region) → AreBytes (cells s.memory r)
   pub object : IsObject s.object
+  pub limits : s.limits ≡ profile
 
--- every text is bytes, and the writable range is a region's
+-- the limits are those of all objects, every text is bytes, and the writable range is a region's
 pub record IsGiven (caps : Caps) (g : Given) : Type 0 where
+  pub limits : g.limits ≡ profile
   pub texts : AllByRecursion AreBytes g.texts
   pub room : (p : Region × ℕ) → g.target ≡ Some p → p.1 + g.room ≤ size caps p.0
 
@@ -75,6 +78,7 @@ module _ (caps : Caps) (law : EffectsAreWithinLimits) (lay : Layout) where
         sized = put_sized caps lay s.memory g.sized (base lay r + place) bytes r place i;
         bytes = λ q. by q (put_other s.memory r q place bytes);
         object = g.object;
+        limits = g.limits;
       }
     where
       by : (q : Region) → (r ≡ q) ⊎ (cells (put s.memory r place bytes) q ≡ cells s.memory q) → AreBytes (cells (put s.memory r place bytes) q)
@@ -82,10 +86,10 @@ module _ (caps : Caps) (law : EffectsAreWithinLimits) (lay : Layout) where
       by q (inr e) = subst AreBytes (sym e) (g.bytes q)
 
   sets : (s : State ℕ) (d v : ℕ) → IsGood caps s → Where (IsGood caps) (set_reg s d v)
-  sets s d v g = where_if (IsGood caps) (nat_lt d 10) _ _ (where_some (IsGood caps) _ (record { sized = g.sized; bytes = g.bytes; object = g.object })) (where_none (IsGood caps))
+  sets s d v g = where_if (IsGood caps) (nat_lt d 10) _ _ (where_some (IsGood caps) _ (record { sized = g.sized; bytes = g.bytes; object = g.object; limits = g.limits })) (where_none (IsGood caps))
 
   goes : (s : State ℕ) (slot : ℕ) → IsGood caps s → IsGood caps (go slot s)
-  goes s slot g = record { sized = g.sized; bytes = g.bytes; object = g.object }
+  goes s slot g = record { sized = g.sized; bytes = g.bytes; object = g.object; limits = g.limits }
 
   after : (s : State ℕ) (o : Option (State ℕ)) → Where (IsGood caps) o → Where (IsGood caps) (flat_after caps lay s o)
   after s o w = where_bind (IsGood caps) o (λ t. Some (go (s.slot + 1) t)) (λ t e. where_some (IsGood caps) _ (goes t (s.slot + 1) (w.by t e)))
@@ -113,30 +117,30 @@ module _ (caps : Caps) (law : EffectsAreWithinLimits) (lay : Layout) where
   text_is s (Some p) n g = are_part (cells s.memory p.0) p.1 n (g.bytes p.0)
 
   given : (s : State ℕ) → IsGood caps s → (takes : List Argument) (k : ℕ) → Where (IsGiven caps) (arguments caps lay s takes k)
-  given s g [] k = where_some (IsGiven caps) _ (record { texts = tt; room = λ p e. absurd (none-some p e) })
+  given s g [] k = where_some (IsGiven caps) _ (record { limits = g.limits; texts = tt; room = λ p e. absurd (none-some p e) })
   given s g (Number ∷ more) k =
       where_bind (IsGiven caps) (reg s k) _ (λ n e.
       where_bind (IsGiven caps) (arguments caps lay s more (k + 1)) _ (λ x f.
-      let i = (given s g more (k + 1)).by x f in where_some (IsGiven caps) _ (record { texts = i.texts; room = i.room })))
+      let i = (given s g more (k + 1)).by x f in where_some (IsGiven caps) _ (record { limits = i.limits; texts = i.texts; room = i.room })))
   given s g (OutputLength ∷ more) k =
       where_bind (IsGiven caps) (reg s k) _ (λ n e.
       where_only (IsGiven caps) _ _ (where_bind (IsGiven caps) (arguments caps lay s more (k + 1)) _ (λ x f.
-      let i = (given s g more (k + 1)).by x f in where_some (IsGiven caps) _ (record { texts = i.texts; room = i.room }))))
+      let i = (given s g more (k + 1)).by x f in where_some (IsGiven caps) _ (record { limits = i.limits; texts = i.texts; room = i.room }))))
   given s g (Readable ∷ more) k =
       where_bind (IsGiven caps) (reg s k) _ (λ at e.
       where_bind (IsGiven caps) (reg s (k + 1)) _ (λ n e2.
       where_bind (IsGiven caps) (range caps lay false at n) _ (λ p e3.
       where_bind (IsGiven caps) (arguments caps lay s more (k + 2)) _ (λ x f.
-      let i = (given s g more (k + 2)).by x f in where_some (IsGiven caps) _ (record { texts = (text_is s p n g, i.texts); room = i.room })))))
+      let i = (given s g more (k + 2)).by x f in where_some (IsGiven caps) _ (record { limits = i.limits; texts = (text_is s p n g, i.texts); room = i.room })))))
   given s g (Writable ∷ more) k =
       where_bind (IsGiven caps) (reg s k) _ (λ at e.
       where_bind (IsGiven caps) (reg s (k + 1)) _ (λ n e2.
       where_bind (IsGiven caps) (range caps lay true at n) _ (λ p e3.
       where_bind (IsGiven caps) (arguments caps lay s more (k + 2)) _ (λ x f.
-      let i = (given s g more (k + 2)).by x f in where_some (IsGiven caps) _ (record { texts = i.texts; room = (ranges true at n).by p e3 })))))
+      let i = (given s g more (k + 2)).by x f in where_some (IsGiven caps) _ (record { limits = i.limits; texts = i.texts; room = (ranges true at n).by p e3 })))))
 
   wrote : (s : State ℕ) (target : Option (Region × ℕ)) (room : ℕ) (bytes : List ℕ) → IsGood caps s → IsRange room target → length bytes ≤ room → AreBytes bytes → IsGood caps (record s { memory = write_room s.memory target bytes })
-  wrote s None room bytes g i h k = record { sized = g.sized; bytes = g.bytes; object = g.object }
+  wrote s None room bytes g i h k = record { sized = g.sized; bytes = g.bytes; object = g.object; limits = g.limits }
   wrote s (Some p) room bytes g i h k = put_good s p.0 p.1 bytes g (omega (arith, i p refl)) k
 
   helps : (id : ℕ) (s : State ℕ) → IsGood caps s → Where (IsGood caps) (help caps lay id s)
@@ -144,9 +148,9 @@ module _ (caps : Caps) (law : EffectsAreWithinLimits) (lay : Layout) where
       where_bind (IsGood caps) (signature_of id) _ (λ takes e.
       where_only (IsGood caps) _ _ (where_bind (IsGood caps) (arguments caps lay s takes.arguments 1) _ (λ x f.
       let i = (given s g takes.arguments 1).by x f in
-      let e = law id s.object (asked x) g.object i.texts in
+      let e = law id s.object (asked x) i.limits g.object i.texts in
       let m = wrote s x.target x.room (effect id s.object (asked x)).bytes g i.room e.short e.bytes in
-      where_some (IsGood caps) _ (record { sized = m.sized; bytes = m.bytes; object = e.object }))))
+      where_some (IsGood caps) _ (record { sized = m.sized; bytes = m.bytes; object = e.object; limits = g.limits }))))
 
   module _ (s : State ℕ) (g : IsGood caps s) where
     -- a register is set, and the machine goes on at the next slot
@@ -259,6 +263,7 @@ module _ (caps : Caps) (law : EffectsAreWithinLimits) (lay : Layout) where
     sized = record { lengths = sizes };
     bytes = each;
     object = h;
+    limits = refl;
   }
     where
       sizes : (r : Region) → length (cells (opening caps input) r) ≡ size caps r

@@ -17,5 +17,6 @@ pub mod Bytes
 pub mod Kept
 pub mod Ranges
 pub mod StackSlots
+pub mod Blind
 pub mod Unlisted
 pub mod Listed

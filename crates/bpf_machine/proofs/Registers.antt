@@ -26,7 +26,7 @@ module _ (caps : Caps) (lay : Layout) where
 
   pub sets : (s : Typed) (d : ℕ) (v : Value) → Sim Any (image lay) (set_reg s d v) (set_reg (image lay s) d (address lay v))
   sets s d v =
-      sim_if _ _ _ _ _ (λ _. sim_some _ _ _ _ tt (ap (λ regs. record { slot = s.slot; regs = regs; memory = image_memory lay s.memory; object = s.object; out_len = s.out_len; caller = s.caller; edits = s.edits }) (sym (map-set (option_map (address lay)) s.regs d (Some v)))))
+      sim_if _ _ _ _ _ (λ _. sim_some _ _ _ _ tt (ap (λ regs. record { slot = s.slot; regs = regs; memory = image_memory lay s.memory; object = s.object; out_len = s.out_len; caller = s.caller; limits = s.limits; edits = s.edits }) (sym (map-set (option_map (address lay)) s.regs d (Some v)))))
 
   -- a pointer that moves is moved in every layout
   moved : (bits : OpWidth) (operation : Arithmetic) (r : Region) (at b : ℕ) → moves_pointer bits operation ≡ true → alu_value bits operation ((base lay r + at) % 2 ^ 64) b ≡ (base lay r + alu_value bits operation at b) % 2 ^ 64

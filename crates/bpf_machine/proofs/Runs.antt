@@ -8,11 +8,12 @@ use Rattle.bpf_decode.specs.declared.region.Region.TheVariants.{Input, Output, S
 use Rattle.bpf_decode.specs.declared.region.Region.{Region}
 use Rattle.bpf_machine.specs.declared.caps.Caps.{Caps}
 use Rattle.bpf_machine.specs.declared.limits.TheConstants.{STACK_SIZE}
+use Rattle.object_store.specs.Limits.{profile}
 use Rattle.object_store.specs.Object.{PlainObject}
 use Rattle.bpf_machine.specs.State.{◌>>=◌, size, Memory, State, entry_regs, opening, Outcome, Ending, Ended, one_more, goes_on, ends}
-use Rattle.bpf_machine.specs.Flat.{Layout, IsLayout, base, step, exit_code, run, entry}
-use Rattle.bpf_machine.specs.Typed.{Typed, fetch, typed_act, typed_step, typed_exit_of, typed_exit, typed_ends, typed_run, typed_entry, image}
-use Rattle.bpf_machine.specs.Safe.{Simulates, EndsAlwaysIsSafe, caps_of, first_layout, outcome_or_none, HasLayout, OutcomesAreOne}
+use Rattle.bpf_machine.specs.Flat.{Layout, IsLayout, base, step, exit_code, run, entry, host_entry}
+use Rattle.bpf_machine.specs.Typed.{Typed, fetch, typed_act, typed_step, typed_exit_of, typed_exit, typed_ends, typed_run, typed_entry, typed_host_entry, image}
+use Rattle.bpf_machine.specs.Safe.{Simulates, EndsAlwaysIsSafe, SimulatesWithin, EndsWithinIsSafe, caps_of, first_layout, outcome_or_none, HasLayout, OutcomesAreOne}
 use Rattle.bpf_machine.proofs.Sim.{Sim, Any, same, sim_eq}
 use Rattle.bpf_machine.proofs.Parts.{plain_memory_image}
 use Rattle.bpf_machine.proofs.Rows.{act_sim, exit_sim}
@@ -70,7 +71,7 @@ whole_plus : (b o : ℕ) → b + o < 2 ^ 64 → (b + o) % 2 ^ 64 ≡ b + o
 whole_plus b o h = mod-eq_of_lt h
 
 abbrev entry_at : Memory → PlainObject → ℕ → List ℕ → ℕ → ℕ → ℕ → State ℕ
-entry_at m object caller input x y z = record { slot = 0; regs = entry_regs x (length input) y z; memory = m; object = object; out_len = 0; caller = caller; edits = None }
+entry_at m object caller input x y z = record { slot = 0; regs = entry_regs x (length input) y z; memory = m; object = object; out_len = 0; caller = caller; limits = profile; edits = None }
 
 pub entry_image : (caps : Caps) (lay : Layout) → IsLayout caps lay → (object : PlainObject) (caller : ℕ) (input : List ℕ) → image lay (typed_entry caps object caller input) ≡ entry caps lay object caller input
 entry_image caps lay ok object caller input =
@@ -98,6 +99,23 @@ pub ends_always_is_safe : EndsAlwaysIsSafe
 ends_always_is_safe m fit always object caller input call =
     let r = always object caller input call in
     let s = simulates m fit object caller input call.short r.0 r.1 r.2 in
+    (r.0, r.1, s.0, s.1)
+
+pub simulates_within : SimulatesWithin
+simulates_within m fit limits object caller input outcome steps h =
+    let n = length m.instructions in
+    let start = typed_host_entry limits (caps_of m) object caller input in (
+      steps_within (caps_of m) (slots m.instructions) object n start outcome steps h,
+      λ lay ok.
+          let image_is = ap (λ (s : State ℕ). record s { limits = limits }) (entry_image (caps_of m) lay ok object caller input) in
+          let e = ap (run (caps_of m) lay (spelling m.instructions) object n) (sym image_is) ∙ runs (caps_of m) lay ok object m.instructions fit n start outcome steps h in
+          ((runs_are_chains (caps_of m) lay (spelling m.instructions) object n (host_entry limits (caps_of m) lay object caller input) outcome steps).0 e).1,
+    )
+
+pub ends_within_is_safe : EndsWithinIsSafe
+ends_within_is_safe m fit always limits object caller input call =
+    let r = always limits object caller input call in
+    let s = simulates_within m fit limits object caller input r.0 r.1 r.2 in
     (r.0, r.1, s.0, s.1)
 
 pub has_layout : HasLayout

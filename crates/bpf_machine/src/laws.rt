@@ -1,17 +1,19 @@
 //! Laws of the machine, for the proofs of the crates above. Each function does nothing.
 
-ghost use Rattle.bpf_machine.specs.Safe.{Simulates, EndsAlwaysIsSafe, RunsAreChains, StuckRunsAreChains};
-ghost use Rattle.bpf_machine.specs.Safe.{UnfinishedRunsAreChains, BytesAreInstructions, ElsewhereIsStuck, HasLayout};
+ghost use Rattle.bpf_machine.specs.Safe.{Simulates, SimulatesWithin, EndsAlwaysIsSafe, EndsWithinIsSafe, RunsAreChains};
+ghost use Rattle.bpf_machine.specs.Safe.{StuckRunsAreChains, UnfinishedRunsAreChains};
+ghost use Rattle.bpf_machine.specs.Safe.{BytesAreInstructions, ElsewhereIsStuck, HasLayout};
 ghost use Rattle.bpf_machine.specs.Safe.{OutcomesAreOne};
 ghost use Rattle.bpf_machine.specs.Address.{PlacesAreAddresses, NoByteElsewhere, LoadsAreOfAddresses};
 ghost use Rattle.bpf_machine.specs.Address.{SignedLoadsAreOfAddresses, StoresAreAtAddresses, RangesAreOfAddresses};
 ghost use Rattle.bpf_machine.specs.Address.{RoomsAreAtAddresses, OpeningIsAtAddresses};
-ghost use Rattle.bpf_machine.specs.Lists.{EndsHaveLists, ListsAreOne};
+ghost use Rattle.bpf_machine.specs.Lists.{EndsHaveLists, EndsHaveListsWithin, ListsAreOne};
+ghost use Rattle.bpf_machine.specs.Blind.{StepsAreBlind};
 ghost use Rattle.bpf_machine.specs.Slots.{SlotsHaveValues, SlotsBeginAtZero, NumbersAreRead, BytesAreWritten};
 ghost use Rattle.bpf_machine.specs.Slots.{PlacesAreWritten, NumbersAreTheirBytes};
 ghost use Rattle.bpf_machine.specs.Within.{OutcomesAreWithinLimits, CallsAreWithinLimits};
 
-use helpers::{edits_lead, effects_are_within_limits};
+use helpers::{edits_lead, edits_make, effects_are_within_limits};
 
 /// A law, proved when the crate is checked; a call does nothing. If the typed machine's run of a
 /// method's instructions ends, the flat machine's run of their bytes ends with the same outcome,
@@ -19,7 +21,9 @@ use helpers::{edits_lead, effects_are_within_limits};
 /// which is the interpreter's. A method whose typed runs all end is safe.
 pub fn simulation()
     ensures simulates { Simulates }
+    ensures simulates_within { SimulatesWithin }
     ensures safe { EndsAlwaysIsSafe }
+    ensures within { EndsWithinIsSafe }
 {}
 
 /// A law. A run of at most n steps ends exactly if the chain of its steps reaches an exit within n,
@@ -40,6 +44,13 @@ pub fn other_runs()
 pub fn decoded()
     ensures begins { BytesAreInstructions }
     ensures elsewhere { ElsewhereIsStuck }
+{}
+
+/// A law. No instruction but a call of a helper looks at the limits, the object or the list of
+/// edits, or touches them: it does the same, and exits the same, whatever they are. A helper is
+/// given the same arguments, and the limits.
+pub fn blind_steps()
+    ensures { StepsAreBlind }
 {}
 
 /// A law. There is a layout for all capacities.
@@ -93,11 +104,15 @@ pub fn limits_are_kept()
 }
 
 /// A law. A method whose typed run ends leaves a list of edits, which is one for all layouts; they
-/// make of the object before the object after, and none of them is refused.
+/// make of the object before the object after, and none of them is refused. By any limits
+/// that a host may give there is such a list too, whose edits, made without limits, make of the
+/// object before the object after.
 pub fn lists()
     ensures ends { EndsHaveLists }
+    ensures within { EndsHaveListsWithin }
     ensures one { ListsAreOne }
 {
     // For the proof: so do the edits of each helper.
     edits_lead();
+    edits_make();
 }

@@ -12,7 +12,7 @@ pub use bpf_decode::{Region, Value, arithmetic, jump_target};
 pub use caps::Caps;
 pub use helpers::{Argument, Signature, signature};
 pub use laws::{
-    addresses, chains, decoded, layouts, limits_are_kept, lists, other_runs, outcomes, simulation,
-    slots,
+    addresses, blind_steps, chains, decoded, layouts, limits_are_kept, lists, other_runs, outcomes,
+    simulation, slots,
 };
 pub use limits::STACK_SIZE;

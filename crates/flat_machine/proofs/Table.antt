@@ -17,7 +17,7 @@ module _ (caps : Caps) (lay : Layout) (s : State ℕ) where
   help_of o =
       option_map (λ k. (row k).takes) o >>= λ takes. only (not takes.writes || caps.writes) (arguments caps lay s takes.arguments 1 >>= λ g.
       let f = effect_of o s.object (asked g) in
-      Some (record { slot = s.slot; regs = answered s.regs f.answer; memory = write_room s.memory g.target f.bytes; object = f.object; out_len = unwrap_or f.out_len s.out_len; caller = s.caller; edits = with_edits (edits_of o s.object (asked g)) s.edits }))
+      Some (record { slot = s.slot; regs = answered s.regs f.answer; memory = write_room s.memory g.target f.bytes; object = f.object; out_len = unwrap_or f.out_len s.out_len; caller = s.caller; limits = s.limits; edits = with_edits (edits_of o s.object (asked g)) s.edits }))
 
   -- where it may, its row says what it does
   pub help_is : (id : ℕ) (h : Helper) → may_call caps id ≡ true → helper_of id ≡ Some h → help caps lay id s ≡ helped caps lay h s

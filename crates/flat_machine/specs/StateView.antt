@@ -1,5 +1,6 @@
 -- What a state of the code, and a step of it, are to the definitions.
 use Rattle.std.specs.Prelude.{◌≡◌, ℕ, Option, Some, None, slice_get}
+use Rattle.object_store.specs.Limits.{profile}
 use Rattle.bpf_machine.specs.declared.caps.Caps.{Caps}
 use Rattle.flat_machine.specs.declared.regions.Regions.{Regions}
 use Rattle.flat_machine.specs.declared.state.FlatState.{FlatState}
@@ -13,7 +14,7 @@ use Rattle.flat_machine.specs.View.{layout_of}
 abbrev pub memory_of : Regions → Memory
 memory_of m = record { input = m.input.items; output = m.output.items; stack = m.stack.items }
 
--- the state of the definition, which keeps no list of edits
+-- the state of the definition, by the limits of all objects, which keeps no list of edits
 abbrev pub flat_state : FlatState → State ℕ
 flat_state s = record {
   slot = s.slot;
@@ -22,6 +23,7 @@ flat_state s = record {
   object = s.object.after;
   out_len = s.out_len;
   caller = s.caller;
+  limits = profile;
   edits = None;
 }
 

@@ -35,7 +35,7 @@ pub enum Ending {
 
 /// The place where a run stopped.
 #[derive(Clone, Copy)]
-pub enum Stop {
+pub enum RunStop {
     /// At an exit: register 0, and the number of steps.
     Exit(u64, usize),
     Stuck,
@@ -56,7 +56,7 @@ fn copied(object: Option<&Object>) -> Result<Option<Object>, NoMemory>
 }
 
 /// Runs at most `limit` steps, from a state, until the run stops.
-fn run_on(alloc: Global, code: &[u8], s: &mut FlatState, limit: usize) -> Result<Stop, NoMemory>
+fn run_on(alloc: Global, code: &[u8], s: &mut FlatState, limit: usize) -> Result<RunStop, NoMemory>
     ensures { IfOk result (λ stop. stopped (flat_state s.old).object stop (flat_state s.new) ≡
         run (caps_in s.old) (layout_in s.old) code.now (flat_state s.old).object limit (flat_state s.old)) }
 {
@@ -64,11 +64,11 @@ fn run_on(alloc: Global, code: &[u8], s: &mut FlatState, limit: usize) -> Result
         match s.step(alloc, code)? {
             Stepped::Next => {}
             // The exit is an instruction executed too, hence n + 1.
-            Stepped::Exit(value) => return Ok(Stop::Exit(value, n + 1)),
-            Stepped::Stuck => return Ok(Stop::Stuck),
+            Stepped::Exit(value) => return Ok(RunStop::Exit(value, n + 1)),
+            Stepped::Stuck => return Ok(RunStop::Stuck),
         }
     }
-    Ok(Stop::Unfinished)
+    Ok(RunStop::Unfinished)
 }
 
 /// The output and the object after an exit: a negative code changes nothing and has no output.
@@ -99,13 +99,13 @@ fn finish(
 fn ended(
     alloc: Global,
     before: Option<&Object>,
-    stop: Stop,
+    stop: RunStop,
     s: FlatState,
 ) -> Result<Ending, NoMemory>
     ensures { IfOk result (λ e. ending_of e ≡ stopped (option_copied before.entry) stop (flat_state s.entry)) }
 {
     match stop {
-        Stop::Exit(code, steps) => {
+        RunStop::Exit(code, steps) => {
             let (output, object) = finish(alloc, before, code, s)?;
             Ok(Ending::Ended {
                 code,
@@ -114,8 +114,8 @@ fn ended(
                 steps,
             })
         }
-        Stop::Stuck => Ok(Ending::Stuck),
-        Stop::Unfinished => Ok(Ending::Unfinished),
+        RunStop::Stuck => Ok(Ending::Stuck),
+        RunStop::Unfinished => Ok(Ending::Unfinished),
     }
 }
 

@@ -9,8 +9,9 @@ use Rattle.std.specs.declared.cmp.Ordering.{Ordering}
 use Rattle.std.specs.declared.cmp.Ordering.TheVariants.{Less, Equal, Greater}
 use Rattle.std.proofs.lemmas.List.{length-take}
 use Rattle.shared_map.specs.Entries.{key_above}
-use Rattle.object_store.specs.Object.{Attributes, Content, PlainObject, AreWithin, IsObject}
-use Rattle.object_store.specs.declared.limits.TheConstants.{DATA_LIMIT, NAME_LIMIT, XATTR_LIMIT, KEY_LIMIT}
+use Rattle.object_store.specs.Object.{Attributes, Content, PlainObject}
+use Rattle.object_store.specs.Limits.{IsLimits, AreNames, IsAnyObject}
+use Rattle.object_store.specs.declared.limits.TheConstants.{NAME_LIMIT}
 use Rattle.helpers.specs.declared.helper.Helper.{Helper}
 use Rattle.helpers.specs.declared.helper.Helper.TheVariants.{Stat, Read, Write, Truncate, Remove, GetXattr, SetXattr, RmXattr, MapGet, MapSet, MapRm, MapNext, OutLen, Create, Caller, Compare, Copy, XattrNext}
 use Rattle.helpers.specs.declared.errno.TheConstants.{ENOENT, EEXIST, EINVAL, EFBIG, ENOSPC, ERANGE, ENODATA}
@@ -82,10 +83,10 @@ value_is room object names name small =
     found_is ENODATA room room _ (omega arith) (λ v _. copy_is ENODATA room room v (omega arith) (λ short. short) small))
 
 -- a name that is found is as short as names are
-next_is : (most room : ℕ) (m : Attributes) (name : List ℕ) → AreWithin most m → room < 2 ^ 64 → Says ENODATA (min room NAME_LIMIT) (found_answer (key_above m name) room)
-next_is most room m name w small =
+next_is : (room : ℕ) (m : Attributes) (name : List ℕ) → AreNames m → room < 2 ^ 64 → Says ENODATA (min room NAME_LIMIT) (found_answer (key_above m name) room)
+next_is room m name w small =
     found_is ENODATA _ room _ (omega arith) (λ v e.
-    let named : length v ≤ NAME_LIMIT = (key_is most m name v w e).1 in
+    let named : length v ≤ NAME_LIMIT = (key_is m name v w e).1 in
     copy_is ENODATA (min room NAME_LIMIT) room v (omega arith) (λ short. omega arith) small)
 
 order_is : (o : Ordering) → Says 1 1 (order_answer o)
@@ -122,43 +123,44 @@ range_is g p r x e h =
     let same : p ≡ r = cc in
     record { is = subst (λ q. IsInRange g q x.answer) same (record { fits = h.fits; side = h.side }) }
 
-row_is : (helper : Helper) (r : AnswerRange) (object : PlainObject) (g : Given) → range_row helper ≡ Some r → IsObject object → g.room < 2 ^ 64 → IsIn g r ((row helper).effect object g)
-row_is Stat r object g e h small = absurd (cc)
-row_is Read r object g e h small =
+row_is : (helper : Helper) (r : AnswerRange) (object : PlainObject) (g : Given) → range_row helper ≡ Some r → IsLimits g.limits → IsAnyObject object → g.room < 2 ^ 64 → IsIn g r ((row helper).effect object g)
+row_is Stat r object g e l h small = absurd (cc)
+row_is Read r object g e l h small =
     range_is g _ r _ e (does ENOENT g.room object _ (answer_present ENOENT g.room object _ (omega arith) (λ o _.
     let short : length (take g.room (drop (number g 0) o.bytes)) ≤ g.room = omega (arith, length-take g.room (drop (number g 0) o.bytes)) in
     copies_low ENOENT g.room _ short (omega arith))))
-row_is Write r object g e h small =
-    range_is g _ r _ e (effect_if EFBIG _ EFBIG object (nat_lt DATA_LIMIT (number g 0 + length (text g 0))) _ (omega arith) (omega arith) (λ f.
-    let short : number g 0 + length (text g 0) ≤ DATA_LIMIT = le_from DATA_LIMIT _ f in
+row_is Write r object g e l h small =
+    range_is g _ r _ e (effect_if EFBIG _ EFBIG object (nat_lt g.limits.bytes (number g 0 + length (text g 0))) _ (omega arith) (omega arith) (λ f.
+    let short : number g 0 + length (text g 0) ≤ g.limits.bytes = le_from g.limits.bytes _ f in
+    let most = l.bytes in
     changes_low EFBIG (length (text g 0)) _ (length (text g 0)) (omega arith) (omega arith)))
-row_is Truncate r object g e h small =
+row_is Truncate r object g e l h small =
     range_is g _ r _ e (effect_if EFBIG 0 EFBIG object _ _ (omega arith) (omega arith) (λ _. effect_present EFBIG 0 object _ (omega arith) (λ o. done EFBIG _)))
-row_is Remove r object g e h small = range_is g _ r _ e (effect_present ENOENT 0 object _ (omega arith) (λ o. done ENOENT _))
-row_is GetXattr r object g e h small =
+row_is Remove r object g e l h small = range_is g _ r _ e (effect_present ENOENT 0 object _ (omega arith) (λ o. done ENOENT _))
+row_is GetXattr r object g e l h small =
     range_is g _ r _ e (does ENODATA g.room object _ (answer_if ENODATA g.room EINVAL _ _ (omega arith) (omega arith) (λ _. value_is g.room object (λ o. o.xattrs) (text g 0) small)))
-row_is SetXattr r object g e h small = range_is g _ r _ e (set_is object _ _ _ _)
-row_is RmXattr r object g e h small = range_is g _ r _ e (removed object _ _ _)
-row_is MapGet r object g e h small =
+row_is SetXattr r object g e l h small = range_is g _ r _ e (set_is object _ _ _ _)
+row_is RmXattr r object g e l h small = range_is g _ r _ e (removed object _ _ _)
+row_is MapGet r object g e l h small =
     range_is g _ r _ e (does ENODATA g.room object _ (answer_if ENODATA g.room EINVAL _ _ (omega arith) (omega arith) (λ _. value_is g.room object (λ o. o.omap) (text g 0) small)))
-row_is MapSet r object g e h small = range_is g _ r _ e (set_is object _ _ _ _)
-row_is MapRm r object g e h small = range_is g _ r _ e (removed object _ _ _)
-row_is MapNext r object g e h small =
+row_is MapSet r object g e l h small = range_is g _ r _ e (set_is object _ _ _ _)
+row_is MapRm r object g e l h small = range_is g _ r _ e (removed object _ _ _)
+row_is MapNext r object g e l h small =
     range_is g _ r _ e (does ENODATA _ object _ (answer_if ENODATA _ EINVAL _ _ (omega arith) (omega arith) (λ _. answer_present ENODATA _ object _ (omega arith) (λ o s.
-    next_is KEY_LIMIT g.room o.omap (text g 0) (subst IsObject s h).omap small))))
-row_is OutLen r object g e h small = range_is g _ r _ e (record { fits = omega arith; side = inl (omega arith) })
-row_is Create r object g e h small = range_is g _ r _ e (created object (number g 0))
-row_is Caller r object g e h small = absurd (cc)
-row_is Compare r object g e h small = range_is g _ r _ e (does 1 1 object _ (order_is (slice_cmp nat_cmp (text g 0) (text g 1))))
-row_is Copy r object g e h small =
+    next_is g.room o.omap (text g 0) (subst IsAnyObject s h).omap small))))
+row_is OutLen r object g e l h small = range_is g _ r _ e (record { fits = omega arith; side = inl (omega arith) })
+row_is Create r object g e l h small = range_is g _ r _ e (created object (number g 0))
+row_is Caller r object g e l h small = absurd (cc)
+row_is Compare r object g e l h small = range_is g _ r _ e (does 1 1 object _ (order_is (slice_cmp nat_cmp (text g 0) (text g 1))))
+row_is Copy r object g e l h small =
     range_is g _ r _ e (does ERANGE _ object _ (copy_is ERANGE (length (text g 0)) g.room (text g 0) (omega arith) (λ _. omega arith) small))
-row_is XattrNext r object g e h small =
+row_is XattrNext r object g e l h small =
     range_is g _ r _ e (does ENODATA _ object _ (answer_if ENODATA _ EINVAL _ _ (omega arith) (omega arith) (λ _. answer_present ENODATA _ object _ (omega arith) (λ o s.
-    next_is XATTR_LIMIT g.room o.xattrs (text g 0) (subst IsObject s h).xattrs small))))
+    next_is g.room o.xattrs (text g 0) (subst IsAnyObject s h).xattrs small))))
 
 pub answers_are : AnswersAreInRange
-answers_are id r object g e h small = by (helper_of id) e
+answers_are id r object g e l h small = by (helper_of id) e
   where
     by : (o : Option Helper) → option_and_then range_row o ≡ Some r → IsInRange g r (effect_of o object g).answer
     by None f = absurd (cc)
-    by (Some helper) f = (row_is helper r object g f h small).is
+    by (Some helper) f = (row_is helper r object g f l h small).is

@@ -1,36 +1,27 @@
 -- The edits of each helper make of the object before the object after.
-use Rattle.std.proofs.Common.{◌≡◌, ℕ, ◌+◌, ◌<◌, ◌^◌, List, [], ◌∷◌, Option, Some, None, Ok, Err, Bool, true, false, refl, ap, ◌∙◌, sym, arith, length, nat_lt}
-use Rattle.std.specs.Prelude.{if◌then◌else◌, ◌==◌, not, ◌++◌}
+use Rattle.std.proofs.Common.{◌≡◌, ℕ, ◌+◌, ◌<◌, ◌^◌, List, [], ◌∷◌, Option, Some, None, Ok, Err, Bool, true, false, refl, ap, ◌∙◌, sym, subst, arith, length, nat_lt}
+use Rattle.std.specs.Prelude.{if◌then◌else◌, ◌==◌, not}
 use Rattle.std.specs.FinMap as fin
-use Rattle.object_store.specs.Object.{Content, PlainObject, nothing, content_of, spliced, resized}
+use Rattle.object_store.specs.Object.{Content, PlainObject, content_of, spliced, resized}
 use Rattle.object_store.specs.Calls as calls
+use Rattle.object_store.specs.Limits.{profile}
 use Rattle.object_store.specs.declared.limits.TheConstants.{DATA_LIMIT, VALUE_LIMIT, XATTR_LIMIT, KEY_LIMIT}
 use Rattle.object_store.specs.declared.store_error.StoreError.TheVariants.{TooBig, Range, NoAttr}
 use Rattle.txn.specs.Edits as edit
 use Rattle.txn.specs.Edits.{Edit, there, and_then, edited, all_edited, created, creating, write_edits}
-use Rattle.helpers.specs.declared.errno.TheConstants.{ENOENT, EEXIST, EINVAL, EFBIG, ENOSPC, ENODATA}
+use Rattle.helpers.specs.declared.errno.TheConstants.{EEXIST, EINVAL, EFBIG, ENOSPC, ENODATA}
 use Rattle.helpers.specs.declared.helper.Helper.{Helper}
 use Rattle.helpers.specs.declared.helper.Helper.TheVariants.{Stat, Read, Write, Truncate, Remove, GetXattr, SetXattr, RmXattr, MapGet, MapSet, MapRm, MapNext, OutLen, Create, Caller, Compare, Copy, XattrNext}
-use Rattle.helpers.specs.Effect.{Given, number, text, Effect, refused, changes, on_present, is_full}
+use Rattle.helpers.specs.Effect.{Given, number, text, Effect, refused, changes, is_full}
 use Rattle.helpers.specs.Table.{row, effect_of, helper_of, write_effect, truncate_effect, remove_effect, setxattr_effect, rmxattr_effect, map_set_effect, map_rm_effect, create_effect}
-use Rattle.helpers.specs.Edits.{edits_row, if_done, edits_of, helper_edits, EditsLead}
-use Rattle.helpers.proofs.Limits.{not_not, set_in_is, two_tests, le_from}
-use Rattle.helpers.proofs.Noted.{done}
+use Rattle.helpers.specs.Edits.{edits_row, if_done, edits_of, EditsLead}
+use Rattle.helpers.proofs.Limits.{not_not, set_in_is, two_tests, le_from, at_profile, profile_is}
+use Rattle.helpers.proofs.Noted.{done, none}
 use Rattle.std.proofs.lemmas.Bool.{cond-true}
 
 -- these edits, where the helper did this
 abbrev Lead : List Edit → PlainObject → Effect → Type 0
 Lead es object e = all_edited (if_done e.answer es) object ≡ Ok e.object
-
-abbrev no_edits : List Edit
-no_edits = []
-
-none : (n : ℕ) → if_done n no_edits ≡ no_edits
-none n = by (nat_lt n (2 ^ 63))
-  where
-    by : (b : Bool) → (if b then no_edits else no_edits) ≡ no_edits
-    by true = refl
-    by false = refl
 
 nothing_done : (object : PlainObject) (e : Effect) → e.object ≡ object → Lead [] object e
 nothing_done object e same = ap (λ es. all_edited es object) (none e.answer) ∙ ap Ok (sym same)
@@ -52,10 +43,10 @@ creates : (object : PlainObject) → all_edited (created object) object ≡ Ok (
 creates None = refl
 creates (Some o) = refl
 
-spliced_none : (bytes : List ℕ) (at : ℕ) (text : List ℕ) → (length text == 0) ≡ true → spliced bytes at text ≡ bytes
+pub spliced_none : (bytes : List ℕ) (at : ℕ) (text : List ℕ) → (length text == 0) ≡ true → spliced bytes at text ≡ bytes
 spliced_none bytes at text e = cond-true (length text == 0) bytes _ e
 
-write_leads : (object : PlainObject) (at : ℕ) (bytes : List ℕ) → Lead (write_edits object at bytes) object (write_effect object at bytes)
+write_leads : (object : PlainObject) (at : ℕ) (bytes : List ℕ) → Lead (write_edits object at bytes) object (write_effect profile object at bytes)
 write_leads object at bytes =
     let c : Content = record (content_of object) { bytes = spliced (content_of object).bytes at bytes } in
     lead_if _ object EFBIG (nat_lt DATA_LIMIT (at + length bytes)) _ refl (λ e.
@@ -72,7 +63,7 @@ write_leads object at bytes =
         ∙ lead_creating object (edit.Write at bytes) (record (content_of object) { bytes = spliced (content_of object).bytes at bytes })
         (ap (λ b. there (if b then Err TooBig else Ok (record (content_of object) { bytes = spliced (content_of object).bytes at bytes }))) e)
 
-truncate_leads : (object : PlainObject) (size : ℕ) → Lead (edit.SetLength size ∷ []) object (truncate_effect object size)
+truncate_leads : (object : PlainObject) (size : ℕ) → Lead (edit.SetLength size ∷ []) object (truncate_effect profile object size)
 truncate_leads None size = lead_if _ None EFBIG (nat_lt DATA_LIMIT size) _ refl (λ e. refl)
 truncate_leads (Some o) size =
     lead_if _ (Some o) EFBIG (nat_lt DATA_LIMIT size) _ refl (λ e.
@@ -82,27 +73,27 @@ remove_leads : (object : PlainObject) → Lead (edit.Remove ∷ []) object (remo
 remove_leads None = refl
 remove_leads (Some o) = refl
 
-setxattr_leads : (object : PlainObject) (name value : List ℕ) → Lead (creating object (edit.SetXattr name value)) object (setxattr_effect object name value)
+setxattr_leads : (object : PlainObject) (name value : List ℕ) → Lead (creating object (edit.SetXattr name value)) object (setxattr_effect profile object name value)
 setxattr_leads object name value =
     lead_if _ object EINVAL (not (calls.is_named name)) _ refl (λ e.
     lead_if _ object EFBIG (nat_lt VALUE_LIMIT (length value)) _ refl (λ s.
-    lead_if _ object ENOSPC (is_full XATTR_LIMIT (content_of object).xattrs name) _ refl (λ f.
+    lead_if _ object ENOSPC (is_full (Some XATTR_LIMIT) (content_of object).xattrs name) _ refl (λ f.
     let c : Content = record (content_of object) { xattrs = fin.insert (content_of object).xattrs name value } in
     lead_creating object (edit.SetXattr name value) c
     (ap there (two_tests (calls.is_named name) (nat_lt VALUE_LIMIT (length value)) _ (not_not _ e) s
     ∙ ap (calls.with_xattrs (content_of object)) (set_in_is XATTR_LIMIT (content_of object).xattrs name value f))))))
 
-map_set_leads : (object : PlainObject) (key value : List ℕ) → Lead (creating object (edit.SetKey key value)) object (map_set_effect object key value)
+map_set_leads : (object : PlainObject) (key value : List ℕ) → Lead (creating object (edit.SetKey key value)) object (map_set_effect profile object key value)
 map_set_leads object key value =
     lead_if _ object EINVAL (not (calls.is_named key)) _ refl (λ e.
     lead_if _ object EFBIG (nat_lt VALUE_LIMIT (length value)) _ refl (λ s.
-    lead_if _ object ENOSPC (is_full KEY_LIMIT (content_of object).omap key) _ refl (λ f.
+    lead_if _ object ENOSPC (is_full (Some KEY_LIMIT) (content_of object).omap key) _ refl (λ f.
     let c : Content = record (content_of object) { omap = fin.insert (content_of object).omap key value } in
     lead_creating object (edit.SetKey key value) c
     (ap there (two_tests (calls.is_named key) (nat_lt VALUE_LIMIT (length value)) _ (not_not _ e) s
     ∙ ap (calls.with_omap (content_of object)) (set_in_is KEY_LIMIT (content_of object).omap key value f))))))
 
-rmxattr_leads : (object : PlainObject) (name : List ℕ) → Lead (edit.RemoveXattr name ∷ []) object (rmxattr_effect object name)
+rmxattr_leads : (object : PlainObject) (name : List ℕ) → Lead (edit.RemoveXattr name ∷ []) object (rmxattr_effect profile object name)
 rmxattr_leads None name = lead_if _ None EINVAL (not (calls.is_named name)) _ refl (λ e. refl)
 rmxattr_leads (Some o) name =
     lead_if _ (Some o) EINVAL (not (calls.is_named name)) _ refl (λ e.
@@ -110,7 +101,7 @@ rmxattr_leads (Some o) name =
     ap (λ b. and_then (there (if b then calls.with_xattrs o (calls.removed_in o.xattrs name) else Err Range)) (λ o. Ok o)) (not_not _ e)
     ∙ ap (λ b. and_then (there (calls.with_xattrs o (if b then Ok (fin.remove o.xattrs name) else Err NoAttr))) (λ o. Ok o)) (not_not _ f)))
 
-map_rm_leads : (object : PlainObject) (key : List ℕ) → Lead (edit.RemoveKey key ∷ []) object (map_rm_effect object key)
+map_rm_leads : (object : PlainObject) (key : List ℕ) → Lead (edit.RemoveKey key ∷ []) object (map_rm_effect profile object key)
 map_rm_leads None key = lead_if _ None EINVAL (not (calls.is_named key)) _ refl (λ e. refl)
 map_rm_leads (Some o) key =
     lead_if _ (Some o) EINVAL (not (calls.is_named key)) _ refl (λ e.
@@ -126,29 +117,29 @@ create_leads (Some o) exclusive = by (exclusive == 0)
     by true = refl
     by false = refl
 
-row_leads : (h : Helper) (object : PlainObject) (g : Given) → Lead (edits_row h object g) object ((row h).effect object g)
-row_leads Stat object g = nothing_done object ((row Stat).effect object g) refl
-row_leads Read object g = nothing_done object ((row Read).effect object g) refl
+row_leads : (h : Helper) (object : PlainObject) (g : Given) → Lead (edits_row h object (at_profile g)) object ((row h).effect object (at_profile g))
+row_leads Stat object g = nothing_done object ((row Stat).effect object (at_profile g)) refl
+row_leads Read object g = nothing_done object ((row Read).effect object (at_profile g)) refl
 row_leads Write object g = write_leads object (number g 0) (text g 0)
 row_leads Truncate object g = truncate_leads object (number g 0)
 row_leads Remove object g = remove_leads object
-row_leads GetXattr object g = nothing_done object ((row GetXattr).effect object g) refl
+row_leads GetXattr object g = nothing_done object ((row GetXattr).effect object (at_profile g)) refl
 row_leads SetXattr object g = setxattr_leads object (text g 0) (text g 1)
 row_leads RmXattr object g = rmxattr_leads object (text g 0)
-row_leads MapGet object g = nothing_done object ((row MapGet).effect object g) refl
+row_leads MapGet object g = nothing_done object ((row MapGet).effect object (at_profile g)) refl
 row_leads MapSet object g = map_set_leads object (text g 0) (text g 1)
 row_leads MapRm object g = map_rm_leads object (text g 0)
-row_leads MapNext object g = nothing_done object ((row MapNext).effect object g) refl
-row_leads OutLen object g = nothing_done object ((row OutLen).effect object g) refl
+row_leads MapNext object g = nothing_done object ((row MapNext).effect object (at_profile g)) refl
+row_leads OutLen object g = nothing_done object ((row OutLen).effect object (at_profile g)) refl
 row_leads Create object g = create_leads object (number g 0)
-row_leads Caller object g = nothing_done object ((row Caller).effect object g) refl
-row_leads Compare object g = nothing_done object ((row Compare).effect object g) refl
-row_leads Copy object g = nothing_done object ((row Copy).effect object g) refl
-row_leads XattrNext object g = nothing_done object ((row XattrNext).effect object g) refl
+row_leads Caller object g = nothing_done object ((row Caller).effect object (at_profile g)) refl
+row_leads Compare object g = nothing_done object ((row Compare).effect object (at_profile g)) refl
+row_leads Copy object g = nothing_done object ((row Copy).effect object (at_profile g)) refl
+row_leads XattrNext object g = nothing_done object ((row XattrNext).effect object (at_profile g)) refl
 
 pub edits_lead : EditsLead
-edits_lead id object g = by (helper_of id)
+edits_lead id object g p = subst (λ q. all_edited (edits_of (helper_of id) object q) object ≡ Ok (effect_of (helper_of id) object q).object) (profile_is g p) (by (helper_of id))
   where
-    by : (o : Option Helper) → all_edited (edits_of o object g) object ≡ Ok (effect_of o object g).object
+    by : (o : Option Helper) → all_edited (edits_of o object (at_profile g)) object ≡ Ok (effect_of o object (at_profile g)).object
     by None = refl
     by (Some h) = row_leads h object g

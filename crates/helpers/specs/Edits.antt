@@ -2,8 +2,10 @@
 -- number leaves none.
 use Rattle.std.specs.Prelude.{◌≡◌, ℕ, ◌^◌, List, [], ◌∷◌, Option, Some, None, Ok, if◌then◌else◌, nat_lt}
 use Rattle.object_store.specs.Object.{PlainObject}
+use Rattle.object_store.specs.Limits.{profile, IsLimits}
 use Rattle.txn.specs.Edits as edit
 use Rattle.txn.specs.Edits.{Edit, created, creating, write_edits, all_edited}
+use Rattle.txn.specs.Made.{all_made}
 use Rattle.helpers.specs.declared.helper.Helper.{Helper}
 use Rattle.helpers.specs.declared.helper.Helper.TheVariants.{Stat, Read, Write, Truncate, Remove, GetXattr, SetXattr}
 use Rattle.helpers.specs.declared.helper.Helper.TheVariants.{RmXattr, MapGet, MapSet, MapRm, MapNext, OutLen, Create}
@@ -49,7 +51,16 @@ edits_of (Some h) object g = helper_edits h object g
 abbrev pub edits : ℕ → PlainObject → Given → List Edit
 edits id object g = edits_of (helper_of id) object g
 
--- A helper's edits make of the object before the object after; none of them is refused.
+-- By the limits of all objects a helper's edits make of the object before the object after; none of
+-- them is refused.
 abbrev pub EditsLead : Type 0
 EditsLead =
-    (id : ℕ) (object : PlainObject) (g : Given) → all_edited (edits id object g) object ≡ Ok (effect id object g).object
+    (id : ℕ) (object : PlainObject) (g : Given) → g.limits ≡ profile →
+    all_edited (edits id object g) object ≡ Ok (effect id object g).object
+
+-- By any limits that a host may give a helper's edits, made without limits, make of the object
+-- before the object after.
+abbrev pub EditsMake : Type 0
+EditsMake =
+    (id : ℕ) (object : PlainObject) (g : Given) → IsLimits g.limits →
+    all_made (edits id object g) object ≡ (effect id object g).object

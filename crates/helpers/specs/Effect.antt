@@ -1,8 +1,9 @@
 -- What a helper is given, and what it does.
-use Rattle.std.specs.Prelude.{ℕ, ◌-◌, ◌^◌, ◌&&◌, Bool, List, [], Option, Some, None, not, nat_lt, slice_get}
+use Rattle.std.specs.Prelude.{ℕ, ◌-◌, ◌^◌, ◌&&◌, Bool, List, [], Option, Some, None, false, not, nat_lt, slice_get}
 use Rattle.std.specs.Prelude.{slice_index, length, unwrap_or}
 use Rattle.std.specs.FinMap as fin
 use Rattle.object_store.specs.Object.{Attributes, Content, PlainObject}
+use Rattle.object_store.specs.declared.limits.Limits.{Limits}
 use Rattle.helpers.specs.declared.errno.TheConstants.{ENOENT}
 use Rattle.helpers.specs.declared.argument.Argument.{Argument}
 
@@ -12,12 +13,14 @@ pub record Takes : Type 0 where
   pub writes : Bool
 
 -- What a helper is given, in the order of its registers: its numbers, the bytes of its readable
--- ranges, the length of its writable range, and the client for whom the method runs.
+-- ranges, the length of its writable range; and by the host the client for whom the method runs,
+-- and the limits of the object.
 pub record Given : Type 0 where
   pub numbers : List ℕ
   pub texts : List (List ℕ)
   pub room : ℕ
   pub caller : ℕ
+  pub limits : Limits
 
 -- its numbers and its texts, from 0 on
 abbrev pub number : Given → ℕ → ℕ
@@ -73,6 +76,7 @@ abbrev pub on_present : PlainObject → (Content → Effect) → Effect
 on_present None effect = refused ENOENT None
 on_present (Some o) effect = effect o
 
--- a new name or key would be one too many
-abbrev pub is_full : ℕ → Attributes → List ℕ → Bool
-is_full limit m name = not (fin.contains_key m name) && not (nat_lt (fin.len m) limit)
+-- a new name or key would be one too many, if their number has a limit
+abbrev pub is_full : Option ℕ → Attributes → List ℕ → Bool
+is_full None m name = false
+is_full (Some limit) m name = not (fin.contains_key m name) && not (nat_lt (fin.len m) limit)

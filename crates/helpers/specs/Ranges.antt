@@ -1,7 +1,8 @@
 -- In which range the answer of each helper lies.
 use Rattle.std.specs.Prelude.{◌≡◌, ℕ, ◌-◌, ◌^◌, ◌<◌, ◌≤◌, ◌⊎◌, Option, Some, None, min, length}
 use Rattle.std.specs.Option.{option_and_then}
-use Rattle.object_store.specs.Object.{PlainObject, IsObject}
+use Rattle.object_store.specs.Object.{PlainObject}
+use Rattle.object_store.specs.Limits.{IsLimits, IsAnyObject}
 use Rattle.object_store.specs.declared.limits.TheConstants.{NAME_LIMIT}
 use Rattle.helpers.specs.declared.errno.TheConstants.{ENOENT, EEXIST, EFBIG, ENOSPC, ERANGE, ENODATA}
 use Rattle.helpers.specs.declared.helper.Helper.{Helper}
@@ -62,9 +63,9 @@ pub record IsInRange (g : Given) (r : AnswerRange) (answer : ℕ) : Type 0 where
   pub fits : answer < 2 ^ 64
   pub side : (answer ≤ limit_of g r.most) ⊎ (2 ^ 64 - r.errno ≤ answer)
 
--- Of an object within the limits each helper's answer lies in its range, if the length of its
--- writable range is a number of 64 bits.
+-- Of a well-formed object each helper's answer lies in its range, by any host's limits, if the length
+-- of its writable range is a number of 64 bits.
 abbrev pub AnswersAreInRange : Type 0
 AnswersAreInRange =
-    (id : ℕ) (r : AnswerRange) (object : PlainObject) (g : Given) → answer_range_of id ≡ Some r → IsObject object →
-    g.room < 2 ^ 64 → IsInRange g r (effect id object g).answer
+    (id : ℕ) (r : AnswerRange) (object : PlainObject) (g : Given) → answer_range_of id ≡ Some r →
+    IsLimits g.limits → IsAnyObject object → g.room < 2 ^ 64 → IsInRange g r (effect id object g).answer

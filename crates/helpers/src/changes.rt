@@ -3,6 +3,7 @@
 ghost use Rattle.std.specs.Prelude.{◌≡◌, ◌∷◌, [], IfOk, OnErr};
 ghost use Rattle.txn.specs.Edits.{Remove, SetXattr, RemoveXattr, SetKey, RemoveKey, SetLength, created, creating};
 ghost use Rattle.txn.specs.Edits.{write_edits, noted};
+ghost use Rattle.object_store.specs.Limits.{profile};
 ghost use Rattle.helpers.specs.Edits.{if_done};
 ghost use Rattle.helpers.specs.Table.{write_effect, truncate_effect, remove_effect, setxattr_effect, rmxattr_effect};
 ghost use Rattle.helpers.specs.Table.{map_set_effect, map_rm_effect, create_effect};
@@ -16,8 +17,8 @@ use txn::{NoMemory, Staged};
 /// fill a gap, and no bytes leave the data as it is. It answers the number of bytes written.
 /// Refused: EFBIG past the most bytes of an object.
 pub fn write(alloc: Global, staged: &mut Staged, at: u64, bytes: &[u8]) -> Result<u64, NoMemory>
-    ensures answer { IfOk result (λ n. n ≡ (write_effect staged.old.after at bytes.now).answer) }
-    ensures object { IfOk result (λ _. staged.new.after ≡ (write_effect staged.old.after at bytes.now).object) }
+    ensures answer { IfOk result (λ n. n ≡ (write_effect profile staged.old.after at bytes.now).answer) }
+    ensures object { IfOk result (λ _. staged.new.after ≡ (write_effect profile staged.old.after at bytes.now).object) }
     ensures list { IfOk result (λ n. staged.new.list ≡
         noted (if_done n (write_edits staged.old.after at bytes.now)) staged.old.list) }
     ensures before { staged.new.before ≡ staged.old.before }
@@ -29,8 +30,8 @@ pub fn write(alloc: Global, staged: &mut Staged, at: u64, bytes: &[u8]) -> Resul
 /// Helper 4, `truncate`: cuts the data to a length, or extends it with zeros. It answers 0.
 /// Refused, in this order: EFBIG past the most bytes of an object, ENOENT.
 pub fn truncate(alloc: Global, staged: &mut Staged, size: u64) -> Result<u64, NoMemory>
-    ensures answer { IfOk result (λ n. n ≡ (truncate_effect staged.old.after size).answer) }
-    ensures object { IfOk result (λ _. staged.new.after ≡ (truncate_effect staged.old.after size).object) }
+    ensures answer { IfOk result (λ n. n ≡ (truncate_effect profile staged.old.after size).answer) }
+    ensures object { IfOk result (λ _. staged.new.after ≡ (truncate_effect profile staged.old.after size).object) }
     ensures list { IfOk result (λ n. staged.new.list ≡ noted (if_done n (SetLength size ∷ [])) staged.old.list) }
     ensures before { staged.new.before ≡ staged.old.before }
     ensures refused { OnErr result (staged.new ≡ staged.old) }
@@ -63,9 +64,9 @@ pub fn setxattr(
     name: &[u8],
     value: &[u8],
 ) -> Result<u64, NoMemory>
-    ensures answer { IfOk result (λ n. n ≡ (setxattr_effect staged.old.after name.now value.now).answer) }
+    ensures answer { IfOk result (λ n. n ≡ (setxattr_effect profile staged.old.after name.now value.now).answer) }
     ensures object { IfOk result (λ _. staged.new.after ≡
-        (setxattr_effect staged.old.after name.now value.now).object) }
+        (setxattr_effect profile staged.old.after name.now value.now).object) }
     ensures list { IfOk result (λ n. staged.new.list ≡
         noted (if_done n (creating staged.old.after (SetXattr name.now value.now))) staged.old.list) }
     ensures before { staged.new.before ≡ staged.old.before }
@@ -77,8 +78,8 @@ pub fn setxattr(
 /// Helper 8, `rmxattr`: removes an xattr. It answers 0. Refused, in this order: EINVAL if the name
 /// is none, ENOENT, ENODATA if it has no such xattr.
 pub fn rmxattr(alloc: Global, staged: &mut Staged, name: &[u8]) -> Result<u64, NoMemory>
-    ensures answer { IfOk result (λ n. n ≡ (rmxattr_effect staged.old.after name.now).answer) }
-    ensures object { IfOk result (λ _. staged.new.after ≡ (rmxattr_effect staged.old.after name.now).object) }
+    ensures answer { IfOk result (λ n. n ≡ (rmxattr_effect profile staged.old.after name.now).answer) }
+    ensures object { IfOk result (λ _. staged.new.after ≡ (rmxattr_effect profile staged.old.after name.now).object) }
     ensures list { IfOk result (λ n. staged.new.list ≡ noted (if_done n (RemoveXattr name.now ∷ [])) staged.old.list) }
     ensures before { staged.new.before ≡ staged.old.before }
     ensures refused { OnErr result (staged.new ≡ staged.old) }
@@ -93,8 +94,9 @@ pub fn map_set(
     key: &[u8],
     value: &[u8],
 ) -> Result<u64, NoMemory>
-    ensures answer { IfOk result (λ n. n ≡ (map_set_effect staged.old.after key.now value.now).answer) }
-    ensures object { IfOk result (λ _. staged.new.after ≡ (map_set_effect staged.old.after key.now value.now).object) }
+    ensures answer { IfOk result (λ n. n ≡ (map_set_effect profile staged.old.after key.now value.now).answer) }
+    ensures object { IfOk result (λ _. staged.new.after ≡
+        (map_set_effect profile staged.old.after key.now value.now).object) }
     ensures list { IfOk result (λ n. staged.new.list ≡
         noted (if_done n (creating staged.old.after (SetKey key.now value.now))) staged.old.list) }
     ensures before { staged.new.before ≡ staged.old.before }
@@ -105,8 +107,8 @@ pub fn map_set(
 
 /// Helper 11, `map_rm`: as `rmxattr`, on the omap.
 pub fn map_rm(alloc: Global, staged: &mut Staged, key: &[u8]) -> Result<u64, NoMemory>
-    ensures answer { IfOk result (λ n. n ≡ (map_rm_effect staged.old.after key.now).answer) }
-    ensures object { IfOk result (λ _. staged.new.after ≡ (map_rm_effect staged.old.after key.now).object) }
+    ensures answer { IfOk result (λ n. n ≡ (map_rm_effect profile staged.old.after key.now).answer) }
+    ensures object { IfOk result (λ _. staged.new.after ≡ (map_rm_effect profile staged.old.after key.now).object) }
     ensures list { IfOk result (λ n. staged.new.list ≡ noted (if_done n (RemoveKey key.now ∷ [])) staged.old.list) }
     ensures before { staged.new.before ≡ staged.old.before }
     ensures refused { OnErr result (staged.new ≡ staged.old) }

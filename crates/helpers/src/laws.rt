@@ -2,13 +2,13 @@
 ghost use Rattle.std.specs.Prelude.{◌≡◌};
 ghost use Rattle.helpers.specs.declared.errno.TheConstants.{ENOENT, EIO, ENOMEM, EBUSY, EEXIST, EINVAL, EFBIG, ENOSPC};
 ghost use Rattle.helpers.specs.declared.errno.TheConstants.{ERANGE, ENODATA};
-ghost use Rattle.helpers.specs.Edits.{EditsLead};
-ghost use Rattle.helpers.specs.Laws.{EffectsAreWithinLimits};
+ghost use Rattle.helpers.specs.Edits.{EditsLead, EditsMake};
+ghost use Rattle.helpers.specs.Laws.{EffectsAreWithinLimits, EffectsKeepTheForm};
 ghost use Rattle.helpers.specs.Ranges.{AnswersAreInRange};
 
-use object_store::{changes_keep_the_limits, reads_are_within};
+use object_store::{changes_keep_the_form, changes_keep_the_limits, reads_are_within};
 
-/// Every helper keeps an object within all limits, and copies bytes, no more than the range has.
+/// By the limits of all objects every helper keeps an object within them, and copies bytes, no more than the range has.
 /// The function does nothing.
 pub fn effects_are_within_limits()
     ensures { EffectsAreWithinLimits }
@@ -19,15 +19,30 @@ pub fn effects_are_within_limits()
     reads_are_within();
 }
 
+/// By any host's limits every helper leaves a well-formed object well formed, and copies bytes, no
+/// more than the range has. The function does nothing.
+pub fn effects_keep_the_form()
+    ensures { EffectsKeepTheForm }
+{
+    // For the proof: what changes do to data and names.
+    changes_keep_the_form();
+}
+
 /// Every helper answers a number of its range. The function does nothing.
 pub fn answers_are_in_range()
     ensures { AnswersAreInRange }
 {}
 
-/// The edits of every helper make of the object before the object after, and none of them is
-/// refused. The function does nothing.
+/// By the limits of all objects the edits of every helper make of the object before the object
+/// after, and none of them is refused. The function does nothing.
 pub fn edits_lead()
     ensures { EditsLead }
+{}
+
+/// By any limits that a host may give the edits of every helper, made without limits, make of the
+/// object before the object after. The function does nothing.
+pub fn edits_make()
+    ensures { EditsMake }
 {}
 
 /// The errors by number, as Linux has them. The function does nothing.

@@ -17,14 +17,17 @@ mod memory;
 mod plain;
 mod span;
 
-pub use answer::{HelperAnswer, copied};
+pub use answer::{HelperAnswer, copied, negative};
 pub use answer_ranges::{AnswerLimit, AnswerRange, answer_range};
 pub use argument::{Argument, Signature};
 pub use changes::{create, map_rm, map_set, remove, rmxattr, setxattr, truncate, write};
 pub use errno::{EBUSY, EEXIST, EFBIG, EINVAL, EIO, ENODATA, ENOENT, ENOMEM, ENOSPC, ERANGE};
 pub use helper::{Helper, LAST_HELPER, signature};
-pub use laws::{answers_are_in_range, edits_lead, effects_are_within_limits, errors_by_number};
+pub use laws::{
+    answers_are_in_range, edits_lead, edits_make, effects_are_within_limits, effects_keep_the_form,
+    errors_by_number,
+};
 pub use lookups::{key_above, map_value, stat, xattr_above, xattr_value};
-pub use memory::{bytes_in, compare, copy, getxattr, map_get, map_next, read, xattr_next};
+pub use memory::{bytes_in, compare, copy, fill, getxattr, map_get, map_next, read, xattr_next};
 pub use plain::{caller, compared, out_len};
 pub use span::Span;

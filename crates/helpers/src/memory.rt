@@ -2,6 +2,7 @@
 
 ghost use Rattle.std.specs.Prelude.{◌≡◌, ◌+◌, ◌≤◌, length};
 ghost use Rattle.object_store.specs.Object.{part};
+ghost use Rattle.object_store.specs.Limits.{profile};
 ghost use Rattle.helpers.specs.Table.{read_answer, getxattr_answer, map_get_answer, map_next_answer, compare_answer};
 ghost use Rattle.helpers.specs.Table.{copy_answer, xattr_next_answer};
 ghost use Rattle.helpers.specs.View.{IsWithin, bytes_in, filled, written};
@@ -77,9 +78,10 @@ pub fn read(staged: &Staged, at: u64, memory: &mut [u8], room: Span) -> u64
 pub fn getxattr(staged: &Staged, memory: &mut [u8], name: Span, value: Span) -> u64
     requires name { IsWithin memory.old name }
     requires value { IsWithin memory.old value }
-    ensures answer { result ≡ (getxattr_answer staged.entry.now.after (bytes_in memory.old name) value.len).number }
+    ensures answer { result ≡
+        (getxattr_answer profile staged.entry.now.after (bytes_in memory.old name) value.len).number }
     ensures bytes { memory.new ≡ filled memory.old value
-        (getxattr_answer staged.entry.now.after (bytes_in memory.old name) value.len).bytes }
+        (getxattr_answer profile staged.entry.now.after (bytes_in memory.old name) value.len).bytes }
 {
     let answer = xattr_value(staged, bytes_in(memory, name), value.len);
     fill(memory, value, answer.bytes);
@@ -90,9 +92,10 @@ pub fn getxattr(staged: &Staged, memory: &mut [u8], name: Span, value: Span) -> 
 pub fn map_get(staged: &Staged, memory: &mut [u8], key: Span, value: Span) -> u64
     requires key { IsWithin memory.old key }
     requires value { IsWithin memory.old value }
-    ensures answer { result ≡ (map_get_answer staged.entry.now.after (bytes_in memory.old key) value.len).number }
+    ensures answer { result ≡
+        (map_get_answer profile staged.entry.now.after (bytes_in memory.old key) value.len).number }
     ensures bytes { memory.new ≡ filled memory.old value
-        (map_get_answer staged.entry.now.after (bytes_in memory.old key) value.len).bytes }
+        (map_get_answer profile staged.entry.now.after (bytes_in memory.old key) value.len).bytes }
 {
     let answer = map_value(staged, bytes_in(memory, key), value.len);
     fill(memory, value, answer.bytes);
@@ -106,9 +109,10 @@ pub fn map_get(staged: &Staged, memory: &mut [u8], key: Span, value: Span) -> u6
 pub fn map_next(staged: &Staged, memory: &mut [u8], key: Span, next: Span) -> u64
     requires key { IsWithin memory.old key }
     requires next { IsWithin memory.old next }
-    ensures answer { result ≡ (map_next_answer staged.entry.now.after (bytes_in memory.old key) next.len).number }
+    ensures answer { result ≡
+        (map_next_answer profile staged.entry.now.after (bytes_in memory.old key) next.len).number }
     ensures bytes { memory.new ≡ filled memory.old next
-        (map_next_answer staged.entry.now.after (bytes_in memory.old key) next.len).bytes }
+        (map_next_answer profile staged.entry.now.after (bytes_in memory.old key) next.len).bytes }
 {
     let answer = key_above(staged, bytes_in(memory, key), next.len);
     fill(memory, next, answer.bytes);
@@ -164,9 +168,10 @@ fn move_bytes(memory: &mut [u8], to: Span, from: Span)
 pub fn xattr_next(staged: &Staged, memory: &mut [u8], name: Span, next: Span) -> u64
     requires name { IsWithin memory.old name }
     requires next { IsWithin memory.old next }
-    ensures answer { result ≡ (xattr_next_answer staged.entry.now.after (bytes_in memory.old name) next.len).number }
+    ensures answer { result ≡
+        (xattr_next_answer profile staged.entry.now.after (bytes_in memory.old name) next.len).number }
     ensures bytes { memory.new ≡ filled memory.old next
-        (xattr_next_answer staged.entry.now.after (bytes_in memory.old name) next.len).bytes }
+        (xattr_next_answer profile staged.entry.now.after (bytes_in memory.old name) next.len).bytes }
 {
     let answer = xattr_above(staged, bytes_in(memory, name), next.len);
     fill(memory, next, answer.bytes);

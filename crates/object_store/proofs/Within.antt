@@ -12,7 +12,8 @@ use Rattle.std.specs.FinMap as fin
 use Rattle.object_store.specs.declared.store_error.StoreError.{StoreError}
 use Rattle.object_store.specs.declared.store_error.StoreError.TheVariants.{TooMany, NoAttr}
 use Rattle.object_store.specs.declared.limits.TheConstants.{XATTR_LIMIT, KEY_LIMIT}
-use Rattle.object_store.specs.Object.{Attributes, AreWithin, IsContent, IsName, IsValue, nothing}
+use Rattle.object_store.specs.Object.{Attributes, PlainObject, AreWithin, IsContent, IsObject, IsName, IsValue, nothing}
+use Rattle.object_store.specs.Limits.{AreNames, IsAnyObject}
 use Rattle.object_store.specs.Calls.{set_in, removed_in}
 use Rattle.object_store.specs.Returned.{Gives}
 
@@ -40,30 +41,45 @@ none_within most = record { number = omega (arith, fin.len-empty (slice_cmp nat_
 pub nothing_within : IsContent nothing
 nothing_within = record { length = omega arith; bytes = tt; xattrs = none_within XATTR_LIMIT; omap = none_within KEY_LIMIT }
 
+-- names stay names, however many there are
+pub none_named : AreNames fin.empty
+none_named q x e = absurd (none_some x (sym (fin.get-empty (slice_cmp nat_cmp) q) ∙ e))
+
+pub inserted_named : (m : Attributes) (k v : List ℕ) → AreNames m → IsName k → IsValue v → AreNames (fin.insert m k v)
+inserted_named m k v h n w q x e = by (sym (fin.get-insert nat_list_cmp_total m k v q) ∙ e)
+  where
+    by : cond (eq_by_cmp (slice_cmp nat_cmp) q k) (Some v) (fin.get m q) ≡ Some x → IsName q × IsValue x
+    by e =
+        elim (eq_by_cmp (slice_cmp nat_cmp) q k) as (λ b. eq_by_cmp (slice_cmp nat_cmp) q k ≡ b → cond b (Some v) (fin.get m q) ≡ Some x → IsName q × IsValue x) [
+          | true ↦ λ t f. (subst IsName (sym (tied_key q k t)) n, subst IsValue (same_some v x f) w)
+          | false ↦ λ t f. h q x f
+        ] refl e
+
+pub removed_named : (m : Attributes) (k : List ℕ) → AreNames m → AreNames (fin.remove m k)
+removed_named m k h q x e = by (sym (fin.get-remove nat_list_cmp_total m k q) ∙ e)
+  where
+    by : cond (eq_by_cmp (slice_cmp nat_cmp) q k) None (fin.get m q) ≡ Some x → IsName q × IsValue x
+    by e =
+        elim (eq_by_cmp (slice_cmp nat_cmp) q k) as (λ b. cond b None (fin.get m q) ≡ Some x → IsName q × IsValue x) [
+          | true ↦ λ f. absurd (none_some x f)
+          | false ↦ λ f. h q x f
+        ] e
+
+-- an object within its limits is well formed
+pub any_of : (object : PlainObject) → IsObject object → IsAnyObject object
+any_of None h = tt
+any_of (Some c) h = record { length = omega (arith, h.length); bytes = h.bytes; xattrs = h.xattrs.each; omap = h.omap.each }
+
 module _ (most : ℕ) (m : Attributes) (k v : List ℕ) where
   inserted_within : AreWithin most m → IsName k → IsValue v → fin.len (fin.insert m k v) ≤ most → AreWithin most (fin.insert m k v)
-  inserted_within h n w l = record { number = l; each = λ q x e. by q x (sym (fin.get-insert nat_list_cmp_total m k v q) ∙ e) }
-    where
-      by : (q x : List ℕ) → cond (eq_by_cmp (slice_cmp nat_cmp) q k) (Some v) (fin.get m q) ≡ Some x → IsName q × IsValue x
-      by q x e =
-          elim (eq_by_cmp (slice_cmp nat_cmp) q k) as (λ b. eq_by_cmp (slice_cmp nat_cmp) q k ≡ b → cond b (Some v) (fin.get m q) ≡ Some x → IsName q × IsValue x) [
-            | true ↦ λ t f. (subst IsName (sym (tied_key q k t)) n, subst IsValue (same_some v x f) w)
-            | false ↦ λ t f. h.each q x f
-          ] refl e
+  inserted_within h n w l = record { number = l; each = inserted_named m k v h.each n w }
 
   fewer : (b : Bool) → fin.len (fin.remove m k) ≡ cond b (fin.len m - 1) (fin.len m) → fin.len m ≤ most → fin.len (fin.remove m k) ≤ most
   fewer true e l = omega (arith, e, l)
   fewer false e l = omega (arith, e, l)
 
   removed_within : AreWithin most m → AreWithin most (fin.remove m k)
-  removed_within h = record { number = fewer (is_some (fin.get m k)) (fin.len-remove nat_list_cmp_total m k) h.number; each = λ q x e. by q x (sym (fin.get-remove nat_list_cmp_total m k q) ∙ e) }
-    where
-      by : (q x : List ℕ) → cond (eq_by_cmp (slice_cmp nat_cmp) q k) None (fin.get m q) ≡ Some x → IsName q × IsValue x
-      by q x e =
-          elim (eq_by_cmp (slice_cmp nat_cmp) q k) as (λ b. cond b None (fin.get m q) ≡ Some x → IsName q × IsValue x) [
-            | true ↦ λ f. absurd (none_some x f)
-            | false ↦ λ f. h.each q x f
-          ] e
+  removed_within h = record { number = fewer (is_some (fin.get m k)) (fin.len-remove nat_list_cmp_total m k) h.number; each = removed_named m k h.each }
 
   -- after a set, which may be refused
   pub after_set : {X : Type 0} (r : Result X StoreError) (n : Attributes) → Gives (λ _. n) r (set_in most m k v) → OnErr r (n ≡ m) → AreWithin most m → IsName k → IsValue v → AreWithin most n

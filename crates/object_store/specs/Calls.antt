@@ -13,9 +13,12 @@ use Rattle.object_store.specs.declared.store_error.StoreError.TheVariants.{Range
 use Rattle.object_store.specs.Edits.{overlaid}
 use Rattle.object_store.specs.Object.{Attributes, Content, PlainObject, nothing, content_of, part, spliced, resized}
 
--- whether a name, or a key, has 1 to 64 bytes
+-- whether a name, or a key, has 1 to that many bytes, and whether it has 1 to 64
+abbrev pub is_named_within : ℕ → List ℕ → Bool
+is_named_within most name = not (length name == 0) && not (nat_lt most (length name))
+
 abbrev pub is_named : List ℕ → Bool
-is_named name = not (length name == 0) && not (nat_lt NAME_LIMIT (length name))
+is_named name = is_named_within NAME_LIMIT name
 
 -- of an object that has to be there
 abbrev pub if_there : {X : Type 0} → PlainObject → (Content → Result X StoreError) → Result X StoreError

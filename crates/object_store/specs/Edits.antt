@@ -3,8 +3,8 @@ use Rattle.std.specs.Prelude.{ℕ, ◌+◌, List, [], ◌∷◌, ◌++◌, Resul
 use Rattle.object_store.specs.declared.limits.TheConstants.{DATA_LIMIT}
 use Rattle.object_store.specs.declared.data_error.DataError.{DataError}
 use Rattle.object_store.specs.declared.data_error.DataError.TheVariants.{TooBig}
-use Rattle.object_store.specs.declared.edit.Edit.{Edit}
-use Rattle.object_store.specs.declared.edit.Edit.TheVariants.{Write, Truncate}
+use Rattle.object_store.specs.declared.edit.DataEdit.{DataEdit}
+use Rattle.object_store.specs.declared.edit.DataEdit.TheVariants.{Write, Truncate}
 use Rattle.object_store.specs.Object.{spliced, resized}
 
 -- a write of text at a place; one of no bytes leaves the data as it is, wherever it stands
@@ -18,7 +18,7 @@ abbrev pub truncated : List ℕ → ℕ → Result (List ℕ) DataError
 truncated bytes len = if nat_lt DATA_LIMIT len then Err TooBig else Ok (resized bytes len)
 
 -- the data after one edit, or its refusal
-abbrev pub edited : List ℕ → Edit → Result (List ℕ) DataError
+abbrev pub edited : List ℕ → DataEdit → Result (List ℕ) DataError
 edited bytes (Write at text) = written bytes at text.items
 edited bytes (Truncate len) = truncated bytes len
 
@@ -28,7 +28,7 @@ and_then (Ok bytes) rest = rest bytes
 and_then (Err e) rest = Err e
 
 -- the data after all edits in order, or the first refusal
-abbrev pub all_edited : List ℕ → List Edit → Result (List ℕ) DataError
+abbrev pub all_edited : List ℕ → List DataEdit → Result (List ℕ) DataError
 all_edited bytes [] = Ok bytes
 all_edited bytes (edit ∷ edits) = and_then (edited bytes edit) (λ after. all_edited after edits)
 

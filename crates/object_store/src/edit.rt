@@ -8,7 +8,7 @@ use std::alloc::Global;
 
 /// A change of data.
 #[derive(Drop)]
-pub enum Edit {
+pub enum DataEdit {
     /// Bytes from a place on. No bytes change nothing.
     Write { at: u64, text: Vec<u8> },
     /// The length from now on: a cut, or zeros at the end.
@@ -17,7 +17,11 @@ pub enum Edit {
 
 /// Makes all edits in order, or none: it is refused as the first refused edit is, 4 TooBig or 7
 /// NoMemory, and the data is then as it was.
-pub fn edit_all<D: Data>(alloc: Global, content: &mut D, edits: &[Edit]) -> Result<(), DataError>
+pub fn edit_all<D: Data>(
+    alloc: Global,
+    content: &mut D,
+    edits: &[DataEdit],
+) -> Result<(), DataError>
     ensures answer { GivesData (λ _. D.bytes content.new) result (all_edited (D.bytes content.old) edits.now) }
     ensures err { OnErr result (D.bytes content.new ≡ D.bytes content.old) }
 {
@@ -29,7 +33,7 @@ pub fn edit_all<D: Data>(alloc: Global, content: &mut D, edits: &[Edit]) -> Resu
 }
 
 /// Makes edits in order, up to the first refused one.
-fn make_all<D: Data>(alloc: Global, content: &mut D, edits: &[Edit]) -> Result<(), DataError>
+fn make_all<D: Data>(alloc: Global, content: &mut D, edits: &[DataEdit]) -> Result<(), DataError>
     ensures { GivesData (λ _. D.bytes content.new) result (all_edited (D.bytes content.old) edits.now) }
 {
     for edit in edits {
@@ -39,11 +43,11 @@ fn make_all<D: Data>(alloc: Global, content: &mut D, edits: &[Edit]) -> Result<(
 }
 
 /// Makes one edit.
-fn make<D: Data>(alloc: Global, content: &mut D, edit: &Edit) -> Result<(), DataError>
+fn make<D: Data>(alloc: Global, content: &mut D, edit: &DataEdit) -> Result<(), DataError>
     ensures { GivesData (λ _. D.bytes content.new) result (edited (D.bytes content.old) edit.now) }
 {
     match edit {
-        Edit::Write { at, text } => content.write(alloc, *at, text),
-        Edit::Truncate(len) => content.truncate(alloc, *len),
+        DataEdit::Write { at, text } => content.write(alloc, *at, text),
+        DataEdit::Truncate(len) => content.truncate(alloc, *len),
     }
 }

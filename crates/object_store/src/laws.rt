@@ -1,10 +1,13 @@
 //! Laws of the definitions, for the proofs of the crates above. Their functions do nothing.
-ghost use Rattle.std.specs.Prelude.{◌≡◌, ℕ, Bool, List};
+ghost use Rattle.std.specs.Prelude.{◌≡◌, ℕ, ◌+◌, ◌≤◌, Bool, List, length};
+ghost use Rattle.std.specs.FinMap as fin;
 ghost use Rattle.object_store.specs.declared.limits.TheConstants.{DATA_LIMIT, XATTR_LIMIT, KEY_LIMIT, NAME_LIMIT};
 ghost use Rattle.object_store.specs.declared.limits.TheConstants.{VALUE_LIMIT, OBJECT_NAME_LIMIT};
-ghost use Rattle.object_store.specs.Object.{AreBytes, IsValue};
+ghost use Rattle.object_store.specs.Object.{Attributes, PlainObject, AreBytes, IsName, IsValue, IsObject};
+ghost use Rattle.object_store.specs.Object.{part, spliced, resized};
 ghost use Rattle.object_store.specs.Calls as spec;
 ghost use Rattle.object_store.specs.Laws.{Keeps, Reads};
+ghost use Rattle.object_store.specs.Limits.{AreNames, IsAnyObject};
 
 /// A change of an object within the limits leaves one within them, if it is given bytes.
 pub fn changes_keep_the_limits()
@@ -23,6 +26,23 @@ pub fn reads_are_within()
     ensures read { (at n : ℕ) → Reads (λ o. spec.read o at n) AreBytes }
     ensures get_xattr { (name : List ℕ) → Reads (λ o. spec.get_xattr o name) IsValue }
     ensures get_key { (key : List ℕ) → Reads (λ o. spec.get_key o key) IsValue }
+{}
+
+/// What changes do to data and to names keeps bytes bytes and names names, and the data as short as
+/// they leave it; an object within its limits is well formed.
+pub fn changes_keep_the_form()
+    ensures any { (object : PlainObject) → IsObject object → IsAnyObject object }
+    ensures part { (bytes : List ℕ) (at n : ℕ) → AreBytes bytes → AreBytes (part bytes at n) }
+    ensures spliced { (bytes : List ℕ) (at : ℕ) (text : List ℕ) → AreBytes bytes → AreBytes text →
+        AreBytes (spliced bytes at text) }
+    ensures spliced_short { (bytes : List ℕ) (at : ℕ) (text : List ℕ) (most : ℕ) → length bytes ≤ most →
+        at + length text ≤ most → length (spliced bytes at text) ≤ most }
+    ensures resized { (bytes : List ℕ) (len : ℕ) → AreBytes bytes → AreBytes (resized bytes len) }
+    ensures resized_short { (bytes : List ℕ) (len : ℕ) → length (resized bytes len) ≡ len }
+    ensures none { AreNames fin.empty }
+    ensures inserted { (m : Attributes) (name value : List ℕ) → AreNames m → IsName name → IsValue value →
+        AreNames (fin.insert m name value) }
+    ensures removed { (m : Attributes) (name : List ℕ) → AreNames m → AreNames (fin.remove m name) }
 {}
 
 /// The limits by number.

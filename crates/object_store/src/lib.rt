@@ -27,11 +27,16 @@ mod stored_bytes;
 
 pub use data::Data;
 pub use data_error::DataError;
-pub use edit::{Edit, edit_all};
+pub use edit::{DataEdit, edit_all};
 pub use extent_data::ExtentData;
 pub use flat_data::FlatData;
-pub use laws::{changes_keep_the_limits, limits_by_number, reads_are_within};
-pub use limits::{DATA_LIMIT, KEY_LIMIT, NAME_LIMIT, OBJECT_NAME_LIMIT, VALUE_LIMIT, XATTR_LIMIT};
+pub use laws::{
+    changes_keep_the_form, changes_keep_the_limits, limits_by_number, reads_are_within,
+};
+pub use limits::{
+    DATA_LIMIT, KEY_LIMIT, Limits, NAME_LIMIT, NameLimits, OBJECT_NAME_LIMIT, VALUE_LIMIT,
+    XATTR_LIMIT,
+};
 pub use object::Object;
 pub use object_name::ObjectName;
 pub use objects::Objects;

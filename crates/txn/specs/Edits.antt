@@ -1,6 +1,6 @@
 -- Edits of an object: what each does, which is a call of object_store, and how it is written. And
 -- which edits a call on a staged object leaves in its list.
-use Rattle.std.specs.Prelude.{ℕ, true, ◌==◌, ◌≤◌, List, [], ◌∷◌, ◌++◌, Option, Some, None, Result, Ok, Err}
+use Rattle.std.specs.Prelude.{ℕ, true, ◌==◌, List, [], ◌∷◌, ◌++◌, Option, Some, None, Result, Ok, Err}
 use Rattle.std.specs.Prelude.{if◌then◌else◌, length}
 use Rattle.std.specs.List.{flat_map}
 use Rattle.byteorder.specs.Endian.{little_bytes}

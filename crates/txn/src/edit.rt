@@ -8,7 +8,7 @@ use std::alloc::AllocError;
 
 /// An edit of an object, as a list of edits has it.
 #[derive(Clone, Copy)]
-pub(crate) enum Edit<'a> {
+pub enum Edit<'a> {
     Create,
     Remove,
     SetXattr(&'a [u8], &'a [u8]),

@@ -10,5 +10,6 @@ mod no_memory;
 mod staged;
 
 pub use change::{Change, apply, undo};
+pub use edit::Edit;
 pub use no_memory::NoMemory;
-pub use staged::Staged;
+pub use staged::{Staged, note_edits};

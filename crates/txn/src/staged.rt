@@ -175,7 +175,7 @@ impl<'a> Staged<'a> {
         ensures want { OnErr result (result ≡ Err StoreError.NoMemory) }
     {
         let creates = self.object().is_none();
-        note(alloc, &mut self.list, creates, edit)?;
+        note_edits(alloc, &mut self.list, creates, edit)?;
         self.newest = Newest::Written(Some(object));
         Ok(())
     }
@@ -190,7 +190,7 @@ impl<'a> Staged<'a> {
     {
         // An object that is there, given or written, is kept with its content.
         if self.object().is_none() {
-            note(alloc, &mut self.list, true, None)?;
+            note_edits(alloc, &mut self.list, true, None)?;
             self.newest = Newest::Written(Some(Object::new()));
         }
         Ok(())
@@ -204,7 +204,7 @@ impl<'a> Staged<'a> {
         ensures refused { OnErr result (self.new ≡ self.old) }
     {
         if self.object().is_some() {
-            note(alloc, &mut self.list, false, Some(Edit::Remove))?;
+            note_edits(alloc, &mut self.list, false, Some(Edit::Remove))?;
             self.newest = Newest::Written(None);
         }
         Ok(())
@@ -242,7 +242,7 @@ impl<'a> Staged<'a> {
 
 /// Appends to a list, if one is kept, the creation of the object, if it was absent, and an edit. If
 /// memory is refused, the list stays as it was.
-fn note(
+pub fn note_edits(
     alloc: Global,
     list: &mut Option<Vec<u8>>,
     creates: bool,

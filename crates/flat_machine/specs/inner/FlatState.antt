@@ -7,8 +7,8 @@ use Rattle.helpers.specs.declared.helper.Helper.{Helper}
 use Rattle.helpers.specs.Edits.{helper_edits}
 use Rattle.helpers.specs.Table.{row, signature_of}
 use Rattle.bpf_machine.specs.declared.caps.Caps.{Caps}
-use Rattle.flat_machine.specs.declared.run.Stop.{Stop}
-use Rattle.flat_machine.specs.declared.run.Stop.TheVariants as stops
+use Rattle.flat_machine.specs.declared.run.RunStop.{RunStop}
+use Rattle.flat_machine.specs.declared.run.RunStop.TheVariants as stops
 use Rattle.bpf_machine.specs.State.{◌>>=◌, State, reg, set_reg, go, after, with_edits, outcome_of, Ending, Ended, Stuck}
 use Rattle.bpf_machine.specs.State.{Unfinished}
 use Rattle.bpf_machine.specs.Helper.{asked, answered, write_room}
@@ -49,6 +49,7 @@ helped caps lay h s =
       object = e.object;
       out_len = unwrap_or e.out_len s.out_len;
       caller = s.caller;
+      limits = s.limits;
       edits =
           with_edits (helper_edits h s.object (asked g)) s.edits;
     })
@@ -64,7 +65,7 @@ Answers (Some n) s step = step ≡ Some (with_answer s n)
 Answers None s step = step ≡ None
 
 -- where a run stopped, and with what state
-abbrev pub stopped : PlainObject → Stop → State ℕ → Ending
+abbrev pub stopped : PlainObject → RunStop → State ℕ → Ending
 stopped before (stops.Exit code steps) s = Ended (outcome_of before code s) steps
 stopped before stops.Stuck s = Stuck
 stopped before stops.Unfinished s = Unfinished

@@ -3,6 +3,7 @@
 ghost use Rattle.std.specs.Prelude.{◌≡◌, ◌+◌, ◌<◌, ◌≤◌, [], ◌∷◌, IfSome};
 ghost use Rattle.std.specs.Option.{option_map};
 ghost use Rattle.bpf_machine.specs.State.{size};
+ghost use Rattle.object_store.specs.Limits.{profile};
 ghost use Rattle.bpf_machine.specs.Helper.{nothing_given, with_number, with_text, with_room, bytes_in};
 ghost use Rattle.bpf_machine.specs.Flat.{arguments};
 ghost use Rattle.flat_machine.specs.StateView.{memory_of, caps_in, layout_in, flat_state};
@@ -49,7 +50,7 @@ fn range_at(s: &FlatState, writes: bool, register: u8) -> Option<Range>
 
 /// The arguments of `read`: a place in the object, and a range for its bytes.
 pub fn number_and_room(s: &FlatState) -> Option<(u64, Range)>
-    ensures given { option_map (λ r. with_number r.0 (with_room r.1.len r.1.place (nothing_given s.now.caller)))
+    ensures given { option_map (λ r. with_number r.0 (with_room r.1.len r.1.place (nothing_given profile s.now.caller)))
         result ≡ arguments (caps_in s.now) (layout_in s.now) (flat_state s.now)
         (Argument.Number ∷ Argument.Writable ∷ []) 1 }
     ensures inside { IfSome result (λ r. IfSome r.1.place (λ p. p.1 + r.1.len ≤ size (caps_in s.now) p.0)) }
@@ -63,7 +64,7 @@ pub fn number_and_room(s: &FlatState) -> Option<(u64, Range)>
 pub fn number_and_text(s: &FlatState) -> Option<(u64, Range)>
     ensures { option_map
         (λ r. with_number r.0 (with_text (bytes_in (flat_state s.now).memory r.1.place r.1.len)
-        (nothing_given s.now.caller))) result ≡
+        (nothing_given profile s.now.caller))) result ≡
         arguments (caps_in s.now) (layout_in s.now) (flat_state s.now) (Argument.Number ∷ Argument.Readable ∷ []) 1 }
 {
     let n = get(s, 1)?;
@@ -73,8 +74,8 @@ pub fn number_and_text(s: &FlatState) -> Option<(u64, Range)>
 
 /// The argument of `rmxattr` and `map_rm`: the range of a name.
 pub fn one_text(s: &FlatState) -> Option<Range>
-    ensures { option_map
-        (λ r. with_text (bytes_in (flat_state s.now).memory r.place r.len) (nothing_given s.now.caller)) result ≡
+    ensures { option_map (λ r.
+        with_text (bytes_in (flat_state s.now).memory r.place r.len) (nothing_given profile s.now.caller)) result ≡
         arguments (caps_in s.now) (layout_in s.now) (flat_state s.now) (Argument.Readable ∷ []) 1 }
 {
     range_at(s, false, 1)
@@ -85,7 +86,7 @@ pub fn one_text(s: &FlatState) -> Option<Range>
 pub fn text_and_room(s: &FlatState) -> Option<(Range, Range)>
     ensures given { option_map
         (λ r. with_text (bytes_in (flat_state s.now).memory r.0.place r.0.len)
-        (with_room r.1.len r.1.place (nothing_given s.now.caller))) result ≡
+        (with_room r.1.len r.1.place (nothing_given profile s.now.caller))) result ≡
         arguments (caps_in s.now) (layout_in s.now) (flat_state s.now) (Argument.Readable ∷ Argument.Writable ∷ []) 1 }
     ensures inside { IfSome result (λ r. IfSome r.1.place (λ p. p.1 + r.1.len ≤ size (caps_in s.now) p.0)) }
 {
@@ -98,7 +99,7 @@ pub fn text_and_room(s: &FlatState) -> Option<(Range, Range)>
 pub fn room_and_text(s: &FlatState) -> Option<(Range, Range)>
     ensures given { option_map
         (λ r. with_room r.0.len r.0.place (with_text (bytes_in (flat_state s.now).memory r.1.place r.1.len)
-        (nothing_given s.now.caller))) result ≡
+        (nothing_given profile s.now.caller))) result ≡
         arguments (caps_in s.now) (layout_in s.now) (flat_state s.now) (Argument.Writable ∷ Argument.Readable ∷ []) 1 }
     ensures inside { IfSome result (λ r. IfSome r.0.place (λ p. p.1 + r.0.len ≤ size (caps_in s.now) p.0)) }
 {
@@ -111,8 +112,9 @@ pub fn room_and_text(s: &FlatState) -> Option<(Range, Range)>
 pub fn two_texts(s: &FlatState) -> Option<(Range, Range)>
     ensures { option_map
         (λ r. with_text (bytes_in (flat_state s.now).memory r.0.place r.0.len)
-        (with_text (bytes_in (flat_state s.now).memory r.1.place r.1.len) (nothing_given s.now.caller))) result ≡
-        arguments (caps_in s.now) (layout_in s.now) (flat_state s.now) (Argument.Readable ∷ Argument.Readable ∷ []) 1 }
+        (with_text (bytes_in (flat_state s.now).memory r.1.place r.1.len) (nothing_given profile s.now.caller)))
+        result ≡ arguments (caps_in s.now) (layout_in s.now) (flat_state s.now)
+        (Argument.Readable ∷ Argument.Readable ∷ []) 1 }
 {
     let name = range_at(s, false, 1)?;
     let value = range_at(s, false, 3)?;

@@ -8,7 +8,7 @@ pub returns-in_err-text-clause-given : goal.returns-in_err-text-clause-given
 returns-in_err-text-clause-given c =
     let s = flat_state c.args.s.now in
     let room = c.in_ok-room.room in
-    let none = two_ranges (caps_in c.args.s.now) (layout_in c.args.s.now) s true false (λ q m. with_text (bytes_in s.memory q m) (nothing_given s.caller)) (λ p n g. with_room n p g) (Some (room.place, room.len)) None c.in_ok-room.ensures.taken c.in_err-text.ensures.taken in
+    let none = two_ranges (caps_in c.args.s.now) (layout_in c.args.s.now) s true false (λ q m. with_text (bytes_in s.memory q m) (nothing_given s.limits s.caller)) (λ p n g. with_room n p g) (Some (room.place, room.len)) None c.in_ok-room.ensures.taken c.in_err-text.ensures.taken in
     rw c.from_residual-in_err-text.ensures none
 
 pub returns-clause-given : goal.returns-clause-given
@@ -16,4 +16,4 @@ returns-clause-given c =
     let s = flat_state c.args.s.now in
     let room = c.in_ok-room.room in
     let text = c.in_ok-text.text in
-    two_ranges (caps_in c.args.s.now) (layout_in c.args.s.now) s true false (λ q m. with_text (bytes_in s.memory q m) (nothing_given s.caller)) (λ p n g. with_room n p g) (Some (room.place, room.len)) (Some (text.place, text.len)) c.in_ok-room.ensures.taken c.in_ok-text.ensures.taken
+    two_ranges (caps_in c.args.s.now) (layout_in c.args.s.now) s true false (λ q m. with_text (bytes_in s.memory q m) (nothing_given s.limits s.caller)) (λ p n g. with_room n p g) (Some (room.place, room.len)) (Some (text.place, text.len)) c.in_ok-room.ensures.taken c.in_ok-text.ensures.taken

@@ -8,7 +8,7 @@ pub returns-in_err-value : goal.returns-in_err-value
 returns-in_err-value c =
     let s = flat_state c.args.s.now in
     let name = c.in_ok-name.name in
-    let none = two_ranges (caps_in c.args.s.now) (layout_in c.args.s.now) s false false (λ q m. with_text (bytes_in s.memory q m) (nothing_given s.caller)) (λ p n g. with_text (bytes_in s.memory p n) g) (Some (name.place, name.len)) None c.in_ok-name.ensures.taken c.in_err-value.ensures.taken in
+    let none = two_ranges (caps_in c.args.s.now) (layout_in c.args.s.now) s false false (λ q m. with_text (bytes_in s.memory q m) (nothing_given s.limits s.caller)) (λ p n g. with_text (bytes_in s.memory p n) g) (Some (name.place, name.len)) None c.in_ok-name.ensures.taken c.in_err-value.ensures.taken in
     rw c.from_residual-in_err-value.ensures none
 
 pub returns : goal.returns
@@ -16,4 +16,4 @@ returns c =
     let s = flat_state c.args.s.now in
     let name = c.in_ok-name.name in
     let value = c.in_ok-value.value in
-    two_ranges (caps_in c.args.s.now) (layout_in c.args.s.now) s false false (λ q m. with_text (bytes_in s.memory q m) (nothing_given s.caller)) (λ p n g. with_text (bytes_in s.memory p n) g) (Some (name.place, name.len)) (Some (value.place, value.len)) c.in_ok-name.ensures.taken c.in_ok-value.ensures.taken
+    two_ranges (caps_in c.args.s.now) (layout_in c.args.s.now) s false false (λ q m. with_text (bytes_in s.memory q m) (nothing_given s.limits s.caller)) (λ p n g. with_text (bytes_in s.memory p n) g) (Some (name.place, name.len)) (Some (value.place, value.len)) c.in_ok-name.ensures.taken c.in_ok-value.ensures.taken
