@@ -1,0 +1,2 @@
+-- A reader must believe Reading: which edit bytes begin with.
+pub mod Reading
