@@ -7,7 +7,7 @@ use Rattle.bpf_decode.specs.declared.insn.Operand.TheVariants.{Immediate}
 use Rattle.abstract_num.specs.declared.precision.Precision.{Precision}
 use Rattle.abstract_num.specs.Plain.{Plain, Number, Gives, view}
 use Rattle.abstract_num.specs.Edges.{Pair, along, first_of}
-use Rattle.abstract_regs.specs.Kind.{PlainKind, Num, both_nums, along_kinds}
+use Rattle.abstract_regs.specs.Kind.{Num, both_nums, along_kinds}
 use Rattle.abstract_regs.specs.Frame.{PlainFrame, kind_at, with_kind, compared_kind}
 use Rattle.abstract_regs.specs.Links.{told}
 use Rattle.abstract_regs.specs.Flow.{with_both, along_edge}

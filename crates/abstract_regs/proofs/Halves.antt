@@ -10,8 +10,8 @@ use Rattle.abstract_num.specs.Plain.{Plain, Holds}
 use Rattle.abstract_num.specs.Signed.{signed, signed_half}
 use Rattle.abstract_num.specs.Tighten.{tighten}
 use Rattle.abstract_num.specs.Keeping.{HeldIn, TightenKeeps}
-use Rattle.abstract_regs.specs.declared.link.Form.{Form}
-use Rattle.abstract_regs.specs.declared.link.Form.TheVariants.{Unlinked, Whole, Low, Up, Sign}
+use Rattle.abstract_regs.specs.declared.link.LinkForm.{LinkForm}
+use Rattle.abstract_regs.specs.declared.link.LinkForm.TheVariants.{Unlinked, Whole, Low, Up, Sign}
 use Rattle.abstract_regs.specs.Link.{HoldsForm}
 use Rattle.abstract_regs.specs.Links.{any_half, half_told, met_half, tell_half}
 
@@ -55,7 +55,7 @@ sign_set : (m n : ℕ) → n ≡ m / 2 ^ 31 % 2 * 2 ^ 31 → 1 ≤ n → 2 ^ 31 
 sign_set m n e h = omega (arith, e, h)
 
 -- what a form tells is true of the number that it is a form of
-half_true : (form : Form) (m n : ℕ) (z : Plain) → Holds z n → HoldsForm form m (Some (values.Num n)) → Between (half_told form z) (signed_half m)
+half_true : (form : LinkForm) (m n : ℕ) (z : Plain) → Holds z n → HoldsForm form m (Some (values.Num n)) → Between (half_told form z) (signed_half m)
 half_true Unlinked m n z h is = half_any (m % 2 ^ 32) (short m)
 half_true Whole m n z h is =
     let e : signed_half n ≡ signed_half m = ap signed_half is in
@@ -107,6 +107,6 @@ module _ (law : TightenKeeps) (precision : Precision) where
         half_at_most = greatest;
       }))
 
-  pub tell_half_held : (form : Form) (m : ℕ) (z t : Plain) (n v : ℕ) → Holds z n → Holds t v → HoldsForm form m (Some (values.Num n)) → v % 2 ^ 32 ≡ m % 2 ^ 32 → HeldIn (tell_half precision form z t) v
+  pub tell_half_held : (form : LinkForm) (m : ℕ) (z t : Plain) (n v : ℕ) → Holds z n → Holds t v → HoldsForm form m (Some (values.Num n)) → v % 2 ^ 32 ≡ m % 2 ^ 32 → HeldIn (tell_half precision form z t) v
   tell_half_held form m z t n v h k is low =
       met_held t (half_told form z) v k (subst (Between (half_told form z)) (sym (same_half v m low)) (half_true form m n z h is))

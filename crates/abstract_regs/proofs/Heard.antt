@@ -16,8 +16,8 @@ use Rattle.abstract_num.specs.Plain.{Plain, Holds, constant}
 use Rattle.abstract_num.specs.Edges.{along, first_of}
 use Rattle.abstract_num.specs.Keeping.{HeldIn, HeldInBoth, Fits, ConstantsFit, ConstantHolds, ArithmeticKeeps, TightenKeeps, EdgeKeeps}
 use Rattle.abstract_regs.specs.declared.link.Link.{Link}
-use Rattle.abstract_regs.specs.declared.link.Form.{Form}
-use Rattle.abstract_regs.specs.declared.link.Form.TheVariants.{Unlinked, Whole, Low, Up, Sign}
+use Rattle.abstract_regs.specs.declared.link.LinkForm.{LinkForm}
+use Rattle.abstract_regs.specs.declared.link.LinkForm.TheVariants.{Unlinked, Whole, Low, Up, Sign}
 use Rattle.abstract_regs.specs.Kind.{PlainKind, Unset, Num, Ptr, HoldsKind}
 use Rattle.abstract_regs.specs.Link.{is_linked, is_whole, has_low, link_in, HoldsForm, HoldsLink}
 use Rattle.abstract_regs.specs.Links.{apart, at_distance, met_number, is_bounded, tell_whole, tell_half, told_number, told_kind, is_named, told_kinds, tell_all, tell_kind, tell, told}
@@ -34,14 +34,14 @@ pub record NumberLaws : Type 0 where
   pub tighten : TightenKeeps
   pub edges : EdgeKeeps
 
-whole_is : (form : Form) (m n : ℕ) → is_whole form ≡ true → HoldsForm form m (Some (values.Num n)) → n ≡ m
+whole_is : (form : LinkForm) (m n : ℕ) → is_whole form ≡ true → HoldsForm form m (Some (values.Num n)) → n ≡ m
 whole_is Unlinked m n e h = absurd (false≢true e)
 whole_is Whole m n e h = h
 whole_is Low m n e h = absurd (false≢true e)
 whole_is Up m n e h = absurd (false≢true e)
 whole_is Sign m n e h = absurd (false≢true e)
 
-low_is : (form : Form) (m n : ℕ) → has_low form ≡ true → HoldsForm form m (Some (values.Num n)) → n % 2 ^ 32 ≡ m % 2 ^ 32
+low_is : (form : LinkForm) (m n : ℕ) → has_low form ≡ true → HoldsForm form m (Some (values.Num n)) → n % 2 ^ 32 ≡ m % 2 ^ 32
 low_is Unlinked m n e h = absurd (false≢true e)
 low_is Whole m n e h = ap (λ x. x % 2 ^ 32) h
 low_is Low m n e h = h

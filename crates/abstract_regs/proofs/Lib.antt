@@ -1,19 +1,19 @@
-mod Joins
-mod LinkForms
+pub mod Joins
+pub mod LinkForms
 pub mod LinkLists
-mod LinkTruth
+pub mod LinkTruth
 pub mod Told
 pub mod Forks
-mod Heard
-mod Halves
+pub mod Heard
+pub mod Halves
 pub mod SlotLemmas
 pub mod SlotLists
-mod Lengths
-mod Names
-mod LinkJoins
-mod Keeping
-mod LinkKeeping
-mod Known
-mod Places
-mod Firsts
+pub mod Lengths
+pub mod Names
+pub mod LinkJoins
+pub mod Keeping
+pub mod LinkKeeping
+pub mod Known
+pub mod Places
+pub mod Firsts
 pub mod Flat

@@ -17,8 +17,8 @@ use Rattle.bpf_decode.specs.Arithmetic.{alu_value, mov_value, signed_move_value}
 use Rattle.abstract_num.specs.Plain.{Plain, Holds}
 use Rattle.abstract_num.specs.UnsignedRows.{digits}
 use Rattle.abstract_regs.specs.declared.link.Link.{Link}
-use Rattle.abstract_regs.specs.declared.link.Form.{Form}
-use Rattle.abstract_regs.specs.declared.link.Form.TheVariants.{Unlinked, Whole, Low, Up, Sign}
+use Rattle.abstract_regs.specs.declared.link.LinkForm.{LinkForm}
+use Rattle.abstract_regs.specs.declared.link.LinkForm.TheVariants.{Unlinked, Whole, Low, Up, Sign}
 use Rattle.abstract_regs.specs.Link.{no_link, low_form, up_form, sign_form, down_form, HoldsForm, HoldsLink, shaped, moved_link, is_ones}
 use Rattle.abstract_regs.specs.Links.{shifted_link, masked_link, alu_link}
 
@@ -51,24 +51,24 @@ module _ (numbers : ℕ → ℕ) (d j : ℕ) where
   abbrev M : ℕ
   M = (numbers j + d) % 2 ^ 64
 
-  abbrev of : Form → Link
+  abbrev of : LinkForm → Link
   of form = record { distance = d; name = j; form = form }
 
-  moved_true : (form : Form) (n by : ℕ) → HoldsForm form M (Some (values.Num n)) → HoldsLink numbers (moved_link (of form) by) (Some (values.Num ((n + by) % 2 ^ 64)))
+  moved_true : (form : LinkForm) (n by : ℕ) → HoldsForm form M (Some (values.Num n)) → HoldsLink numbers (moved_link (of form) by) (Some (values.Num ((n + by) % 2 ^ 64)))
   moved_true Unlinked n by h = tt
   moved_true Whole n by h = omega (arith, h)
   moved_true Low n by h = tt
   moved_true Up n by h = tt
   moved_true Sign n by h = tt
 
-  low_true : (form : Form) (n v : ℕ) → HoldsForm form M (Some (values.Num n)) → v % 2 ^ 32 ≡ n % 2 ^ 32 → HoldsLink numbers (shaped (of form) (low_form form)) (Some (values.Num v))
+  low_true : (form : LinkForm) (n v : ℕ) → HoldsForm form M (Some (values.Num n)) → v % 2 ^ 32 ≡ n % 2 ^ 32 → HoldsLink numbers (shaped (of form) (low_form form)) (Some (values.Num v))
   low_true Unlinked n v h e = tt
   low_true Whole n v h e = e ∙ ap (λ x. x % 2 ^ 32) h
   low_true Low n v h e = e ∙ h
   low_true Up n v h e = tt
   low_true Sign n v h e = tt
 
-  up_true : (form : Form) (n v : ℕ) → HoldsForm form M (Some (values.Num n)) → v ≡ n * 2 ^ 32 % 2 ^ 64 → HoldsLink numbers (shaped (of form) (up_form form)) (Some (values.Num v))
+  up_true : (form : LinkForm) (n v : ℕ) → HoldsForm form M (Some (values.Num n)) → v ≡ n * 2 ^ 32 % 2 ^ 64 → HoldsLink numbers (shaped (of form) (up_form form)) (Some (values.Num v))
   up_true Unlinked n v h e = tt
   up_true Whole n v h e = e ∙ ap (λ x. x * 2 ^ 32 % 2 ^ 64) h
   up_true Low n v h e =
@@ -81,7 +81,7 @@ module _ (numbers : ℕ → ℕ) (d j : ℕ) where
   up_true Up n v h e = tt
   up_true Sign n v h e = tt
 
-  down_true : (form : Form) (n v : ℕ) → HoldsForm form M (Some (values.Num n)) → (n % 2 ^ 32 ≡ 0 → v % 2 ^ 32 ≡ n / 2 ^ 32 % 2 ^ 32) → HoldsLink numbers (shaped (of form) (down_form form)) (Some (values.Num v))
+  down_true : (form : LinkForm) (n v : ℕ) → HoldsForm form M (Some (values.Num n)) → (n % 2 ^ 32 ≡ 0 → v % 2 ^ 32 ≡ n / 2 ^ 32 % 2 ^ 32) → HoldsLink numbers (shaped (of form) (down_form form)) (Some (values.Num v))
   down_true Unlinked n v h e = tt
   down_true Whole n v h e = tt
   down_true Low n v h e = tt
@@ -97,7 +97,7 @@ module _ (numbers : ℕ → ℕ) (d j : ℕ) where
       back n m e = omega (arith, e)
   down_true Sign n v h e = tt
 
-  sign_true : (form : Form) (n v : ℕ) → HoldsForm form M (Some (values.Num n)) → v ≡ n / 2 ^ 31 % 2 * 2 ^ 31 → HoldsLink numbers (shaped (of form) (sign_form form)) (Some (values.Num v))
+  sign_true : (form : LinkForm) (n v : ℕ) → HoldsForm form M (Some (values.Num n)) → v ≡ n / 2 ^ 31 % 2 * 2 ^ 31 → HoldsLink numbers (shaped (of form) (sign_form form)) (Some (values.Num v))
   sign_true Unlinked n v h e = tt
   sign_true Whole n v h e = e ∙ ap (λ x. x / 2 ^ 31 % 2 * 2 ^ 31) h
   sign_true Low n v h e = e ∙ same n M h

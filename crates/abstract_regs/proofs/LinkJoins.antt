@@ -5,8 +5,8 @@ use Rattle.std.proofs.lemmas.Bool.{false≢true, and_parts, eqb-true, eq-eqb, co
 use mathlib.Core.Path.{ap₂}
 use Rattle.bpf_decode.specs.declared.value.Value.{Value}
 use Rattle.abstract_regs.specs.declared.link.Link.{Link}
-use Rattle.abstract_regs.specs.declared.link.Form.{Form}
-use Rattle.abstract_regs.specs.declared.link.Form.TheVariants.{Unlinked, Whole, Low, Up, Sign}
+use Rattle.abstract_regs.specs.declared.link.LinkForm.{LinkForm}
+use Rattle.abstract_regs.specs.declared.link.LinkForm.TheVariants.{Unlinked, Whole, Low, Up, Sign}
 use Rattle.abstract_regs.specs.Link.{no_link, link_in, HoldsLink, NameBelow, form_number, same_link, join_link, join_links}
 use Rattle.abstract_regs.specs.Links.{slot_place}
 use Rattle.abstract_regs.specs.Frame.{PlainFrame, join}
@@ -15,14 +15,14 @@ use Rattle.abstract_regs.specs.Laws.{LinksCommute, LinksAssociate, LinksOfSame, 
 
 -- ---- one link
 
-abbrev form_of : ℕ → Form
+abbrev form_of : ℕ → LinkForm
 form_of zero = Unlinked
 form_of (suc zero) = Whole
 form_of (suc (suc zero)) = Low
 form_of (suc (suc (suc zero))) = Up
 form_of (suc (suc (suc (suc n)))) = Sign
 
-form_back : (form : Form) → form_of (form_number form) ≡ form
+form_back : (form : LinkForm) → form_of (form_number form) ≡ form
 form_back Unlinked = refl
 form_back Whole = refl
 form_back Low = refl
@@ -37,7 +37,7 @@ same_is l m e =
     let j : l.name ≡ m.name = eqb-true l.name m.name two.0 in
     let number : form_number l.form ≡ form_number m.form = eqb-true (form_number l.form) (form_number m.form) two.1 in
     let form : l.form ≡ m.form = sym (form_back l.form) ∙ ap form_of number ∙ form_back m.form in
-    let of : ℕ → ℕ → Form → Link = λ d j form. record { distance = d; name = j; form = form } in
+    let of : ℕ → ℕ → LinkForm → Link = λ d j form. record { distance = d; name = j; form = form } in
     ap (λ x. of x l.name l.form) d ∙ ap (λ x. of m.distance x l.form) j ∙ ap (λ x. of m.distance m.name x) form
 
 both_true : (a b : Bool) → a ≡ true → b ≡ true → (a && b) ≡ true

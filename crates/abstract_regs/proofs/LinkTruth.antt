@@ -5,7 +5,7 @@ use Rattle.std.proofs.lemmas.Bool.{cases_eq, eq-eqb, ne_eqb, cond-true, cond-fal
 use Rattle.bpf_decode.specs.declared.value.Value.{Value}
 use Rattle.bpf_decode.specs.declared.value.Value.TheVariants as values
 use Rattle.abstract_regs.specs.declared.link.Link.{Link}
-use Rattle.abstract_regs.specs.declared.link.Form.TheVariants.{Unlinked, Whole}
+use Rattle.abstract_regs.specs.declared.link.LinkForm.TheVariants.{Unlinked, Whole}
 use Rattle.abstract_regs.specs.Kind.{PlainKind, Unset, Num, Ptr, HoldsKind}
 use Rattle.abstract_regs.specs.Link.{no_link, is_linked, link_in, HoldsForm, HoldsLink, NameBelow, unlinked}
 use Rattle.abstract_regs.specs.Links.{slot_place, taken}

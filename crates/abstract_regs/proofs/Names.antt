@@ -19,8 +19,8 @@ use Rattle.bpf_decode.specs.Values.{extended}
 use Rattle.abstract_num.specs.declared.precision.Precision.{Precision}
 use Rattle.abstract_num.specs.Plain.{Plain}
 use Rattle.abstract_regs.specs.declared.link.Link.{Link}
-use Rattle.abstract_regs.specs.declared.link.Form.{Form}
-use Rattle.abstract_regs.specs.declared.link.Form.TheVariants.{Unlinked, Whole}
+use Rattle.abstract_regs.specs.declared.link.LinkForm.{LinkForm}
+use Rattle.abstract_regs.specs.declared.link.LinkForm.TheVariants.{Unlinked, Whole}
 use Rattle.abstract_regs.specs.Kind.{PlainKind, Unset, Num, Ptr}
 use Rattle.abstract_regs.specs.Slots.{Span, stack_place, access_span}
 use Rattle.abstract_regs.specs.Frame.{PlainFrame, kind_at, operand_kind, room_span}
@@ -111,7 +111,7 @@ module _ (n : ℕ) where
   taken_below p (Ptr r k) l lt h = none_below
 
   -- another form, which is none of none
-  form_below : (to : Form → Form) (l : Link) → to Unlinked ≡ Unlinked → NameBelow n l → NameBelow n (shaped l (to l.form))
+  form_below : (to : LinkForm → LinkForm) (l : Link) → to Unlinked ≡ Unlinked → NameBelow n l → NameBelow n (shaped l (to l.form))
   form_below to l none h = ⊎_elim
       (λ (e : l.form ≡ Unlinked). let same : to l.form ≡ Unlinked = ap to e ∙ none in subst (λ form. NameBelow n (shaped l form)) (sym same) none_below)
       (λ (lt : l.name < n). cond_both (is_linked (to l.form)) (record { distance = l.distance; name = l.name; form = to l.form }) no_link (NameBelow n) (λ _. inr lt) (λ _. none_below)) h

@@ -6,8 +6,8 @@ use Rattle.bpf_decode.specs.declared.value.Value.{Value}
 use Rattle.bpf_decode.specs.declared.value.Value.TheVariants as values
 use Rattle.abstract_num.specs.UnsignedRows.{digits}
 use Rattle.abstract_regs.specs.declared.link.Link.{Link}
-use Rattle.abstract_regs.specs.declared.link.Form.{Form}
-use Rattle.abstract_regs.specs.declared.link.Form.TheVariants.{Unlinked, Whole, Low, Up, Sign}
+use Rattle.abstract_regs.specs.declared.link.LinkForm.{LinkForm}
+use Rattle.abstract_regs.specs.declared.link.LinkForm.TheVariants.{Unlinked, Whole, Low, Up, Sign}
 
 -- ---- links
 
@@ -16,14 +16,14 @@ abbrev pub no_link : Link
 no_link = record { distance = 0; name = 0; form = Unlinked }
 
 -- a form that is a link at all, and one of the whole number:
-abbrev pub is_linked : Form → Bool
+abbrev pub is_linked : LinkForm → Bool
 is_linked Unlinked = false
 is_linked Whole = true
 is_linked Low = true
 is_linked Up = true
 is_linked Sign = true
 
-abbrev pub is_whole : Form → Bool
+abbrev pub is_whole : LinkForm → Bool
 is_whole Unlinked = false
 is_whole Whole = true
 is_whole Low = false
@@ -31,7 +31,7 @@ is_whole Up = false
 is_whole Sign = false
 
 -- the place's low half is the number's
-abbrev pub has_low : Form → Bool
+abbrev pub has_low : LinkForm → Bool
 has_low Unlinked = false
 has_low Whole = true
 has_low Low = true
@@ -52,7 +52,7 @@ NumberIs (Some (values.Ptr r at)) P = ⊥
 
 -- what a place of a form has of m: the number, any number with its low half, that half in the upper
 -- one, or its bit 31 alone
-abbrev pub HoldsForm : Form → ℕ → Option Value → Type 0
+abbrev pub HoldsForm : LinkForm → ℕ → Option Value → Type 0
 HoldsForm Unlinked m c = Unit {0}
 HoldsForm Whole m c = NumberIs c (λ n. n ≡ m)
 HoldsForm Low m c = NumberIs c (λ n. n % 2 ^ 32 ≡ m % 2 ^ 32)
@@ -70,23 +70,23 @@ NameBelow p l = (l.form ≡ Unlinked) ⊎ (l.name < p)
 -- ---- other links of the same number
 
 -- the same number and distance in another form
-abbrev pub shaped : Link → Form → Link
+abbrev pub shaped : Link → LinkForm → Link
 shaped l form = if is_linked form then record { distance = l.distance; name = l.name; form = form } else no_link
 
 -- a form of the low half
-abbrev pub low_form : Form → Form
+abbrev pub low_form : LinkForm → LinkForm
 low_form form = if has_low form then Low else Unlinked
 
 -- a form of the low half moved up
-abbrev pub up_form : Form → Form
+abbrev pub up_form : LinkForm → LinkForm
 up_form form = if has_low form then Up else Unlinked
 
 -- a form of its sign
-abbrev pub sign_form : Form → Form
+abbrev pub sign_form : LinkForm → LinkForm
 sign_form form = if has_low form then Sign else Unlinked
 
 -- a form of the half that was moved up, moved down again
-abbrev pub down_form : Form → Form
+abbrev pub down_form : LinkForm → LinkForm
 down_form Unlinked = Unlinked
 down_form Whole = Unlinked
 down_form Low = Unlinked
@@ -105,7 +105,7 @@ is_ones c = c == 2 ^ digits c - 1
 -- ---- join
 
 -- the forms, told apart by a number
-abbrev pub form_number : Form → ℕ
+abbrev pub form_number : LinkForm → ℕ
 form_number Unlinked = 0
 form_number Whole = 1
 form_number Low = 2

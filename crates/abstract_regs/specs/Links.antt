@@ -26,8 +26,8 @@ use Rattle.abstract_num.specs.Tighten.{tighten}
 use Rattle.abstract_num.specs.Transfer.{transferred}
 use Rattle.abstract_num.specs.Edges.{along, first_of}
 use Rattle.abstract_regs.specs.declared.link.Link.{Link}
-use Rattle.abstract_regs.specs.declared.link.Form.{Form}
-use Rattle.abstract_regs.specs.declared.link.Form.TheVariants.{Unlinked, Whole, Low, Up, Sign}
+use Rattle.abstract_regs.specs.declared.link.LinkForm.{LinkForm}
+use Rattle.abstract_regs.specs.declared.link.LinkForm.TheVariants.{Unlinked, Whole, Low, Up, Sign}
 use Rattle.abstract_regs.specs.Link.{no_link, is_linked, is_whole, has_low, link_in, shaped, low_form, up_form}
 use Rattle.abstract_regs.specs.Link.{sign_form, down_form, moved_link, is_ones, unlinked}
 use Rattle.abstract_regs.specs.Kind.{PlainKind, Unset, Num, Ptr}
@@ -211,7 +211,7 @@ any_half = (any.half_least, any.half_greatest)
 
 -- what z, of a form, tells of the low half of the number that its link names: if it has that half,
 -- it is z's; moved up, it is in the upper half; its sign bit alone says whether it is negative
-abbrev pub half_told : Form → Plain → ℤ × ℤ
+abbrev pub half_told : LinkForm → Plain → ℤ × ℤ
 half_told Unlinked z = any_half
 half_told Whole z = (z.half_least, z.half_greatest)
 half_told Low z = (z.half_least, z.half_greatest)
@@ -227,7 +227,7 @@ met_half precision t h =
     (if int_lt q p then None else tighten precision (record t { half_least = p; half_greatest = q }))
 
 -- a number with the same low half
-abbrev pub tell_half : Precision → Form → Plain → Plain → Option Plain
+abbrev pub tell_half : Precision → LinkForm → Plain → Plain → Option Plain
 tell_half precision form z t = met_half precision t (half_told form z)
 
 -- a number t linked by m, if another is z, linked by l; both name the same number

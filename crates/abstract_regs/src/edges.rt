@@ -1,4 +1,5 @@
-use bpf_decode::{Operand, Register};
+use abstract_num::Precision;
+use bpf_decode::{Comparison, OpWidth, Operand, Register};
 
 /// The edges that leave an instruction. The frame that flowed is the one along the first.
 // The kinds along a comparison's second edge are as large as all the rest: they are written into a
@@ -17,6 +18,15 @@ pub enum Edges {
     /// The same of a comparison of linked registers. Along each edge `Frame::tell` follows: it may
     /// leave the edge dead.
     Forks(usize, Compared),
+}
+
+/// A conditional jump but for its operands, and how precisely numbers are kept.
+#[derive(Clone, Copy)]
+pub(crate) struct Branch {
+    pub(crate) precision: Precision,
+    pub(crate) bits: OpWidth,
+    pub(crate) comparison: Comparison,
+    pub(crate) target: usize,
 }
 
 /// The operands of a comparison.

@@ -21,14 +21,14 @@ ghost use Rattle.abstract_regs.specs.Edged.{with_edges, refined};
 ghost use Rattle.abstract_regs.specs.declared.kind.Kinds.{Kinds};
 ghost use Rattle.bpf_decode.specs.declared.insn.Operand.TheVariants as Operand;
 
-use crate::edges::{Compared, Edges};
+use crate::edges::{Branch, Compared, Edges};
 use crate::frame::Frame;
 use crate::kind::{Kind, Kinds};
 use abstract_num::{
     Number, Precision, arithmetic, constant, keeping_laws, loaded, loaded_signed, refine,
 };
 use bpf_decode::arithmetic::copied;
-use bpf_decode::{Arithmetic, Comparison, Insn, OpWidth, Operand, Register, Width, jump_target};
+use bpf_decode::{Arithmetic, Insn, OpWidth, Operand, Register, Width, jump_target};
 
 /// True if a comparison is of a register with itself.
 #[inline(always)]
@@ -43,17 +43,18 @@ fn is_same_register(dst: Register, source: &Operand) -> bool
 
 /// What an edge of a comparison leaves of the first number.
 #[inline(always)]
-fn first_along(
-    precision: Precision,
-    bits: OpWidth,
-    comparison: Comparison,
-    taken: bool,
-    x: &Number,
-    y: Number,
-) -> Option<Number>
-    ensures { Gives (option_map first_of (along precision bits comparison taken (view x.now) (view y))) result }
+fn first_along(branch: Branch, taken: bool, x: &Number, y: Number) -> Option<Number>
+    ensures { Gives (option_map first_of
+        (along branch.precision branch.bits branch.comparison taken (view x.now) (view y))) result }
 {
-    match refine(precision, bits, comparison, taken, *x, y) {
+    match refine(
+        branch.precision,
+        branch.bits,
+        branch.comparison,
+        taken,
+        *x,
+        y,
+    ) {
         None => None,
         Some((first, _)) => Some(first),
     }
@@ -115,7 +116,8 @@ impl Frame {
             Insn::Jump { offset } => Edges::Jumps(jump_target(slot, i64::from(offset))),
             Insn::JumpLong { distance } => Edges::Jumps(jump_target(slot, i64::from(distance))),
             Insn::Branch { bits, comparison, dst, source, offset } => {
-                self.branch(precision, bits, comparison, dst, &source, jump_target(slot, i64::from(offset)), fallen)
+                let target = jump_target(slot, i64::from(offset));
+                self.branch(Branch { precision, bits, comparison, target }, dst, &source, fallen)
             }
             Insn::Call { .. } => {
                 self.end_call(room, answer);
@@ -245,58 +247,55 @@ impl Frame {
     #[inline(never)]
     fn branch(
         &mut self,
-        precision: Precision,
-        bits: OpWidth,
-        comparison: Comparison,
+        branch: Branch,
         dst: Register,
         source: &Operand,
-        target: usize,
         place: &mut Kinds,
     ) -> Edges
-        ensures { (next : ℕ) → edge_to target (along_edge precision bits comparison true dst source.now self.old) ++
-            edge_to next (along_edge precision bits comparison false dst source.now self.old) ≡
-            with_edges precision result place.new next self.new }
+        ensures { (next : ℕ) → edge_to branch.target
+            (along_edge branch.precision branch.bits branch.comparison true dst source.now self.old) ++
+            edge_to next (along_edge branch.precision branch.bits branch.comparison false dst source.now self.old) ≡
+            with_edges branch.precision result place.new next self.new }
     {
         if let (Kind::Num(x), Operand::Immediate(imm)) = (self.peek(dst), source) {
             // Nothing is kept of what an edge leaves of an immediate.
-            let y = constant(copied(bits, i64::from(*imm).cast_unsigned()));
-            let taken = first_along(precision, bits, comparison, true, x, y);
-            let fallen = first_along(precision, bits, comparison, false, x, y);
-            return self.fork_first(precision, dst, *imm, target, taken, fallen, place);
+            let y = constant(copied(branch.bits, i64::from(*imm).cast_unsigned()));
+            let taken = first_along(branch, true, x, y);
+            let fallen = first_along(branch, false, x, y);
+            return self.fork_first(branch, dst, *imm, (taken, fallen), place);
         }
         let same = is_same_register(dst, source);
         let x = self.at(dst);
-        let y = self.compared(bits, source);
-        let taken = Kind::along(precision, bits, comparison, true, same, &x, &y);
-        let fallen = Kind::along(precision, bits, comparison, false, same, &x, &y);
-        self.fork(precision, dst, source, target, taken, fallen, place)
+        let y = self.compared(branch.bits, source);
+        let taken = Kind::along(branch, true, same, &x, &y);
+        let fallen = Kind::along(branch, false, same, &x, &y);
+        self.fork(branch, dst, source, (taken, fallen), place)
     }
 
-    /// Both edges of a comparison with an immediate, by the numbers that each leaves of the register.
+    /// Both edges of a comparison with an immediate, by the numbers that each leaves of the register:
+    /// the one to the target first.
     #[inline(always)]
     fn fork_first(
         &mut self,
-        precision: Precision,
+        branch: Branch,
         dst: Register,
         imm: i32,
-        target: usize,
-        taken: Option<Number>,
-        fallen: Option<Number>,
+        left: (Option<Number>, Option<Number>),
         place: &mut Kinds,
     ) -> Edges
         ensures { (next : ℕ) →
-            edge_to target (option_and_then (told precision dst (Operand.Immediate imm))
-            (option_map (with_kind self.old dst) (option_map plain.Num (option_map view taken)))) ++
-            edge_to next (option_and_then (told precision dst (Operand.Immediate imm))
-            (option_map (with_kind self.old dst) (option_map plain.Num (option_map view fallen)))) ≡
-            with_edges precision result place.new next self.new }
+            edge_to branch.target (option_and_then (told branch.precision dst (Operand.Immediate imm))
+            (option_map (with_kind self.old dst) (option_map plain.Num (option_map view left.0)))) ++
+            edge_to next (option_and_then (told branch.precision dst (Operand.Immediate imm))
+            (option_map (with_kind self.old dst) (option_map plain.Num (option_map view left.1)))) ≡
+            with_edges branch.precision result place.new next self.new }
     {
         let source = &Operand::Immediate(imm);
-        match (taken, fallen) {
+        match left {
             (None, None) => Edges::Leaves,
             (None, Some(number)) => {
                 self.set(dst, Kind::Num(number));
-                if self.tell_both(precision, dst, source) {
+                if self.tell_both(branch.precision, dst, source) {
                     Edges::Falls
                 } else {
                     Edges::Leaves
@@ -304,8 +303,8 @@ impl Frame {
             }
             (Some(number), None) => {
                 self.set(dst, Kind::Num(number));
-                if self.tell_both(precision, dst, source) {
-                    Edges::Jumps(target)
+                if self.tell_both(branch.precision, dst, source) {
+                    Edges::Jumps(branch.target)
                 } else {
                     Edges::Leaves
                 }
@@ -318,69 +317,63 @@ impl Frame {
                     source: *source,
                 };
                 if self.is_told(dst, source) {
-                    Edges::Forks(target, compared)
+                    Edges::Forks(branch.target, compared)
                 } else {
-                    Edges::Branches(target, compared)
+                    Edges::Branches(branch.target, compared)
                 }
             }
         }
     }
 
-    /// Both edges, by the kinds that each leaves. If both are live, the place gets the kinds along
-    /// the second.
+    /// Both edges, by the kinds that each leaves: the one to the target first. If both are live, the
+    /// place gets the kinds along the second.
     #[inline(always)]
     fn fork(
         &mut self,
-        precision: Precision,
+        branch: Branch,
         dst: Register,
         source: &Operand,
-        target: usize,
-        taken: Option<Kinds>,
-        fallen: Option<Kinds>,
+        left: (Option<Kinds>, Option<Kinds>),
         place: &mut Kinds,
     ) -> Edges
         ensures { (next : ℕ) →
-            edge_to target (option_and_then (told precision dst source.now)
-            (option_map (with_both self.old dst source.now) (option_map seen_both taken))) ++
-            edge_to next (option_and_then (told precision dst source.now)
-            (option_map (with_both self.old dst source.now) (option_map seen_both fallen))) ≡
-            with_edges precision result place.new next self.new }
+            edge_to branch.target (option_and_then (told branch.precision dst source.now)
+            (option_map (with_both self.old dst source.now) (option_map seen_both left.0))) ++
+            edge_to next (option_and_then (told branch.precision dst source.now)
+            (option_map (with_both self.old dst source.now) (option_map seen_both left.1))) ≡
+            with_edges branch.precision result place.new next self.new }
     {
-        match taken {
-            None => match fallen {
-                None => Edges::Leaves,
-                Some(kinds) => {
-                    self.put_both(dst, source, kinds);
-                    if self.tell_both(precision, dst, source) {
-                        Edges::Falls
-                    } else {
-                        Edges::Leaves
-                    }
+        match left {
+            (None, None) => Edges::Leaves,
+            (None, Some(kinds)) => {
+                self.put_both(dst, source, kinds);
+                if self.tell_both(branch.precision, dst, source) {
+                    Edges::Falls
+                } else {
+                    Edges::Leaves
                 }
-            },
-            Some(kinds) => match fallen {
-                None => {
-                    self.put_both(dst, source, kinds);
-                    if self.tell_both(precision, dst, source) {
-                        Edges::Jumps(target)
-                    } else {
-                        Edges::Leaves
-                    }
+            }
+            (Some(kinds), None) => {
+                self.put_both(dst, source, kinds);
+                if self.tell_both(branch.precision, dst, source) {
+                    Edges::Jumps(branch.target)
+                } else {
+                    Edges::Leaves
                 }
-                Some(others) => {
-                    self.put_both(dst, source, kinds);
-                    *place = others;
-                    let compared = Compared {
-                        dst,
-                        source: *source,
-                    };
-                    if self.is_told(dst, source) {
-                        Edges::Forks(target, compared)
-                    } else {
-                        Edges::Branches(target, compared)
-                    }
+            }
+            (Some(kinds), Some(others)) => {
+                self.put_both(dst, source, kinds);
+                *place = others;
+                let compared = Compared {
+                    dst,
+                    source: *source,
+                };
+                if self.is_told(dst, source) {
+                    Edges::Forks(branch.target, compared)
+                } else {
+                    Edges::Branches(branch.target, compared)
                 }
-            },
+            }
         }
     }
 

@@ -1,8 +1,10 @@
-ghost use Rattle.std.specs.Prelude.{◌≡◌, IfOk, OnOk, length, slice_get, slice_set};
+ghost use Rattle.std.specs.Prelude.{◌≡◌, IfOk, OnOk, length, replicate, slice_get, slice_set};
 ghost use Rattle.std.specs.Option.{option_map};
 ghost use Rattle.abstract_num.specs.Plain.{view};
 ghost use Rattle.abstract_regs.specs.Frame.{kind_at, or_unset, with_kind, join, entry_frame, after_call, after_answer};
 ghost use Rattle.abstract_regs.specs.Frame.{after_store, kept_kind, room_span, operand_kind, compared_kind, with_slots};
+ghost use Rattle.abstract_regs.specs.Frame.{with_links};
+ghost use Rattle.abstract_regs.specs.Link.{no_link};
 ghost use Rattle.abstract_regs.specs.Slots.{stack_place, stack_range, access_span, spoiled, meets};
 ghost use Rattle.abstract_regs.specs.Moves.{EachFits};
 ghost use Rattle.abstract_regs.specs.Seen.{seen, seen_each};
@@ -10,7 +12,7 @@ ghost use Rattle.abstract_regs.specs.Seen.{seen, seen_each};
 use crate::content::Content;
 use crate::kind::Kind;
 use crate::link::Link;
-use crate::links::{free, join_links};
+use crate::links::{free, join_links, unlink};
 use crate::slots::{fit_all, join_all, join_slots, meets, spoil, zeros};
 use crate::stack_span::{StackSpan, access_span, stack_place, stack_range, whole_slot};
 use abstract_num::{Number, Precision, between, constant};
@@ -129,7 +131,7 @@ impl Frame {
 
     /// Gives a register another kind.
     #[inline(always)]
-    pub(crate) fn set(&mut self, dst: Register, kind: Kind)
+    pub fn set(&mut self, dst: Register, kind: Kind)
         ensures { self.new ≡ with_kind self.old dst (seen kind) }
     {
         self.registers[usize::from(dst.number())] = kind;
@@ -264,12 +266,40 @@ impl Frame {
         }
     }
 
-    fn set_slot(&mut self, slot: usize, kind: Kind)
+    /// Gives a slot of the stack that is known another kind.
+    pub fn set_slot(&mut self, slot: usize, kind: Kind)
         ensures { self.new ≡ with_slots self.old (slice_set self.old.slots slot (seen kind)) }
     {
         if slot < self.slots.len() {
             self.slots[slot] = kind;
         }
+    }
+
+    /// The number of slots of the stack that are known.
+    #[inline(always)]
+    pub fn slot_count(&self) -> usize
+        ensures { result ≡ length self.now.slots }
+    {
+        self.slots.len()
+    }
+
+    /// The kind of the slot of that number; past those that are known it is Unset.
+    #[inline(always)]
+    pub fn slot_kind(&self, slot: usize) -> Kind
+        ensures { seen result ≡ or_unset (slice_get self.now.slots slot) }
+    {
+        match self.slots.get(slot) {
+            None => Kind::Unset,
+            Some(kind) => *kind,
+        }
+    }
+
+    /// Takes all links away.
+    pub fn unlink(&mut self)
+        ensures { self.new ≡ with_links self.old (replicate (length self.old.links) no_link) }
+    {
+        let places = self.links.len();
+        unlink(&mut self.links, 0, places);
     }
 
     /// The kind of an instruction's source operand.

@@ -6,10 +6,11 @@ ghost use Rattle.abstract_num.specs.Plain.{view};
 ghost use Rattle.abstract_regs.specs.Kind.{same_num, both_nums, is_unset, is_num, is_ptr, same_region, join_kind};
 ghost use Rattle.abstract_regs.specs.Kind.{alu_kind, neg_kind, mov_kind, signed_move_kind, end_kind, along_kinds};
 
+use crate::edges::Branch;
 use abstract_num::{
     Number, Precision, arithmetic, copied, join, negative, ordered, refine, sign_extended, tighten,
 };
-use bpf_decode::{Arithmetic, ByteOrder, Comparison, EndWidth, OpWidth, Region, SignedMove};
+use bpf_decode::{Arithmetic, ByteOrder, EndWidth, OpWidth, Region, SignedMove};
 
 /// The kind of a register: nothing is known of it, not even that it is set; it is a number; or it
 /// points into a region, at that offset from its first byte.
@@ -174,17 +175,21 @@ impl Kind {
     /// Refines both kinds of a comparison along an edge; `same` says that both are of one register.
     #[inline(always)]
     pub(crate) fn along(
-        precision: Precision,
-        bits: OpWidth,
-        comparison: Comparison,
+        branch: Branch,
         taken: bool,
         same: bool,
         x: &Kind,
         y: &Kind,
     ) -> Option<Kinds>
-        ensures { option_map seen_both result ≡
-            along_kinds precision bits comparison taken same (seen x.now) (seen y.now) }
+        ensures { option_map seen_both result ≡ along_kinds branch.precision branch.bits branch.comparison taken same
+            (seen x.now) (seen y.now) }
     {
+        let Branch {
+            precision,
+            bits,
+            comparison,
+            ..
+        } = branch;
         match (x, y) {
             (Kind::Num(a), Kind::Num(b)) => {
                 if same {

@@ -31,4 +31,4 @@ pub use flat_laws::registers_as_numbers;
 pub use frame::Frame;
 pub use kind::{Kind, Kinds};
 pub use laws::{holding_laws, join_laws, links_stay, slots_known, slots_stay};
-pub use link::{Form, Link};
+pub use link::{Link, LinkForm};

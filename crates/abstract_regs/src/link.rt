@@ -9,7 +9,7 @@ use std::mem::size_of;
 /// What a place has of the number that its link names: nothing that is known, the number whole, any
 /// number with its low half, that half in the upper one, or the low half's sign bit alone.
 #[derive(Clone, Copy)]
-pub enum Form {
+pub enum LinkForm {
     Unlinked,
     Whole,
     Low,
@@ -25,21 +25,21 @@ pub struct Link {
     pub distance: u64,
     /// The slot of the instruction that gave the name.
     pub name: u32,
-    pub form: Form,
+    pub form: LinkForm,
 }
 
 /// A link takes two words.
 const _: () = prove!(size_of::<Link>() <= 16);
 
-impl Form {
+impl LinkForm {
     /// True if it is a link's.
     #[inline(always)]
     pub(crate) fn is_linked(self) -> bool
         ensures { result ≡ is_linked self }
     {
         match self {
-            Form::Unlinked => false,
-            Form::Whole | Form::Low | Form::Up | Form::Sign => true,
+            LinkForm::Unlinked => false,
+            LinkForm::Whole | LinkForm::Low | LinkForm::Up | LinkForm::Sign => true,
         }
     }
 
@@ -49,8 +49,8 @@ impl Form {
         ensures { result ≡ is_whole self }
     {
         match self {
-            Form::Whole => true,
-            Form::Unlinked | Form::Low | Form::Up | Form::Sign => false,
+            LinkForm::Whole => true,
+            LinkForm::Unlinked | LinkForm::Low | LinkForm::Up | LinkForm::Sign => false,
         }
     }
 
@@ -60,51 +60,52 @@ impl Form {
         ensures { result ≡ has_low self }
     {
         match self {
-            Form::Whole | Form::Low => true,
-            Form::Unlinked | Form::Up | Form::Sign => false,
+            LinkForm::Whole | LinkForm::Low => true,
+            LinkForm::Unlinked | LinkForm::Up | LinkForm::Sign => false,
         }
     }
 
     /// The form of a copy of the low half.
-    pub(crate) fn low(self) -> Form
+    pub(crate) fn low(self) -> LinkForm
         ensures { result ≡ low_form self }
     {
         if self.has_low() {
-            Form::Low
+            LinkForm::Low
         } else {
-            Form::Unlinked
+            LinkForm::Unlinked
         }
     }
 
     /// The form after the low half was moved up.
-    pub(crate) fn up(self) -> Form
+    pub(crate) fn up(self) -> LinkForm
         ensures { result ≡ up_form self }
     {
         if self.has_low() {
-            Form::Up
+            LinkForm::Up
         } else {
-            Form::Unlinked
+            LinkForm::Unlinked
         }
     }
 
     /// The form of the low half's sign bit.
-    pub(crate) fn sign(self) -> Form
+    pub(crate) fn sign(self) -> LinkForm
         ensures { result ≡ sign_form self }
     {
         if self.has_low() {
-            Form::Sign
+            LinkForm::Sign
         } else {
-            Form::Unlinked
+            LinkForm::Unlinked
         }
     }
 
     /// The form after a half that was moved up was moved down again.
-    pub(crate) fn down(self) -> Form
+    pub(crate) fn down(self) -> LinkForm
         ensures { result ≡ down_form self }
     {
         match self {
-            Form::Up => Form::Low,
-            Form::Unlinked | Form::Whole | Form::Low | Form::Sign => Form::Unlinked,
+            LinkForm::Up => LinkForm::Low,
+            LinkForm::Unlinked | LinkForm::Whole | LinkForm::Low | LinkForm::Sign =>
+                LinkForm::Unlinked,
         }
     }
 
@@ -114,11 +115,11 @@ impl Form {
         ensures { result ≡ form_number self }
     {
         match self {
-            Form::Unlinked => 0,
-            Form::Whole => 1,
-            Form::Low => 2,
-            Form::Up => 3,
-            Form::Sign => 4,
+            LinkForm::Unlinked => 0,
+            LinkForm::Whole => 1,
+            LinkForm::Low => 2,
+            LinkForm::Up => 3,
+            LinkForm::Sign => 4,
         }
     }
 }
@@ -132,13 +133,13 @@ impl Link {
         Link {
             distance: 0,
             name: 0,
-            form: Form::Unlinked,
+            form: LinkForm::Unlinked,
         }
     }
 
     /// The same number and distance in another form.
     #[inline(always)]
-    pub(crate) fn shaped(self, form: Form) -> Link
+    pub(crate) fn shaped(self, form: LinkForm) -> Link
         ensures { result ≡ plain.shaped self form }
     {
         if form.is_linked() {
@@ -157,7 +158,7 @@ impl Link {
             Link {
                 distance: self.distance.wrapping_add(by),
                 name: self.name,
-                form: Form::Whole,
+                form: LinkForm::Whole,
             }
         } else {
             Link::none()
@@ -173,7 +174,7 @@ impl Link {
             Link {
                 distance: self.distance.wrapping_sub(by),
                 name: self.name,
-                form: Form::Whole,
+                form: LinkForm::Whole,
             }
         } else {
             Link::none()

@@ -13,7 +13,7 @@ ghost use Rattle.abstract_regs.specs.Links.{extended_links, loaded_links, stored
 
 use crate::frame::Frame;
 use crate::kind::Kind;
-use crate::link::{Form, Link, is_ones};
+use crate::link::{Link, LinkForm, is_ones};
 use crate::links::{link_in, unlink};
 use crate::stack_span::{StackSpan, access_span, stack_place, whole_slot};
 use abstract_num::{Number, Precision};
@@ -22,6 +22,14 @@ use bpf_decode::{Arithmetic, Insn, OpWidth, Operand, Register, SignedMove};
 
 /// The place of the first slot, after those of the registers.
 pub(crate) const FIRST_SLOT: usize = 11;
+
+/// An access: the register with its pointer, what is added to that, modulo `2^64`, and its length.
+#[derive(Clone, Copy)]
+struct Access {
+    base: Register,
+    distance: u64,
+    bytes: usize,
+}
 
 /// The link of a place whose number the instruction at a slot copies. A number that has none gets
 /// one; what isn't a number gives none.
@@ -37,7 +45,7 @@ fn taken(slot: u32, kind: &Kind, link: Link) -> Link
                 Link {
                     distance: 0,
                     name: slot,
-                    form: Form::Whole,
+                    form: LinkForm::Whole,
                 }
             }
         }
@@ -151,11 +159,13 @@ impl Frame {
             Insn::End { order: _, width: _, dst } => self.free(dst),
             Insn::LoadWide { dst, value: _ } => self.free(dst),
             Insn::Load { width, dst, base, offset } => {
-                self.link_loaded(precision, base, i64::from(offset).cast_unsigned(), width.bytes(), slot, dst)
+                let access = Access { base, distance: i64::from(offset).cast_unsigned(), bytes: width.bytes() };
+                self.link_loaded(precision, access, slot, dst)
             }
             Insn::LoadSigned { width: _, dst, base: _, offset: _ } => self.free(dst),
             Insn::Store { width, base, offset, source } => {
-                self.link_stored(precision, base, i64::from(offset).cast_unsigned(), width.bytes(), &source, slot)
+                let access = Access { base, distance: i64::from(offset).cast_unsigned(), bytes: width.bytes() };
+                self.link_stored(precision, access, &source, slot)
             }
             Insn::Call { .. } => self.free_called(room),
             Insn::Jump { .. } | Insn::JumpLong { .. } | Insn::Branch { .. } => {}
@@ -184,7 +194,7 @@ impl Frame {
 
     /// Takes a register's link away.
     #[inline(always)]
-    fn free(&mut self, dst: Register)
+    pub fn free(&mut self, dst: Register)
         ensures { self.new ≡ with_links self.old (slice_set self.old.links dst no_link) }
     {
         self.set_link(usize::from(dst.number()), Link::none());
@@ -267,17 +277,17 @@ impl Frame {
     }
 
     /// The slot that an access is, if it is known.
-    fn accessed(
-        &self,
-        precision: Precision,
-        base: Register,
-        distance: u64,
-        bytes: usize,
-    ) -> Option<usize>
-        ensures slot { result ≡ accessed_slot precision self.now (kind_at self.now base) distance bytes }
+    fn accessed(&self, precision: Precision, access: Access) -> Option<usize>
+        ensures slot { result ≡
+            accessed_slot precision self.now (kind_at self.now access.base) access.distance access.bytes }
         ensures known { IfSome result (λ j. j < length self.now.slots) }
         ensures small { IfSome result (λ j. j < 2 ^ 61) }
     {
+        let Access {
+            base,
+            distance,
+            bytes,
+        } = access;
         match whole_slot(stack_place(precision, self.peek(base), distance), bytes) {
             None => None,
             Some(slot) => {
@@ -290,19 +300,12 @@ impl Frame {
         }
     }
 
-    fn link_loaded(
-        &mut self,
-        precision: Precision,
-        base: Register,
-        distance: u64,
-        bytes: usize,
-        slot: u32,
-        dst: Register,
-    )
-        ensures { self.new ≡ with_links self.old
-            (loaded_links (accessed_slot precision self.old (kind_at self.old base) distance bytes) slot self.old dst) }
+    fn link_loaded(&mut self, precision: Precision, access: Access, slot: u32, dst: Register)
+        ensures { self.new ≡ with_links self.old (loaded_links
+            (accessed_slot precision self.old (kind_at self.old access.base) access.distance access.bytes) slot self.old
+            dst) }
     {
-        match self.accessed(precision, base, distance, bytes) {
+        match self.accessed(precision, access) {
             None => self.free(dst),
             Some(j) => {
                 let kind = self.slots[j];
@@ -311,20 +314,18 @@ impl Frame {
         }
     }
 
-    fn link_stored(
-        &mut self,
-        precision: Precision,
-        base: Register,
-        distance: u64,
-        bytes: usize,
-        source: &Operand,
-        slot: u32,
-    )
-        ensures { self.new ≡ with_links self.old
-            (stored_links (accessed_slot precision self.old (kind_at self.old base) distance bytes)
-            (access_span (stack_place precision (kind_at self.old base) distance) bytes) source.now slot self.old) }
+    fn link_stored(&mut self, precision: Precision, access: Access, source: &Operand, slot: u32)
+        ensures { self.new ≡ with_links self.old (stored_links
+            (accessed_slot precision self.old (kind_at self.old access.base) access.distance access.bytes)
+            (access_span (stack_place precision (kind_at self.old access.base) access.distance) access.bytes) source.now
+            slot self.old) }
     {
-        match self.accessed(precision, base, distance, bytes) {
+        let Access {
+            base,
+            distance,
+            bytes,
+        } = access;
+        match self.accessed(precision, access) {
             None => {
                 let span = access_span(stack_place(precision, self.peek(base), distance), bytes);
                 self.free_span(span)

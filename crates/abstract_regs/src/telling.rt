@@ -13,7 +13,7 @@ ghost use Rattle.abstract_regs.specs.Seen.{seen, seen_each};
 use crate::edges::Compared;
 use crate::frame::Frame;
 use crate::kind::Kind;
-use crate::link::{Form, Link};
+use crate::link::{Link, LinkForm};
 use crate::linking::FIRST_SLOT;
 use crate::links::link_in;
 use abstract_num::{
@@ -63,15 +63,15 @@ fn upper_half(n: i64) -> i32
 }
 
 /// What a number, in a form, tells of the low half of the number that its link names.
-fn half_told(form: Form, z: Number) -> (i32, i32)
+fn half_told(form: LinkForm, z: Number) -> (i32, i32)
     ensures { result ≡ half_told form (view z) }
 {
     let all = any().half();
     match form {
-        Form::Unlinked => (all.low, all.high),
-        Form::Whole | Form::Low => (z.half().low, z.half().high),
-        Form::Up => (upper_half(z.signed().low), upper_half(z.signed().high)),
-        Form::Sign => {
+        LinkForm::Unlinked => (all.low, all.high),
+        LinkForm::Whole | LinkForm::Low => (z.half().low, z.half().high),
+        LinkForm::Up => (upper_half(z.signed().low), upper_half(z.signed().high)),
+        LinkForm::Sign => {
             if z.unsigned().high == 0 {
                 (0, i32::MAX)
             } else if z.unsigned().low >= 1 {
@@ -107,7 +107,7 @@ fn met_half(precision: Precision, t: Number, told: (i32, i32)) -> Option<Number>
 
 /// What is left of a number whose low half is that of the number that a link names, if another, in
 /// that form, is `z`.
-fn tell_half(precision: Precision, form: Form, z: Number, t: Number) -> Option<Number>
+fn tell_half(precision: Precision, form: LinkForm, z: Number, t: Number) -> Option<Number>
     ensures { Gives (tell_half precision form (view z) (view t)) result }
 {
     met_half(precision, t, half_told(form, z))
@@ -156,26 +156,32 @@ fn is_named(l: Link, from: usize, place: usize, m: Link) -> bool
     m.form.is_linked() && l.name == m.name && place != from
 }
 
-/// Lets the number `z`, linked by `l`, tell the kinds of the places from `first` on, except its
-/// own, `from`. False if no value is left of one.
+/// A number that is known, its link and its place.
+#[derive(Clone, Copy)]
+struct Teller {
+    number: Number,
+    link: Link,
+    place: usize,
+}
+
+/// Lets a number tell the kinds of the places from `first` on, except its own. False if no value is
+/// left of one.
 fn tell_kinds(
     precision: Precision,
-    z: Number,
-    l: Link,
-    from: usize,
+    from: Teller,
     links: &[Link],
     first: usize,
     kinds: &mut [Kind],
 ) -> bool
     requires { first ≤ 11 }
-    ensures { told_kinds precision (view z) l from links.now first (seen_each kinds.old) ≡
+    ensures { told_kinds precision (view from.number) from.link from.place links.now first (seen_each kinds.old) ≡
         left_kinds result (seen_each kinds.new) }
 {
     for i in 0..kinds.len() {
         let place = first + i;
         let link = link_in(links, place);
-        if is_named(l, from, place, link) {
-            match told_kind(precision, z, l, link, kinds[i]) {
+        if is_named(from.link, from.place, place, link) {
+            match told_kind(precision, from.number, from.link, link, kinds[i]) {
                 None => return false,
                 Some(kind) => kinds[i] = kind,
             }
@@ -238,7 +244,14 @@ impl Frame {
         let link = self.link(place);
         if link.form.is_linked() {
             match self.at(register) {
-                Kind::Num(z) => self.tell_all(precision, z, link, place),
+                Kind::Num(number) => {
+                    let from = Teller {
+                        number,
+                        link,
+                        place,
+                    };
+                    self.tell_all(precision, from)
+                }
                 Kind::Unset | Kind::Ptr(_, _) => true,
             }
         } else {
@@ -247,25 +260,10 @@ impl Frame {
     }
 
     /// A number tells the kinds of all places but its own.
-    fn tell_all(&mut self, precision: Precision, z: Number, link: Link, from: usize) -> bool
-        ensures { tell_all precision (view z) link from self.old ≡ if_live result self.new }
+    fn tell_all(&mut self, precision: Precision, from: Teller) -> bool
+        ensures { tell_all precision (view from.number) from.link from.place self.old ≡ if_live result self.new }
     {
-        tell_kinds(
-            precision,
-            z,
-            link,
-            from,
-            &self.links,
-            0,
-            &mut self.registers,
-        ) && tell_kinds(
-            precision,
-            z,
-            link,
-            from,
-            &self.links,
-            FIRST_SLOT,
-            &mut self.slots,
-        )
+        tell_kinds(precision, from, &self.links, 0, &mut self.registers)
+            && tell_kinds(precision, from, &self.links, FIRST_SLOT, &mut self.slots)
     }
 }

@@ -20,6 +20,7 @@ fn load(alloc: Global, text: &str) -> Result<VerifiedClass, BuiltInFailure>
         Ok(image) => image,
         Err(error) => match error.fault {
             AsmFault::NoMemory => return Err(BuiltInFailure::NoMemory),
+            // Every other fault is of the text, whichever it is; so below of the rule.
             _ => return Err(BuiltInFailure::Text(error)),
         },
     };

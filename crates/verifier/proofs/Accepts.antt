@@ -9,16 +9,18 @@ use Rattle.bpf_decode.specs.declared.insn.Insn.TheVariants.{Alu, Neg, Mov, MovSi
 use Rattle.bpf_decode.specs.Instruction.{slots, slot_count, slot_total}
 use Rattle.bpf_decode.specs.Class.{ClassMethod, IsMethod}
 use Rattle.bpf_decode.specs.declared.rule_set.RuleSet.{RuleSet}
-use Rattle.bpf_machine.specs.Typed.{fetch, typed_entry}
+use Rattle.object_store.specs.Object.{PlainObject, IsObject}
+use Rattle.object_store.specs.Limits.{profile, IsLimits, IsAnyObject}
+use Rattle.bpf_machine.specs.Typed.{fetch, typed_host_entry}
 use Rattle.bpf_machine.specs.State.{AreCapacities}
-use Rattle.bpf_machine.specs.Safe.{caps_of, EndsAlways, EndsAlwaysIsSafe}
+use Rattle.bpf_machine.specs.Safe.{caps_of, EndsAlways, EndsWithin, EndsAlwaysIsSafe, EndsWithinIsSafe}
 use Rattle.verifier.specs.inner.Pass.{IsSpaced, AllSound}
 use Rattle.verifier.specs.Verified.{IsVerified}
 use Rattle.verifier.specs.Verdict.{method_verdict}
 use Rattle.verifier.proofs.Runs.{ends_at_exit, none_named, entry_is_held}
 use Rattle.verifier.proofs.Memory.{Laws}
 
-length-slots : (is : List Insn) → length (slots is) ≡ slot_total is
+pub length-slots : (is : List Insn) → length (slots is) ≡ slot_total is
 length-slots [] = refl
 length-slots (i ∷ is) =
     let h = length-slots is in
@@ -45,7 +47,7 @@ length-slots (i ∷ is) =
     some_slot (CallLocal distance) = omega arith
     some_slot Exit = omega arith
 
-first_begins : (is : List Insn) → 1 ≤ slot_total is → (i : Insn) × (fetch (slots is) 0 ≡ Some i)
+pub first_begins : (is : List Insn) → 1 ≤ slot_total is → (i : Insn) × (fetch (slots is) 0 ≡ Some i)
 first_begins [] h = absurd (omega arith)
 first_begins (i ∷ is) h = (i, refl)
 
@@ -73,18 +75,27 @@ slots_spaced (j ∷ is) zero (suc q) i at lt le =
 slots_spaced (j ∷ is) (suc p) zero i at lt le = absurd (omega arith)
 slots_spaced (j ∷ is) (suc p) (suc q) i at lt le = spaced_past (slot_count j - 1) (slots is) p q i (slots_spaced is) at (omega arith) (omega arith)
 
-ends_always : Laws → (rules : RuleSet) (m : ClassMethod) → IsMethod m → AllSound rules (caps_of m) (slots m.instructions) → method_verdict rules m ≡ None → EndsAlways m
-ends_always laws rules m ok sound clear object caller input call =
+ends_within : Laws → (rules : RuleSet) (m : ClassMethod) → IsMethod m → AllSound rules (caps_of m) (slots m.instructions) → method_verdict rules m ≡ None → EndsWithin m
+ends_within laws rules m ok sound clear limits object caller input call =
     let sizes : AreCapacities (caps_of m) = record { input = ok.in_cap; output = ok.out_cap } in
     let first = first_begins m.instructions ok.some_slot in
-    let s = typed_entry (caps_of m) object caller input in
+    let s = typed_host_entry limits (caps_of m) object caller input in
     ends_at_exit laws (caps_of m) rules m.instructions sound ok.fit (none_named laws rules (caps_of m) sizes) (omega (arith, slots_small m ok)) clear object s first.0 refl first.1
-    (entry_is_held laws rules (caps_of m) sizes object caller input call.within_limits call.client call.short call.bytes)
+    (entry_is_held laws rules (caps_of m) sizes limits call.allowed object caller input call.formed call.client call.short call.bytes)
 
-pub accept : EndsAlwaysIsSafe → Laws → (rules : RuleSet) (m : ClassMethod) → IsMethod m → AllSound rules (caps_of m) (slots m.instructions) → method_verdict rules m ≡ None → IsVerified m
-accept law laws rules m ok sound clear =
-    let ends = ends_always laws rules m ok sound clear in
-    record { method = ok; ends = ends; safe = law m ok.fit ends }
+-- the limits of all objects are such limits
+pub profile_allowed : IsLimits profile
+profile_allowed = record { bytes = omega arith; xattr_names = omega arith; key_names = omega arith }
+
+-- every object is well formed
+abbrev pub ObjectsAreFormed : Type 0
+ObjectsAreFormed = (object : PlainObject) → IsObject object → IsAnyObject object
+
+pub accept : EndsAlwaysIsSafe → EndsWithinIsSafe → ObjectsAreFormed → Laws → (rules : RuleSet) (m : ClassMethod) → IsMethod m → AllSound rules (caps_of m) (slots m.instructions) → method_verdict rules m ≡ None → IsVerified m
+accept law law_within formed laws rules m ok sound clear =
+    let within = ends_within laws rules m ok sound clear in
+    let ends : EndsAlways m = λ object caller input call. within profile object caller input (record { allowed = profile_allowed; formed = formed object call.within_limits; client = call.client; short = call.short; bytes = call.bytes }) in
+    record { method = ok; ends = ends; safe = law m ok.fit ends; ends_within = within; safe_within = law_within m ok.fit within }
 
 -- a fact of all elements, of one
 pub all_at : {A : Type 0} (P : A → Type 0) (xs : List A) (n : ℕ) (x : A) → slice_get xs n ≡ Some x → AllByRecursion P xs → P x

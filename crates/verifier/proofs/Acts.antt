@@ -74,15 +74,15 @@ found law precision caps (Ptr r k) (values.Ptr q at) distance w small fit h b =
     record { region = q; offset = at; points = refl; is = cond-true _ _ _ (le-leb _ _ fits); inside = fits; writable = λ e. ap may_store (sym h.0) ∙ not_false _ e; holds = h }
 
 -- a register set
-set_to : (s : Typed) (d : ℕ) (v : Value) → d ≤ 10 → (d == 10) ≡ false → set_reg s d v ≡ Some (record s { regs = slice_set s.regs d (Some v) })
+pub set_to : (s : Typed) (d : ℕ) (v : Value) → d ≤ 10 → (d == 10) ≡ false → set_reg s d v ≡ Some (record s { regs = slice_set s.regs d (Some v) })
 set_to s d v le ok = cond-true _ _ _ (below_ten d le ok)
 
 -- registers and the slot are no limits of a state
-within_regs : {known : ℕ} (s : Typed) (q : ℕ) (regs : List (Option Value)) → IsWithin known s → IsWithin known (go q (record s { regs = regs }))
-within_regs s q regs w = record { memory = w.memory; object = w.object; client = w.client }
+pub within_regs : {known : ℕ} (s : Typed) (q : ℕ) (regs : List (Option Value)) → IsWithin known s → IsWithin known (go q (record s { regs = regs }))
+within_regs s q regs w = record { memory = w.memory; object = w.object; client = w.client; limits = w.limits }
 
-within_slot : {known : ℕ} (s : Typed) (q : ℕ) → IsWithin known s → IsWithin known (go q s)
-within_slot s q w = record { memory = w.memory; object = w.object; client = w.client }
+pub within_slot : {known : ℕ} (s : Typed) (q : ℕ) → IsWithin known s → IsWithin known (go q s)
+within_slot s q w = record { memory = w.memory; object = w.object; client = w.client; limits = w.limits }
 
 -- no load with sign extension is a whole slot
 no_slot_signed : (width : SignedWidth) → signed_byte_count width ≡ 8 → ⊥
@@ -90,7 +90,7 @@ no_slot_signed signed.Byte e = omega (arith, e)
 no_slot_signed signed.Half e = omega (arith, e)
 no_slot_signed signed.Word e = omega (arith, e)
 
-extended_small32 : (z : ℤ) → FitsSigned w32 z → extended z < 2 ^ 64
+pub extended_small32 : (z : ℤ) → FitsSigned w32 z → extended z < 2 ^ 64
 extended_small32 (pos n) h = let s = h.sfits in omega arith
 extended_small32 (negsuc n) h = omega arith
 
@@ -105,7 +105,7 @@ module _ (laws : Laws) (rules : RuleSet) (caps : Caps) (code : List (Option Insn
   long_vs : length f.slots ≡ length vs
   long_vs = h.long ∙ sym (length-values known s.memory.stack)
 
-  computed_step : (i : Insn) (d : ℕ) (v : Value) (q : ℕ) → typed_act caps i s ≡ Some (go q (record s { regs = slice_set s.regs d (Some v) })) → Moves (room_of i) (answer_of rules f i) i s.slot s.regs vs q (slice_set s.regs d (Some v)) vs → Steps rules known caps f i s
+  pub computed_step : (i : Insn) (d : ℕ) (v : Value) (q : ℕ) → typed_act caps i s ≡ Some (go q (record s { regs = slice_set s.regs d (Some v) })) → Moves (room_of i) (answer_of rules f i) i s.slot s.regs vs q (slice_set s.regs d (Some v)) vs → Steps rules known caps f i s
   computed_step i d v q e m = record { to = go q (record s { regs = slice_set s.regs d (Some v) }); act = e; moves = m; within = within_regs s q (slice_set s.regs d (Some v)) h.within }
 
   alu_steps : (bits : OpWidth) (operation : Arithmetic) (d : ℕ) (x : Operand) → Fits (Alu bits operation d x) → Passed rules caps code p (Alu bits operation d x) f → Steps rules known caps f (Alu bits operation d x) s
@@ -230,10 +230,10 @@ module _ (laws : Laws) (rules : RuleSet) (caps : Caps) (code : List (Option Insn
         to = go (s.slot + 1) t;
         act = one_more _ _ _ _ v.there (one_more _ _ _ _ y.read (ap (typed_after s) (one_more _ _ _ t at.is (cond-true _ _ _ (at.writable ok.read_only) ∙ one_more _ _ _ _ kept.is refl))));
         moves = (at.region, at.offset, y.value, value_is s base v.value v.there ∙ ap Some at.points, operand_is s x y.value y.read, kept.stores, refl, refl);
-        within = record { memory = kept.memory; object = (h.within).object; client = (h.within).client };
+        within = record { memory = kept.memory; object = (h.within).object; client = (h.within).client; limits = (h.within).limits };
       }
 
-  branch_steps : (bits : OpWidth) (comparison : Comparison) (d : ℕ) (x : Operand) (offset : ℤ) → Passed rules caps code p (Branch bits comparison d x offset) f → Steps rules known caps f (Branch bits comparison d x offset) s
+  pub branch_steps : (bits : OpWidth) (comparison : Comparison) (d : ℕ) (x : Operand) (offset : ℤ) → Passed rules caps code p (Branch bits comparison d x offset) f → Steps rules known caps f (Branch bits comparison d x offset) s
   branch_steps bits comparison d x offset ok =
       let unset = neither (is_unset (kind_at f d)) (operand_is_unset f x) ok.unset in
       let pointers = neither (is_ptr (kind_at f d)) (is_ptr (operand_kind f x)) ok.compared in

@@ -14,6 +14,7 @@ use Rattle.bpf_decode.specs.declared.value.Value.{Value}
 use Rattle.bpf_decode.specs.declared.value.Value.TheVariants as values
 use Rattle.bpf_machine.specs.declared.caps.Caps.{Caps}
 use Rattle.object_store.specs.Object.{AreBytes}
+use Rattle.object_store.specs.Limits.{IsLimits}
 use Rattle.helpers.specs.declared.argument.Argument.{Argument}
 use Rattle.helpers.specs.declared.argument.Argument.TheVariants.{Number, OutputLength, Readable, Writable}
 use Rattle.helpers.specs.Effect.{Takes, Effect, text}
@@ -168,6 +169,7 @@ record Gets (caps : Caps) (f : PlainFrame) (s : Typed) (arguments : List Argumen
   targets : Targets caps s (room_in arguments k) given.room given.target
   texts : AllByRecursion AreBytes given.texts
   caller : given.caller ≡ s.caller
+  limits : given.limits ≡ s.limits
   room_short : IsShort f (room_in arguments k) given.room
   text_short : IsShort f (text_in arguments k) (length (text (asked given) 0))
 
@@ -187,6 +189,7 @@ module _ (laws : SlotLaws) (ranges : RangesAreKnown) (caps : Caps) (known : ℕ)
     targets = g.targets;
     texts = g.texts;
     caller = g.caller;
+    limits = g.limits;
     room_short = g.room_short;
     text_short = g.text_short;
   }
@@ -199,6 +202,7 @@ module _ (laws : SlotLaws) (ranges : RangesAreKnown) (caps : Caps) (known : ℕ)
     targets = g.targets;
     texts = g.texts;
     caller = g.caller;
+    limits = g.limits;
     room_short = g.room_short;
     text_short = g.text_short;
   }
@@ -226,6 +230,7 @@ module _ (laws : SlotLaws) (ranges : RangesAreKnown) (caps : Caps) (known : ℕ)
     targets = g.targets;
     texts = (t.small, g.texts);
     caller = g.caller;
+    limits = g.limits;
     room_short = g.room_short;
     text_short = λ most e. let le = counted_short f s (k + 1) n most e in omega (arith, t.short, le);
   }
@@ -244,6 +249,7 @@ module _ (laws : SlotLaws) (ranges : RangesAreKnown) (caps : Caps) (known : ℕ)
     };
     texts = g.texts;
     caller = g.caller;
+    limits = g.limits;
     room_short = counted_short f s (k + 1) n;
     text_short = g.text_short;
   }
@@ -254,12 +260,13 @@ module _ (laws : SlotLaws) (ranges : RangesAreKnown) (caps : Caps) (known : ℕ)
 
   gets : (arguments : List Argument) (k : ℕ) → some_fault caps f NotSet arguments k ≡ false → some_fault caps f OutOfRegion arguments k ≡ false → some_fault caps f ReadOnly arguments k ≡ false → some_fault caps f WrongKind arguments k ≡ false → some_fault caps f HasPointer arguments k ≡ false → Gets caps f s arguments k
   gets [] k u a b c d = record {
-    given = nothing_given s.caller;
+    given = nothing_given s.limits s.caller;
     is = refl;
     small = omega arith;
     targets = refl;
     texts = tt;
     caller = refl;
+    limits = refl;
     room_short = λ most e. absurd (none-some most e);
     text_short = λ most e. absurd (none-some most e);
   }
@@ -363,8 +370,11 @@ module _ (laws : Laws) (rules : RuleSet) (caps : Caps) (known : ℕ) (few : know
       client : g.given.caller < 2 ^ 32
       client = subst (λ n. n < 2 ^ 32) (sym g.caller) (h.within).client
 
+      allowed : IsLimits g.given.limits
+      allowed = subst IsLimits (sym g.limits) (h.within).limits
+
       small : (done g.given).answer < 2 ^ 64
-      small = answer_small laws.answers helper s.object (asked g.given) (h.within).object g.small client
+      small = answer_small laws.answers helper s.object (asked g.given) allowed (h.within).object g.small client
 
       any_holds : numbers.Holds any (done g.given).answer
       any_holds = laws.any (done g.given).answer small
@@ -372,7 +382,7 @@ module _ (laws : Laws) (rules : RuleSet) (caps : Caps) (known : ℕ) (few : know
       in_range : (o : Option AnswerRange) → answer_range_of helper ≡ o → numbers.Holds (ranged_answer (precision_of Three) f (Some takes) o) (done g.given).answer
       in_range None e = any_holds
       in_range (Some r) e =
-          let range = laws.answers helper r s.object (asked g.given) e (h.within).object g.small in
+          let range = laws.answers helper r s.object (asked g.given) e allowed (h.within).object g.small in
           let errno = errno_is_small helper r e in
           answers_hold laws.any laws.tighten (precision_of Three) r.errno (most_of f takes.arguments r.most) (done g.given).answer errno small
           (λ most is.
@@ -399,8 +409,8 @@ module _ (laws : Laws) (rules : RuleSet) (caps : Caps) (known : ℕ) (few : know
       let w' = sym (ap (λ o. writes_object o && not caps.writes) known_sig.1) ∙ w in
       let g = gets laws.slots laws.ranges caps known few f s h takes.arguments 1 u' a' b' c' d' in
       let e = done g.given in
-      let l = laws.effects helper s.object (asked g.given) (h.within).object g.texts in
-      let t : Typed = record { slot = s.slot; regs = answered s.regs (values.Num e.answer); memory = typed_room s.memory g.given.target e.bytes; object = e.object; out_len = unwrap_or e.out_len s.out_len; caller = s.caller; edits = with_edits (edits helper s.object (asked g.given)) s.edits } in
+      let l = laws.effects helper s.object (asked g.given) (subst IsLimits (sym g.limits) (h.within).limits) (h.within).object g.texts in
+      let t : Typed = record { slot = s.slot; regs = answered s.regs (values.Num e.answer); memory = typed_room s.memory g.given.target e.bytes; object = e.object; out_len = unwrap_or e.out_len s.out_len; caller = s.caller; limits = s.limits; edits = with_edits (edits helper s.object (asked g.given)) s.edits } in
       let left = overwritten laws.slots laws.ranges caps known few f s h (room_in takes.arguments 1) g.given.room g.given.target e.bytes g.targets l.short l.bytes in
       record {
         to = t;
@@ -409,7 +419,7 @@ module _ (laws : Laws) (rules : RuleSet) (caps : Caps) (known : ℕ) (few : know
         holds = answer_holds takes g sig;
         regs = refl;
         slots = subst (λ (o : Option Takes). Overwritten (room_of_takes o) s.regs (slot_values known s.memory.stack) (slot_values known t.memory.stack)) (sym sig) left.1;
-        within = record { memory = left.0; object = l.object; client = (h.within).client };
+        within = record { memory = left.0; object = l.object; client = (h.within).client; limits = (h.within).limits };
       }
 
 -- the numbers of a register's kind fit

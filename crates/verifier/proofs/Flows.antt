@@ -46,17 +46,17 @@ pub record Both (f : PlainFrame) (cs vs : List (Option Value)) : Type 0 where
   pub links : HoldsLinks f cs vs
 
 module _ (law : JoinsHold) where
-  meets_joined : (inflow : Option PlainFrame) (g : PlainFrame) (cs vs : List (Option Value)) → Both g cs vs → Both (joined inflow g) cs vs
+  pub meets_joined : (inflow : Option PlainFrame) (g : PlainFrame) (cs vs : List (Option Value)) → Both g cs vs → Both (joined inflow g) cs vs
   meets_joined None g cs vs h = h
   meets_joined (Some f) g cs vs h = let both = law f g in record { holds = both.right cs h.holds; slots = both.slots_right vs h.slots; links = both.links_right cs vs h.links }
 
-  meets_kept : (inflow : Option PlainFrame) (g : PlainFrame) (cs vs : List (Option Value)) → Meets inflow cs vs → Meets (Some (joined inflow g)) cs vs
+  pub meets_kept : (inflow : Option PlainFrame) (g : PlainFrame) (cs vs : List (Option Value)) → Meets inflow cs vs → Meets (Some (joined inflow g)) cs vs
   meets_kept inflow g cs vs h =
       let both = law h.frame g in
       record { frame = join h.frame g; is = ap (λ o. Some (joined o g)) h.is; holds = both.left cs h.holds; slots = both.slots_left vs h.slots; links = both.links_left cs vs h.links }
 
   -- a flow along an edge is joined in
-  one_meets : (a q : ℕ) (g : PlainFrame) (inflow : Option PlainFrame) (cs vs : List (Option Value)) → Both g cs vs → q ≡ a → Meets (met a g q inflow) cs vs
+  pub one_meets : (a q : ℕ) (g : PlainFrame) (inflow : Option PlainFrame) (cs vs : List (Option Value)) → Both g cs vs → q ≡ a → Meets (met a g q inflow) cs vs
   one_meets a q g inflow cs vs h e =
       let all = meets_joined inflow g cs vs h in
       record {
@@ -68,14 +68,14 @@ module _ (law : JoinsHold) where
       }
 
   -- and one along another edge leaves what is there
-  one_keeps : (a q : ℕ) (g : PlainFrame) (inflow : Option PlainFrame) (cs vs : List (Option Value)) → Meets inflow cs vs → Meets (met a g q inflow) cs vs
+  pub one_keeps : (a q : ℕ) (g : PlainFrame) (inflow : Option PlainFrame) (cs vs : List (Option Value)) → Meets inflow cs vs → Meets (met a g q inflow) cs vs
   one_keeps a q g inflow cs vs h = cond_both (a == q) (Some (joined inflow g)) inflow (λ o. Meets o cs vs) (λ _. meets_kept inflow g cs vs h) (λ _. h)
 
-  along_keeps : (edges : List (ℕ × PlainFrame)) (q : ℕ) (inflow : Option PlainFrame) (cs vs : List (Option Value)) → Meets inflow cs vs → Meets (along edges q inflow) cs vs
+  pub along_keeps : (edges : List (ℕ × PlainFrame)) (q : ℕ) (inflow : Option PlainFrame) (cs vs : List (Option Value)) → Meets inflow cs vs → Meets (along edges q inflow) cs vs
   along_keeps [] q inflow cs vs h = h
   along_keeps (edge ∷ edges) q inflow cs vs h = along_keeps edges q (met edge.0 edge.1 q inflow) cs vs (one_keeps edge.0 q edge.1 inflow cs vs h)
 
-  along_meets : (edges : List (ℕ × PlainFrame)) (q : ℕ) (g : PlainFrame) (inflow : Option PlainFrame) (cs vs : List (Option Value)) → Both g cs vs → Among q g edges → Meets (along edges q inflow) cs vs
+  pub along_meets : (edges : List (ℕ × PlainFrame)) (q : ℕ) (g : PlainFrame) (inflow : Option PlainFrame) (cs vs : List (Option Value)) → Both g cs vs → Among q g edges → Meets (along edges q inflow) cs vs
   along_meets [] q g inflow cs vs h e = absurd e
   along_meets (edge ∷ edges) q g inflow cs vs h e = ⊎_elim
       (λ (here : (q ≡ edge.0) × (g ≡ edge.1)). along_keeps edges q (met edge.0 edge.1 q inflow) cs vs (one_meets edge.0 q edge.1 inflow cs vs (subst (λ (k : PlainFrame). Both k cs vs) here.1 h) here.0))

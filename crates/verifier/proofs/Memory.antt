@@ -18,7 +18,7 @@ use Rattle.bpf_machine.specs.Slots.{IsStack, slot_of, slot_value, slot_values, T
 use Rattle.abstract_regs.specs.Moves.{flat_option, value_at, Reached, IsNumber, IsSlot, Loads, Stores, Overwrites, LoadIsKnown}
 use Rattle.abstract_regs.specs.Laws.{JoinsHold, EntryHolds, AccessesFit, FlowsKeepSlots, JoinsKeepSlots, FlowsKeepNames, JoinsKeepNames, SlotsAreKnown, LoadsAreKnown, RangesAreKnown}
 use Rattle.abstract_num.specs.Keeping.{AnyHolds, TightenKeeps}
-use Rattle.helpers.specs.Laws.{EffectsAreWithinLimits}
+use Rattle.helpers.specs.Laws.{EffectsKeepTheForm}
 use Rattle.helpers.specs.Ranges.{AnswersAreInRange}
 use Rattle.verifier.specs.Frame.{IsMemory}
 use Rattle.verifier.proofs.Bytes.{bytes_take, bytes_drop, bytes_of_number, le_value_below, value_in, bytes_written, as_plain}
@@ -45,7 +45,7 @@ pub record Laws : Type 0 where
   pub loads : LoadsAreKnown
   pub ranges : RangesAreKnown
   pub slots : SlotLaws
-  pub effects : EffectsAreWithinLimits
+  pub effects : EffectsKeepTheForm
   pub answers : AnswersAreInRange
   pub any : AnyHolds
   pub tighten : TightenKeeps

@@ -11,7 +11,8 @@ use Rattle.abstract_num.specs.Plain.{Plain, Holds, any}
 use Rattle.abstract_num.specs.Tighten.{tighten}
 use Rattle.abstract_num.specs.Transfer.{signed_ranged}
 use Rattle.abstract_num.specs.Keeping.{HeldIn, AnyHolds, TightenKeeps}
-use Rattle.object_store.specs.Object.{PlainObject, IsObject}
+use Rattle.object_store.specs.Object.{PlainObject}
+use Rattle.object_store.specs.Limits.{IsLimits, IsAnyObject}
 use Rattle.helpers.specs.declared.helper.Helper.{Helper}
 use Rattle.helpers.specs.declared.helper.Helper.TheVariants.{Stat, Read, Write, Truncate, Remove, GetXattr, SetXattr, RmXattr, MapGet, MapSet, MapRm, MapNext, OutLen, Create, Caller, Compare, Copy, XattrNext}
 use Rattle.helpers.specs.declared.answer_ranges.AnswerRange.{AnswerRange}
@@ -55,21 +56,21 @@ errno_is_small id r e = subst HasSmallError e (small_errors (helper_of id))
 
 -- ---- an answer is a number of 64 bits
 
-stat_small : (object : PlainObject) → IsObject object → (stat_answer object).number < 2 ^ 64
+stat_small : (object : PlainObject) → IsAnyObject object → (stat_answer object).number < 2 ^ 64
 stat_small None h = omega arith
 stat_small (Some o) h = let le = h.length in omega (arith, le)
 
 -- that of a helper of no range
-plain_small : (h : Option Helper) (object : PlainObject) (g : Given) → option_and_then range_row h ≡ None → IsObject object → g.caller < 2 ^ 32 → (effect_of h object g).answer < 2 ^ 64
+plain_small : (h : Option Helper) (object : PlainObject) (g : Given) → option_and_then range_row h ≡ None → IsAnyObject object → g.caller < 2 ^ 32 → (effect_of h object g).answer < 2 ^ 64
 plain_small None object g e o caller = omega arith
 plain_small (Some Stat) object g e o caller = stat_small object o
 plain_small (Some Caller) object g e o caller = omega (arith, caller)
 plain_small (Some other) object g e o caller = absurd (none-some _ (sym e))
 
-module _ (law : AnswersAreInRange) (id : ℕ) (object : PlainObject) (g : Given) (within : IsObject object) (room : g.room < 2 ^ 64) (caller : g.caller < 2 ^ 32) where
+module _ (law : AnswersAreInRange) (id : ℕ) (object : PlainObject) (g : Given) (limits : IsLimits g.limits) (within : IsAnyObject object) (room : g.room < 2 ^ 64) (caller : g.caller < 2 ^ 32) where
   by_range : (o : Option AnswerRange) → answer_range_of id ≡ o → (effect id object g).answer < 2 ^ 64
   by_range None e = plain_small (helper_of id) object g e within caller
-  by_range (Some r) e = let range = law id r object g e within room in range.fits
+  by_range (Some r) e = let range = law id r object g e limits within room in range.fits
 
   pub answer_small : (effect id object g).answer < 2 ^ 64
   answer_small = by_range (answer_range_of id) refl

@@ -9,11 +9,13 @@ use Rattle.bpf_decode.specs.Instruction.{Fits, AllFit, slots, slot_count}
 use Rattle.bpf_decode.specs.declared.rule_set.RuleSet.{RuleSet}
 use Rattle.bpf_decode.specs.declared.rule_set.RuleSet.TheVariants.{One, Two, Three}
 use Rattle.bpf_machine.specs.declared.caps.Caps.{Caps}
-use Rattle.object_store.specs.Object.{PlainObject, IsObject, AreBytes}
+use Rattle.object_store.specs.declared.limits.Limits.{Limits}
+use Rattle.object_store.specs.Object.{PlainObject, AreBytes}
+use Rattle.object_store.specs.Limits.{IsLimits, IsAnyObject}
 use Rattle.bpf_machine.specs.declared.limits.TheConstants.{STACK_SIZE}
 use Rattle.bpf_machine.specs.State.{◌>>=◌, AreCapacities, opening, Outcome, Ended, Stuck, one_more, goes_on}
 use Rattle.bpf_machine.specs.Slots.{slot_values}
-use Rattle.bpf_machine.specs.Typed.{Typed, fetch, typed_act, typed_exit_of, typed_outcome, typed_ends, typed_run, typed_entry}
+use Rattle.bpf_machine.specs.Typed.{Typed, fetch, typed_act, typed_exit_of, typed_outcome, typed_ends, typed_run, typed_host_entry}
 use Rattle.abstract_regs.specs.Frame.{PlainFrame, HoldsEach}
 use Rattle.abstract_regs.specs.Moves.{NamesBelow}
 use Rattle.abstract_regs.specs.Kind.{Num}
@@ -70,7 +72,7 @@ fit_past zero xs p i rec e = rec p e
 fit_past (suc n) xs zero i rec e = absurd (none-some i e)
 fit_past (suc n) xs (suc p) i rec e = fit_past n xs p i rec e
 
-fit_at : (is : List Insn) (p : ℕ) (i : Insn) → AllFit is → fetch (slots is) p ≡ Some i → Fits i
+pub fit_at : (is : List Insn) (p : ℕ) (i : Insn) → AllFit is → fetch (slots is) p ≡ Some i → Fits i
 fit_at [] p i fit e = absurd (none-some i e)
 fit_at (j ∷ is) zero i fit e = subst Fits (same_Some j i e) fit.0
 fit_at (j ∷ is) (suc p) i fit e = fit_past (slot_count j - 1) (slots is) p i (λ q. fit_at is q i fit.1) e
@@ -80,12 +82,12 @@ pub inner : {A : Type 0} (o : Option (Option A)) (x : A) → (o >>= λ c. c) ≡
 inner None x h = absurd (none-some x h)
 inner (Some o) x h = ap Some h
 
-few_known : (rules : RuleSet) → known_slots rules ≤ 64
+pub few_known : (rules : RuleSet) → known_slots rules ≤ 64
 few_known One = omega arith
 few_known Two = omega arith
 few_known Three = omega arith
 
-first_long : (rules : RuleSet) (caps : Caps) → length (entry rules caps).slots ≡ known_slots rules
+pub first_long : (rules : RuleSet) (caps : Caps) → length (entry rules caps).slots ≡ known_slots rules
 first_long rules caps = length-replicate (known_slots rules) (Num (constant 0))
 
 module _ (laws : Laws) (caps : Caps) (rules : RuleSet) (is : List Insn) (sound : AllSound rules caps (slots is)) (fit : AllFit is) (first : (n : ℕ) → NamesBelow n (entry rules caps)) (small : length (slots is) < 2 ^ 62) (clear : code_verdict rules caps (slots is) ≡ None) (before : PlainObject) where
@@ -188,8 +190,8 @@ none_named laws rules caps sizes =
     first.names
 
 -- what a method begins with, the entry frame is true of
-pub entry_is_held : Laws → (rules : RuleSet) (caps : Caps) → AreCapacities caps → (object : PlainObject) (caller : ℕ) (input : List ℕ) → IsObject object → caller < 2 ^ 32 → length input ≤ caps.in_cap → AreBytes input → Holds (known_slots rules) (entry rules caps) (typed_entry caps object caller input)
-entry_is_held laws rules caps sizes object caller input ob client le bytes =
+pub entry_is_held : Laws → (rules : RuleSet) (caps : Caps) → AreCapacities caps → (limits : Limits) → IsLimits limits → (object : PlainObject) (caller : ℕ) (input : List ℕ) → IsAnyObject object → caller < 2 ^ 32 → length input ≤ caps.in_cap → AreBytes input → Holds (known_slots rules) (entry rules caps) (typed_host_entry limits caps object caller input)
+entry_is_held laws rules caps sizes limits allowed object caller input ob client le bytes =
     let most = sizes.input in
     let first = laws.entry (precision_of rules) caps.in_cap STACK_SIZE (known_slots rules) (known_links rules) (length input) (omega (arith, most)) (omega arith) le in
     record {
@@ -197,7 +199,7 @@ entry_is_held laws rules caps sizes object caller input ob client le bytes =
       long = first_long rules caps;
       slots = subst (HoldsEach (entry rules caps).slots) (sym (zeros_known laws.slots (known_slots rules) (few_known rules))) first.slots;
       links = first.links _ _;
-      within = record { memory = begins_within laws.slots (known_slots rules) (typed_entry caps object caller input).memory input_is output_is refl; object = ob; client = client };
+      within = record { memory = begins_within laws.slots (known_slots rules) (typed_host_entry limits caps object caller input).memory input_is output_is refl; object = ob; client = client; limits = allowed };
     }
   where
     input_is : AreBytes (opening caps input).input

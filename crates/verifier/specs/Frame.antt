@@ -4,7 +4,8 @@ use Rattle.bpf_decode.specs.declared.region.Region.TheVariants.{Stack}
 use Rattle.bpf_decode.specs.declared.rule_set.RuleSet.{RuleSet}
 use Rattle.bpf_decode.specs.declared.rule_set.RuleSet.TheVariants.{One, Two, Three}
 use Rattle.bpf_machine.specs.declared.caps.Caps.{Caps}
-use Rattle.object_store.specs.Object.{AreBytes, IsObject}
+use Rattle.object_store.specs.Object.{AreBytes}
+use Rattle.object_store.specs.Limits.{IsLimits, IsAnyObject}
 use Rattle.bpf_machine.specs.State.{size}
 use Rattle.bpf_machine.specs.Typed.{Typed, TypedMemory}
 use Rattle.bpf_machine.specs.Slots.{slot_value, slot_values, IsStack, IsNumber}
@@ -44,12 +45,13 @@ pub record IsMemory (known : ℕ) (m : TypedMemory) : Type 0 where
   pub stack : IsStack 64 m.stack
   pub rest : (j : ℕ) → known ≤ j → j < 64 → IsNumber (slot_value m.stack j)
 
--- what holds of every state within the limits: its memory, an object within its limits, a client's
--- number
+-- what holds of every state: its memory, a well-formed object, a client's number, and limits that a
+-- host may give
 pub record IsWithin (known : ℕ) (s : Typed) : Type 0 where
   pub memory : IsMemory known s.memory
-  pub object : IsObject s.object
+  pub object : IsAnyObject s.object
   pub client : s.caller < 2 ^ 32
+  pub limits : IsLimits s.limits
 
 -- A state that a frame is true of. The frame speaks of the first slots, that many: of all of them,
 -- or of none. Its links are true of the registers and of the slots.

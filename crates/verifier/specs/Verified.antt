@@ -4,13 +4,16 @@ use Rattle.std.specs.Borrow.{Bor}
 use Rattle.std.specs.List.{AllByRecursion}
 use Rattle.std.specs.Str.{bytes_eq}
 use Rattle.bpf_decode.specs.Class.{ClassMethod, IsMethod, IsClass}
-use Rattle.bpf_machine.specs.Safe.{IsSafe, EndsAlways}
+use Rattle.bpf_machine.specs.Safe.{IsSafe, IsSafeWithin, EndsAlways, EndsWithin}
 
--- a method within the limits that is safe, since every run of its instructions ends
+-- a method within the limits that is safe, since every run of its instructions ends, also by any
+-- host's limits
 pub record IsVerified (m : ClassMethod) : Type 0 where
   pub method : IsMethod m
   pub ends : EndsAlways m
   pub safe : IsSafe m
+  pub ends_within : EndsWithin m
+  pub safe_within : IsSafeWithin m
 
 -- a class each of whose methods is safe
 pub record IsVerifiedClass (ms : List ClassMethod) : Type 0 where

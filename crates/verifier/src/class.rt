@@ -3,7 +3,7 @@
 ghost use Rattle.std.specs.Prelude.{◌≡◌, ◌⊎◌, ◌++◌, ◌∷◌, [], IfOk, IfErr, OnOk, Some, None};
 ghost use Rattle.bpf_decode.specs.Class.{IsMethod};
 ghost use Rattle.std.specs.List.{AllByRecursion};
-ghost use Rattle.bpf_machine.specs.Safe.{IsSafe};
+ghost use Rattle.bpf_machine.specs.Safe.{IsSafe, IsSafeWithin};
 ghost use Rattle.verifier.specs.Verdict.{class_verdict, method_verdict, out_of_memory, IsDeserved, IsFirst};
 
 use crate::method::verify_method;
@@ -20,6 +20,8 @@ pub fn verify(alloc: Global, image: &ClassImage) -> Result<VerifiedClass, Refusa
     ensures value { IfOk result (λ v. v ≡ image.now.methods) }
     // Accepted means safe: never stuck, in every layout of the regions.
     ensures safe { IfOk result (λ _. AllByRecursion IsSafe image.now.methods) }
+    // The same by any host's limits, on every well-formed object.
+    ensures within { IfOk result (λ _. AllByRecursion IsSafeWithin image.now.methods) }
     ensures accepted { IfOk result (λ _. class_verdict image.now ≡ None) }
     // The refusal is the verdict, and its rule refuses the instruction at its slot.
     ensures refused { IfErr result (λ r. (r ≡ out_of_memory) ⊎ (class_verdict image.now ≡ Some r)) }
@@ -43,6 +45,7 @@ fn push_verified(
     requires { IsMethod method.now }
     ensures pushed { OnOk result (methods.new.items ≡ methods.old.items ++ method.now ∷ []) }
     ensures safe { IfOk result (λ _. IsSafe method.now) }
+    ensures within { IfOk result (λ _. IsSafeWithin method.now) }
     ensures accepted { IfOk result (λ _. method_verdict rules method.now ≡ None) }
     ensures refused { IfErr result (λ r. (r ≡ out_of_memory) ⊎ IsFirst rules number method.now r) }
 {

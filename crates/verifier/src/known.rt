@@ -26,7 +26,7 @@ pub fn precision(rules: RuleSet) -> Precision
 }
 
 /// The number of stack slots that frames know.
-pub(crate) fn frame_slots(rules: RuleSet) -> usize
+pub fn frame_slots(rules: RuleSet) -> usize
     ensures { result ≡ known_slots rules }
 {
     match rules {
@@ -38,7 +38,7 @@ pub(crate) fn frame_slots(rules: RuleSet) -> usize
 }
 
 /// The number of places that frames may link: the registers and the stack's slots.
-pub(crate) fn linked_places(rules: RuleSet) -> usize
+pub fn linked_places(rules: RuleSet) -> usize
     ensures { result ≡ known_links rules }
 {
     match rules {
@@ -52,6 +52,7 @@ pub(crate) fn linked_places(rules: RuleSet) -> usize
 fn last_helper(rules: RuleSet) -> u32
     ensures { result ≡ last_helper rules }
 {
+    // What a rule set has stays: `LAST_HELPER` grows with a helper, and the newest set alone may too.
     match rules {
         RuleSet::One | RuleSet::Two => 15,
         RuleSet::Three => 18,

@@ -7,7 +7,7 @@
 #![tactic(auto)]
 
 mod access_rules;
-mod answer;
+mod answers;
 mod class;
 mod facets;
 mod fault;
@@ -23,14 +23,19 @@ mod rule;
 mod rules;
 mod verified;
 
+pub use answers::answer;
 pub use class::verify;
 pub use facets::{
     Access, Callee, Goes, Reads, Touches, Uses, callee_of, goes_of, reads_of, touches_of, uses_of,
     writes_of,
 };
-pub use known::precision;
+pub use fault::room;
+pub use kept::PendingFrames;
+pub use known::{frame_slots, linked_places, precision};
 pub use laws::{first_rule_set, one_table};
+pub use method::{slots_of, verify_method};
 pub use refusal::Refusal;
 pub use refused::{RefusedSlot, refused_slot};
 pub use rule::Rule;
+pub use rules::{begins_at, falls_off, frame_rule, is_backward, is_local_call, misses, writes_r10};
 pub use verified::{VerifiedClass, VerifiedMethod};

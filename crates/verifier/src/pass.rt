@@ -8,7 +8,7 @@ ghost use Rattle.verifier.specs.inner.Kept.{unbox};
 ghost use Rattle.abstract_regs.specs.Edged.{heard, refined};
 ghost use Rattle.verifier.specs.inner.Pass.{IsSpaced, awaited, merged_if, HasLeft, IsSound, AllSound};
 
-use crate::answer::answer;
+use crate::answers::answer;
 use crate::fault::room;
 use crate::kept::PendingFrames;
 use crate::known::{frame_slots, linked_places, precision};

@@ -65,7 +65,7 @@ fn shape_rule(code: &[Option<Insn>], slot: usize, insn: &Insn) -> Option<Rule>
 }
 
 /// The lowest of rules 5 to 15 and 17 that refuses the instruction under a frame.
-fn frame_rule(rules: RuleSet, caps: &Caps, frame: &Frame, insn: &Insn) -> Option<Rule>
+pub fn frame_rule(rules: RuleSet, caps: &Caps, frame: &Frame, insn: &Insn) -> Option<Rule>
     ensures { result ≡ frame_rule rules caps.now frame.now insn.now }
 {
     // In the order of the rules' numbers: the lowest rule is the refusal.
@@ -100,7 +100,7 @@ fn frame_rule(rules: RuleSet, caps: &Caps, frame: &Frame, insn: &Insn) -> Option
 
 /// True if an instruction begins at the slot.
 #[inline(always)]
-fn begins_at(code: &[Option<Insn>], slot: usize) -> bool
+pub fn begins_at(code: &[Option<Insn>], slot: usize) -> bool
     ensures { result ≡ begins_at code.now slot }
 {
     match code.get(slot) {
@@ -109,8 +109,9 @@ fn begins_at(code: &[Option<Insn>], slot: usize) -> bool
     }
 }
 
+/// True if it jumps to itself or to an instruction before it.
 #[inline(always)]
-fn is_backward(insn: &Insn) -> bool
+pub fn is_backward(insn: &Insn) -> bool
     ensures { result ≡ is_backward insn.now }
 {
     match goes_of(insn) {
@@ -120,8 +121,9 @@ fn is_backward(insn: &Insn) -> bool
     }
 }
 
+/// True if it jumps past the last slot, or into a wide load's second half.
 #[inline(always)]
-fn misses(code: &[Option<Insn>], slot: usize, insn: &Insn) -> bool
+pub fn misses(code: &[Option<Insn>], slot: usize, insn: &Insn) -> bool
     requires { slot < 2 ^ 62 }
     ensures { result ≡ misses code.now slot insn.now }
 {
@@ -132,8 +134,9 @@ fn misses(code: &[Option<Insn>], slot: usize, insn: &Insn) -> bool
     }
 }
 
+/// True if it may go on to the slot after it, at which nothing begins.
 #[inline(always)]
-fn falls_off(code: &[Option<Insn>], slot: usize, insn: &Insn) -> bool
+pub fn falls_off(code: &[Option<Insn>], slot: usize, insn: &Insn) -> bool
     requires { slot < 2 ^ 62 }
     ensures { result ≡ falls_off code.now slot insn.now }
 {
@@ -143,8 +146,9 @@ fn falls_off(code: &[Option<Insn>], slot: usize, insn: &Insn) -> bool
     }
 }
 
+/// True if it calls a function of the method's own code.
 #[inline(always)]
-fn is_local_call(insn: &Insn) -> bool
+pub fn is_local_call(insn: &Insn) -> bool
     ensures { result ≡ is_local_call insn.now }
 {
     match callee_of(insn) {
@@ -198,7 +202,7 @@ fn is_operand_unset(frame: &Frame, operand: Operand) -> bool
 
 /// True if register 10 is its destination.
 #[inline(always)]
-fn writes_r10(insn: &Insn) -> bool
+pub fn writes_r10(insn: &Insn) -> bool
     ensures { result ≡ writes_r10 insn.now }
 {
     match writes_of(insn) {

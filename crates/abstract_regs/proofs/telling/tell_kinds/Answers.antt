@@ -14,9 +14,9 @@ use Rattle.abstract_regs.proofs.telling.tell_kinds.Goals.{then-is_named+in-Some,
 
 pub returns-in-None : goal.returns-in-None
 returns-in-None c =
-    let z = view c.args.z in
-    let l = c.args.l in
-    let from = c.args.from in
+    let z = view c.args.from.number in
+    let l = c.args.from.link in
+    let from = c.args.from.place in
     let ls = c.args.links.now in
     let i = c.loop-i.i in
     let at = c.args.first + i in
@@ -32,9 +32,9 @@ returns-in-None c =
 
 pub loop-i-preserved : goal.loop-i-preserved
 loop-i-preserved c =
-    let z = view c.args.z in
-    let l = c.args.l in
-    let from = c.args.from in
+    let z = view c.args.from.number in
+    let l = c.args.from.link in
+    let from = c.args.from.place in
     let ls = c.args.links.now in
     let i = c.loop-i.i in
     let at = c.args.first + i in
@@ -68,4 +68,4 @@ returns c =
     let xs = c.loop-i.kinds in
     let lx = c.loop-i.invariant.long in
     let past : length xs ≤ c.loop-i.i = omega (arith, lx) in
-    told_all c.args.precision (view c.args.z) c.args.l c.args.from c.args.links.now (seen_each c.args.kinds.now) c.args.first c.loop-i.i xs past c.loop-i.invariant.told
+    told_all c.args.precision (view c.args.from.number) c.args.from.link c.args.from.place c.args.links.now (seen_each c.args.kinds.now) c.args.first c.loop-i.i xs past c.loop-i.invariant.told

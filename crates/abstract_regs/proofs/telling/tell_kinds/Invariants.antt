@@ -10,6 +10,6 @@ abbrev pub invariant-loop-i : goal.invariant-loop-i
 invariant-loop-i l = record {
   long : length l.kinds ≡ length l.initial.kinds;
   told :
-      told_kinds l.fn.precision (view l.fn.z) l.fn.l l.fn.from l.fn.links l.fn.first (seen_each l.initial.kinds)
-      ≡ option_map (λ (ys : List PlainKind). seen_each (take l.i l.kinds) ++ ys) (told_kinds l.fn.precision (view l.fn.z) l.fn.l l.fn.from l.fn.links (l.fn.first + l.i) (seen_each (drop l.i l.kinds)));
+      told_kinds l.fn.precision (view l.fn.from.number) l.fn.from.link l.fn.from.place l.fn.links l.fn.first (seen_each l.initial.kinds)
+      ≡ option_map (λ (ys : List PlainKind). seen_each (take l.i l.kinds) ++ ys) (told_kinds l.fn.precision (view l.fn.from.number) l.fn.from.link l.fn.from.place l.fn.links (l.fn.first + l.i) (seen_each (drop l.i l.kinds)));
 }

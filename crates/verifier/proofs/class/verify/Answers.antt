@@ -5,7 +5,7 @@ use Rattle.std.proofs.lemmas.List.{drop_all, take_all}
 use Rattle.std.specs.List.{AllByRecursion}
 use Rattle.bpf_decode.specs.Class.{ClassMethod, Class, IsClass, IsMethod}
 use Rattle.bpf_decode.specs.declared.rule_set.RuleSet.{RuleSet}
-use Rattle.bpf_machine.specs.Safe.{IsSafe}
+use Rattle.bpf_machine.specs.Safe.{IsSafe, IsSafeWithin}
 use Rattle.verifier.specs.declared.refusal.Refusal.{Refusal}
 use Rattle.verifier.specs.Verdict.{verdict_from, class_verdict, method_verdict, or_later, out_of_memory, IsFirst, IsDeserved}
 use Rattle.verifier.proofs.Verdicts.{deserved}
@@ -54,6 +54,11 @@ returns-clause-safe c =
     let past : length c.args.image.now.methods ≤ c.loop-number.number = omega (arith, ap length c.methods-method-items.ensures.methods) in
     subst (AllByRecursion IsSafe) (take_all c.loop-number.number c.args.image.now.methods past) c.loop-number.invariant.safe
 
+pub returns-clause-within : goal.returns-clause-within
+returns-clause-within c =
+    let past : length c.args.image.now.methods ≤ c.loop-number.number = omega (arith, ap length c.methods-method-items.ensures.methods) in
+    subst (AllByRecursion IsSafeWithin) (take_all c.loop-number.number c.args.image.now.methods past) c.loop-number.invariant.within
+
 pub returns-clause-value : goal.returns-clause-value
 returns-clause-value c =
     let past : length c.args.image.now.methods ≤ c.loop-number.number = omega (arith, ap length c.methods-method-items.ensures.methods) in
@@ -95,6 +100,7 @@ loop-number-preserved c =
     let rest = verdict_from c.args.image.now.rules (number + 1) (drop (number + 1) image) in
     record {
       safe = all_more IsSafe image number m at c.loop-number.invariant.safe c.in_ok-push_verified.ensures.safe;
+      within = all_more IsSafeWithin image number m at c.loop-number.invariant.within c.in_ok-push_verified.ensures.within;
       sofar =
           c.in_ok-push_verified.ensures.pushed
           ∙ ap (λ ms. ms ++ m ∷ []) c.loop-number.invariant.sofar

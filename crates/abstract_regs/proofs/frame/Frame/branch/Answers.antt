@@ -1,4 +1,4 @@
-use Rattle.std.proofs.Common.{rules, ◌≡◌, ◌++◌, true, false, ap, ◌∙◌, sym}
+use Rattle.std.proofs.Common.{rules, ◌≡◌, ◌++◌, true, false, ap, ◌∙◌}
 use mathlib.Core.Path.{ap₂}
 use Rattle.bpf_decode.specs.declared.insn.Operand.{Operand}
 use Rattle.bpf_decode.specs.declared.insn.Operand.TheVariants.{Immediate}
@@ -15,17 +15,17 @@ unfolding Rattle.abstract_regs.specs.Links.told
 returns-in-Num-Immediate c = λ next.
     let f = c.args.self.now in
     let d = c.args.dst in
-    let t = c.args.target in
+    let t = c.args.branch.target in
     let imm = c.in-Num-Immediate.imm in
     let x = view c.in-Num-Immediate.x in
     let y = view c.constant-y.result in
     let k : kind_at f d ≡ Num x = search rules in
-    let l : compared_kind c.args.bits f (Immediate imm) ≡ Num y = search rules in
-    let edges : Operand → _ = λ o. edge_to t (along_edge c.args.precision c.args.bits c.args.comparison true d o f) ++ edge_to next (along_edge c.args.precision c.args.bits c.args.comparison false d o f) in
+    let l : compared_kind c.args.branch.bits f (Immediate imm) ≡ Num y = search rules in
+    let edges : Operand → _ = λ o. edge_to t (along_edge c.args.branch.precision c.args.branch.bits c.args.branch.comparison true d o f) ++ edge_to next (along_edge c.args.branch.precision c.args.branch.bits c.args.branch.comparison false d o f) in
     ap edges c.in-Num-Immediate.is-1
     ∙ ap₂ (λ a b. edge_to t a ++ edge_to next b)
-    (first_edge c.args.precision c.args.bits c.args.comparison true d imm f x y c.first_along-taken.result k l c.first_along-taken.ensures)
-    (first_edge c.args.precision c.args.bits c.args.comparison false d imm f x y c.first_along-fallen.result k l c.first_along-fallen.ensures)
+    (first_edge c.args.branch.precision c.args.branch.bits c.args.branch.comparison true d imm f x y c.first_along-taken.result k l c.first_along-taken.ensures)
+    (first_edge c.args.branch.precision c.args.branch.bits c.args.branch.comparison false d imm f x y c.first_along-fallen.result k l c.first_along-fallen.ensures)
     ∙ c.fork_first.ensures next
 
 -- turned by refinement_on_the_wrong_edge

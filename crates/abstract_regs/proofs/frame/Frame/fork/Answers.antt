@@ -15,27 +15,27 @@ returns-then-is_told c = λ next.
     let f = c.args.self.now in
     let d = c.args.dst in
     let x = c.args.source.now in
-    let t = c.args.target in
-    let a = seen_both c.in-Some.kinds in
-    let b = seen_both c.in-Some-fallen-2.others in
-    ap (λ (o : Option Kinds). edge_to t (option_and_then (told c.args.precision d x) (option_map (with_both f d x) (option_map seen_both o))) ++ edge_to next (option_and_then (told c.args.precision d x) (option_map (with_both f d x) (option_map seen_both c.args.fallen)))) c.in-Some.is
-    ∙ ap (λ (o : Option Kinds). edge_to t (told c.args.precision d x (with_both f d x a)) ++ edge_to next (option_and_then (told c.args.precision d x) (option_map (with_both f d x) (option_map seen_both o)))) c.in-Some-fallen-2.is
-    ∙ ap (λ (h : PlainFrame). edge_to t (told c.args.precision d x (with_both f d x a)) ++ edge_to next (told c.args.precision d x h)) (sym (both_again f d x a b))
-    ∙ ap (λ (h : PlainFrame). edge_to t (told c.args.precision d x h) ++ edge_to next (told c.args.precision d x (with_both h d x b))) (sym c.put_both-in-Some-fallen-2.ensures)
+    let t = c.args.branch.target in
+    let a = seen_both c.in-Some-Some.kinds in
+    let b = seen_both c.in-Some-Some.others in
+    ap (λ (o : Option Kinds). edge_to t (option_and_then (told c.args.branch.precision d x) (option_map (with_both f d x) (option_map seen_both o))) ++ edge_to next (option_and_then (told c.args.branch.precision d x) (option_map (with_both f d x) (option_map seen_both c.args.left.1)))) c.in-Some-Some.is-0
+    ∙ ap (λ (o : Option Kinds). edge_to t (told c.args.branch.precision d x (with_both f d x a)) ++ edge_to next (option_and_then (told c.args.branch.precision d x) (option_map (with_both f d x) (option_map seen_both o)))) c.in-Some-Some.is-1
+    ∙ ap (λ (h : PlainFrame). edge_to t (told c.args.branch.precision d x (with_both f d x a)) ++ edge_to next (told c.args.branch.precision d x h)) (sym (both_again f d x a b))
+    ∙ ap (λ (h : PlainFrame). edge_to t (told c.args.branch.precision d x h) ++ edge_to next (told c.args.branch.precision d x (with_both h d x b))) (sym c.put_both-in-Some-Some.ensures)
 
 pub returns-else-is_told : goal.returns-else-is_told
 returns-else-is_told c = λ next.
     let f = c.args.self.now in
     let d = c.args.dst in
     let x = c.args.source.now in
-    let t = c.args.target in
-    let a = seen_both c.in-Some.kinds in
-    let b = seen_both c.in-Some-fallen-2.others in
+    let t = c.args.branch.target in
+    let a = seen_both c.in-Some-Some.kinds in
+    let b = seen_both c.in-Some-Some.others in
     let pair : ℕ → PlainFrame → ℕ × PlainFrame = λ q g. (q, g) in
-    let free : is_told f d x ≡ false = sym (ap (λ g. is_told g d x) c.put_both-in-Some-fallen-2.ensures ∙ is_told_both f d x a) ∙ sym c.is_told.ensures ∙ c.if-is_told.false in
-    ap (λ (o : Option Kinds). edge_to t (option_and_then (told c.args.precision d x) (option_map (with_both f d x) (option_map seen_both o))) ++ edge_to next (option_and_then (told c.args.precision d x) (option_map (with_both f d x) (option_map seen_both c.args.fallen)))) c.in-Some.is
-    ∙ ap (λ (o : Option Kinds). edge_to t (told c.args.precision d x (with_both f d x a)) ++ edge_to next (option_and_then (told c.args.precision d x) (option_map (with_both f d x) (option_map seen_both o)))) c.in-Some-fallen-2.is
-    ∙ ap (λ (o : Option PlainFrame). edge_to t o ++ edge_to next (told c.args.precision d x (with_both f d x b))) (untold c.args.precision (with_both f d x a) d x (is_told_both f d x a ∙ free))
-    ∙ ap (λ (o : Option PlainFrame). pair t (with_both f d x a) ∷ edge_to next o) (untold c.args.precision (with_both f d x b) d x (is_told_both f d x b ∙ free))
+    let free : is_told f d x ≡ false = sym (ap (λ g. is_told g d x) c.put_both-in-Some-Some.ensures ∙ is_told_both f d x a) ∙ sym c.is_told.ensures ∙ c.if-is_told.false in
+    ap (λ (o : Option Kinds). edge_to t (option_and_then (told c.args.branch.precision d x) (option_map (with_both f d x) (option_map seen_both o))) ++ edge_to next (option_and_then (told c.args.branch.precision d x) (option_map (with_both f d x) (option_map seen_both c.args.left.1)))) c.in-Some-Some.is-0
+    ∙ ap (λ (o : Option Kinds). edge_to t (told c.args.branch.precision d x (with_both f d x a)) ++ edge_to next (option_and_then (told c.args.branch.precision d x) (option_map (with_both f d x) (option_map seen_both o)))) c.in-Some-Some.is-1
+    ∙ ap (λ (o : Option PlainFrame). edge_to t o ++ edge_to next (told c.args.branch.precision d x (with_both f d x b))) (untold c.args.branch.precision (with_both f d x a) d x (is_told_both f d x a ∙ free))
+    ∙ ap (λ (o : Option PlainFrame). pair t (with_both f d x a) ∷ edge_to next o) (untold c.args.branch.precision (with_both f d x b) d x (is_told_both f d x b ∙ free))
     ∙ ap (λ (h : PlainFrame). pair t (with_both f d x a) ∷ pair next h ∷ []) (sym (both_again f d x a b))
-    ∙ ap (λ (h : PlainFrame). pair t h ∷ pair next (with_both h d x b) ∷ []) (sym c.put_both-in-Some-fallen-2.ensures)
+    ∙ ap (λ (h : PlainFrame). pair t h ∷ pair next (with_both h d x b) ∷ []) (sym c.put_both-in-Some-Some.ensures)

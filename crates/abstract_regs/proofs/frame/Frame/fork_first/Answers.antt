@@ -16,13 +16,13 @@ pub returns-then-is_told : goal.returns-then-is_told
 unfolding told
 returns-then-is_told c = λ next.
     let f = c.args.self.now in
-    let p = c.args.precision in
+    let p = c.args.branch.precision in
     let d = c.args.dst in
     let x : Operand = Immediate c.args.imm in
-    let t = c.args.target in
+    let t = c.args.branch.target in
     let a : PlainKind × PlainKind = (Num (view c.in-Some-Some.number), Unset) in
     let b : PlainKind × PlainKind = (Num (view c.in-Some-Some.other), Unset) in
-    ap (λ (o : Option Number). edge_to t (option_and_then (told p d x) (option_map (with_kind f d) (option_map Num (option_map view o)))) ++ edge_to next (option_and_then (told p d x) (option_map (with_kind f d) (option_map Num (option_map view c.args.fallen))))) c.in-Some-Some.is-0
+    ap (λ (o : Option Number). edge_to t (option_and_then (told p d x) (option_map (with_kind f d) (option_map Num (option_map view o)))) ++ edge_to next (option_and_then (told p d x) (option_map (with_kind f d) (option_map Num (option_map view c.args.left.1))))) c.in-Some-Some.is-0
     ∙ ap (λ (o : Option Number). edge_to t (told p d x (with_both f d x a)) ++ edge_to next (option_and_then (told p d x) (option_map (with_kind f d) (option_map Num (option_map view o))))) c.in-Some-Some.is-1
     ∙ ap (λ (h : PlainFrame). edge_to t (told p d x (with_both f d x a)) ++ edge_to next (told p d x h)) (sym (both_again f d x a b))
     ∙ ap (λ (h : PlainFrame). edge_to t (told p d x h) ++ edge_to next (told p d x (with_both h d x b))) (sym c.set-in-Some-Some.ensures)
@@ -30,15 +30,15 @@ returns-then-is_told c = λ next.
 pub returns-else-is_told : goal.returns-else-is_told
 returns-else-is_told c = λ next.
     let f = c.args.self.now in
-    let p = c.args.precision in
+    let p = c.args.branch.precision in
     let d = c.args.dst in
     let x : Operand = Immediate c.args.imm in
-    let t = c.args.target in
+    let t = c.args.branch.target in
     let a : PlainKind × PlainKind = (Num (view c.in-Some-Some.number), Unset) in
     let b : PlainKind × PlainKind = (Num (view c.in-Some-Some.other), Unset) in
     let pair : ℕ → PlainFrame → ℕ × PlainFrame = λ q g. (q, g) in
     let free : is_told f d x ≡ false = sym (ap (λ g. is_told g d x) c.set-in-Some-Some.ensures ∙ is_told_both f d x a) ∙ sym c.is_told.ensures ∙ c.if-is_told.false in
-    ap (λ (o : Option Number). edge_to t (option_and_then (told p d x) (option_map (with_kind f d) (option_map Num (option_map view o)))) ++ edge_to next (option_and_then (told p d x) (option_map (with_kind f d) (option_map Num (option_map view c.args.fallen))))) c.in-Some-Some.is-0
+    ap (λ (o : Option Number). edge_to t (option_and_then (told p d x) (option_map (with_kind f d) (option_map Num (option_map view o)))) ++ edge_to next (option_and_then (told p d x) (option_map (with_kind f d) (option_map Num (option_map view c.args.left.1))))) c.in-Some-Some.is-0
     ∙ ap (λ (o : Option Number). edge_to t (told p d x (with_both f d x a)) ++ edge_to next (option_and_then (told p d x) (option_map (with_kind f d) (option_map Num (option_map view o))))) c.in-Some-Some.is-1
     ∙ ap (λ (o : Option PlainFrame). edge_to t o ++ edge_to next (told p d x (with_both f d x b))) (untold p (with_both f d x a) d x (is_told_both f d x a ∙ free))
     ∙ ap (λ (o : Option PlainFrame). pair t (with_both f d x a) ∷ edge_to next o) (untold p (with_both f d x b) d x (is_told_both f d x b ∙ free))
