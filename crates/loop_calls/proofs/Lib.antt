@@ -1,0 +1,4 @@
+mod LoopRuns
+mod Halves
+mod LoopAnswered
+mod LoopMore

@@ -1,0 +1,2 @@
+-- What the code keeps, in private contracts.
+pub mod LoopRun

@@ -1,0 +1,5 @@
+mod Registers
+mod Order
+mod Ranges
+mod Heads
+mod Pairs

@@ -1,0 +1,5 @@
+pub mod Pairs
+pub mod Weights
+pub mod Walks
+pub mod Safe
+pub mod One

@@ -1,0 +1,6 @@
+pub mod Spelled
+pub mod Entire
+pub mod Leads
+pub mod Needless
+pub mod Outcomes
+pub mod Methods

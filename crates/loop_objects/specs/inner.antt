@@ -1,0 +1,3 @@
+-- The code's own: what private contracts say.
+pub mod Whole
+pub mod Making

@@ -1,0 +1,10 @@
+pub mod Tables
+pub mod Verdicts
+pub mod Shapes
+pub mod Pairs
+pub mod Registers
+pub mod Frames
+pub mod Backs
+pub mod Flows
+pub mod Steps
+pub mod Runs

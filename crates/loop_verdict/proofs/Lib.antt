@@ -1,0 +1,3 @@
+pub mod Lookups
+pub mod Sends
+pub mod Visits
