@@ -1,0 +1,5 @@
+use Rattle.std.proofs.Common.{◌≤◌}
+use Rattle.loop_finder.proofs.thresholds.Thresholds.above.Given as goal
+
+abbrev pub invariant-loop-threshold : goal.invariant-loop-threshold
+invariant-loop-threshold l = l.number ≤ l.least
