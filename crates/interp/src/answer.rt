@@ -70,7 +70,7 @@ pub fn answer(
 }
 
 /// A copy of that many bytes from a place on. The usual output is empty, and costs no copy.
-fn cut(alloc: Global, memory: &[u8], start: usize, len: usize) -> Result<Vec<u8>, AllocError>
+pub fn cut(alloc: Global, memory: &[u8], start: usize, len: usize) -> Result<Vec<u8>, AllocError>
     requires { start + len ≤ length memory.now }
     ensures { IfOk result (λ v. v.items ≡ part memory.now start len) }
 {

@@ -1,6 +1,7 @@
-//! Calls of verified methods: `call` gives the machine's outcome and the change of the object,
-//! `call_listed` also the edits that the method's helpers left, a `Room` does so for one call after
-//! the other, and the table of loaded classes.
+//! Calls of verified methods: `call` gives the machine's outcome and the change of the object, a
+//! `Room` does so for one call after the other, and its `call_listed` gives the edits that the method's
+//! helpers left too; and the table of loaded classes. `turn` does one instruction for a runner of
+//! another kind.
 #![tactic(auto)]
 
 mod act;
@@ -17,10 +18,13 @@ mod room;
 mod run;
 mod step;
 
+pub use answer::cut;
 pub use bpf_machine::{Region, Value};
-pub use calls::{CallError, call, call_listed, call_method};
+pub use calls::{CallError, call, call_method};
 pub use class_table::{ClassTable, TableError};
 pub use limits::CLASS_LIMIT;
 pub use outcome::{Listed, Outcome};
-pub use room::Room;
+pub use registers::Registers;
+pub use room::{Room, are_bytes, lay_out};
+pub use step::{After, Next, turn};
 pub use verifier::{VerifiedClass, VerifiedMethod};

@@ -1,0 +1,6 @@
+mod Counting
+mod Strings
+mod NameKinds
+mod Along
+mod Rounds
+mod OfBytes
