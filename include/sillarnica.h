@@ -27,6 +27,28 @@
  *     text  = u16:n byte*n
  *
  * `sillarnica_edits.h` has the loop over them.
+ *
+ * A part is what a host knows of an object, which may be larger than a flat form. A block is 4096 bytes of the data, the last
+ * one those up to its end. An interval is the names from lo to below hi, by their bytes; hi of length 0 is the end of all. One
+ * name N is from N to N with a zero byte, what comes after N begins there, and all names are from the name of length 0 to the
+ * end. In an interval each name is absent that has no entry; of other names, and of bytes of other blocks, nothing is known.
+ *
+ *     part  = 0                                       absent
+ *             | 1 u64:size u32:n block*n names names  size < 2^63, n <= 1024; first the xattrs, then the keys of the omap
+ *     block = u64:b byte*                             their b strictly rise, 4096 b < size; 4096 bytes, or up to the size
+ *     names = u16:i interval*i u16:e entry*e          i <= 1025; e <= 32 xattrs, e <= 1024 keys
+ *     interval = text:lo text:hi                      at most 65 bytes each; lo < hi < lo of the next
+ *     entry = text:name text                          1 to 64 bytes, in an interval, rising; a value of at most 4096 bytes
+ *
+ * A need is what a call has to know of the object beyond the part, in at most 68 bytes:
+ *
+ *     need  = 1 u64:b u8:n          n blocks from b on, n >= 1
+ *           | 2 text:name           an xattr             | 3 text:key      a key
+ *           | 4 text:place          the least key from there on, or that there is none
+ *           | 5 text:place          the least xattr from there on, or that there is none
+ *
+ * It is fetched by a part that has what that says: the blocks; an interval with the name; one from the place to past the least
+ * name, or to the end.
  */
 #ifndef SILLARNICA_H
 #define SILLARNICA_H
@@ -50,10 +72,13 @@ enum {
 	SILLARNICA_VERDICT = 2,          /* a rule refuses the class; the refusal says which and where */
 	SILLARNICA_NO_METHOD = -95,      /* the class has no method of that name */
 	SILLARNICA_INPUT_TOO_LONG = -7,  /* the input is longer than the method takes */
-	SILLARNICA_MALFORMED = -22,      /* the bytes are no object's flat form, or the client's number is 2^32 or more */
+	SILLARNICA_MALFORMED = -22,      /* the bytes are no object's flat form or no part, the limits are none, or the client's
+	                                  * number is 2^32 or more */
 	SILLARNICA_NO_MEMORY = -12,      /* memory was refused; the call may be made again */
 	SILLARNICA_NO_ROOM = -34,        /* the buffer is too small; the answer says what is needed */
-	SILLARNICA_CLOSED = -9           /* the handle is closed */
+	SILLARNICA_CLOSED = -9,          /* the handle is closed */
+	SILLARNICA_WANTS = -11,          /* more of the object is to be known; the want says what */
+	SILLARNICA_FULL = -28            /* one name more would be set than a call on a part can keep */
 };
 
 /* An answer in words. */
@@ -65,16 +90,18 @@ static inline const char *sillarnica_error(int32_t answer)
 	case SILLARNICA_VERDICT: return "a rule refuses the class";
 	case SILLARNICA_NO_METHOD: return "the class has no such method";
 	case SILLARNICA_INPUT_TOO_LONG: return "the input is longer than the method takes";
-	case SILLARNICA_MALFORMED: return "the bytes are no object, or the client has no number of 32 bits";
+	case SILLARNICA_MALFORMED: return "the bytes are no object or part, or a number is out of range";
 	case SILLARNICA_NO_MEMORY: return "memory was refused";
 	case SILLARNICA_NO_ROOM: return "the buffer is too small";
 	case SILLARNICA_CLOSED: return "the handle is closed";
+	case SILLARNICA_WANTS: return "more of the object is to be known";
+	case SILLARNICA_FULL: return "the call sets too many names";
 	default: return "no answer of this library";
 	}
 }
 
 /*
- * Why a class is refused. kind 1: the image, after `method` methods that were read whole, by the refusal `number` (1 to 11);
+ * Why a class is refused. kind 1: the image, after `method` methods that were read whole, by the refusal `number` (1 to 11, or 13);
  * slot is -1 where it names none. kind 2: the rule `number` (1 to 17) at that method and slot, both from 0 on.
  */
 struct sillarnica_refusal {
@@ -94,6 +121,25 @@ struct sillarnica_answer {
 struct sillarnica_declared {
 	uint32_t flags, in_cap, out_cap, needs;
 	uint64_t name_len;
+};
+
+/* As many xattrs, or keys, as there may be. */
+#define SILLARNICA_ANY_NUMBER UINT32_MAX
+
+/*
+ * What an object may hold: bytes of data (below 2^63), xattrs and keys (SILLARNICA_ANY_NUMBER: no limit), and bytes of their
+ * names (1 to 64). A flat form's limits are {65536, 32, 1024, 64, 64}. Where a number is given, a part has to say all of those
+ * names: one interval from the name of length 0 to the end.
+ */
+struct sillarnica_limits {
+	uint64_t bytes;
+	uint32_t xattrs, keys, xattr_name, key_name;
+};
+
+/* The need of a call, and how many bytes it has: 4 to 68. */
+struct sillarnica_want {
+	uint32_t length;
+	uint8_t bytes[68];
 };
 
 /*
@@ -174,6 +220,26 @@ int32_t sillarnica_verified_open(const uint8_t *image, size_t image_len, struct 
 int32_t sillarnica_verified_call(struct sillarnica_verified *verified, const uint8_t *method, size_t method_len,
 	const uint8_t *object, size_t object_len, uint64_t caller, const uint8_t *input, size_t input_len,
 	struct sillarnica_answer *answer, uint8_t *out, size_t out_len);
+
+/*
+ * Calls a method of the class that is held on a part of an object, by the host's limits. Answer and edits are those of the
+ * method on every object that agrees with the part: that is absent or has the size as the part says, and its blocks, names and
+ * values, and has anything where it says nothing. Nothing of the object is changed: the host makes the edits at 0.
+ *
+ * 0, -34: as of sillarnica_call. By other limits than a flat form's an edit may pass that form's.
+ * -95, -7, -12, -9: as of sillarnica_verified_call.
+ * -22: caller is 2^32 or more, the limits aren't such, or part spells none that says all names of which they have a number.
+ * -11: the run came to a call of a helper that what is known can't answer: *want is the need, the rest of it as it was. Call
+ *    again with a part of the same object that has the one before and what is needed too. If each next part has, that comes at
+ *    most as often as the run calls helpers and removes names.
+ * -28: the run came to a set of a 33rd xattr or a 1025th key, of those that the part has or it set. No more of the object helps.
+ * Of several refusals it is the first in the order -9, -95, -7, -22, then -11 or -28, -34; -12 may come in place of any answer
+ * but -9. *answer is written at 0 and -34 alone, *want at -11 alone, out at 0 alone.
+ */
+int32_t sillarnica_verified_call_part(struct sillarnica_verified *verified, const uint8_t *method, size_t method_len,
+	const uint8_t *part, size_t part_len, uint64_t caller, const struct sillarnica_limits *limits,
+	const uint8_t *input, size_t input_len, struct sillarnica_answer *answer, struct sillarnica_want *want,
+	uint8_t *out, size_t out_len);
 
 /*
  * Opens *copy on the class that *verified holds, which both share, for another thread, say. 0; or -9 (*verified is closed) or

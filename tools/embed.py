@@ -1,7 +1,8 @@
 """Random calls for tools/embed.sh, and their answers beside those of `radoscls run`.
 
     embed.py make N SEED FILE IMAGE ..       writes N calls for tools/embed.c, some of them of hostile images and flat forms
-    embed.py seeds N SEED FOLDER IMAGE ..    writes N such calls and one of each image's methods, each as a file for tools/fuzz.c
+    embed.py seeds N SEED FOLDER IMAGE ..    writes N such calls, one of each image's methods, and of the first image's one on a
+                                             part of an object, each as a file for tools/fuzz.c
     embed.py judge FILE PRINTED RADOSCLS     compares what tools/embed.c printed of them with the program's lines
     embed.py python FILE PRINTED LIBRARY     compares it with what examples/embed/host.py gets of a shared object"""
 import os, random, struct, subprocess, sys, tempfile
@@ -97,6 +98,9 @@ def seeds(count, seed, folder, *images):
     images = [open(image, "rb").read() for image in images]
     calls = list(random_calls(count, r, images))
     calls += [written([image, name, host.flatten(random_object(r)), bytes(4), b"\1a"]) for image in images for name in methods_of(image)]
+    # of 5,000 bytes and nothing else that is known
+    part = b"\1" + struct.pack("<QI", 5000, 0) + bytes(8)
+    calls += [written([images[0], name, part, bytes(4), struct.pack("<II", 4090, 9)]) for name in methods_of(images[0])]
     for n, call in enumerate(calls):
         with open(os.path.join(folder, f"{n:04}"), "wb") as file:
             file.write(call)

@@ -8,6 +8,8 @@
 #
 # - cc and c++ build examples/embed/host.c, and it prints what the page says, and of the built-in class `lock` what two callers
 #   get; so does examples/embed/host.py by a shared object;
+# - examples/embed/large.c, where SQLite is installed, prints what calls on parts of an object give, and how many each took;
+# - random methods on objects of any size, by rounds, need and answer what a model in Python says (tools/embed_parts.py);
 # - random calls, some of hostile images and flat forms, give the program's code, output, steps and refusals, and their edits
 #   make of the object before the program's object after;
 # - each is made by a handle too, with too little room, on the parts that its method needs alone, and with memory refused at each
@@ -75,7 +77,38 @@ clean=(-fsanitize=address,undefined -fno-sanitize-recover=all -g)
 cc -std=c99 "${flags[@]}" "$here/host.c" "$archive" -o "$work/host" && plays "host by cc" "$work/host" || step "host by cc" 1
 c++ -x c++ "${flags[@]}" "$here/host.c" -x none "$archive" -o "$work/host" && plays "host by c++" "$work/host" || step "host by c++" 1
 cc "${flags[@]}" "${clean[@]}" "$here/host.c" "$archive" -o "$work/host" && plays "host under sanitizers" "$work/host" || step "host under sanitizers" 1
+
+# The host of objects of any size: its lines, with the number of calls that each took.
+plays_large() {
+    rm -f "$work/objects"
+    "$work/large" "$work/objects" "$here/parts.img" b create 00 b write ff0f000068656c6c6f b read fd0f000008000000 b put 016b76 b next - b put 016c77 \
+        b next 6b b rm 6b b rm 6b b next - b remake - b stat - b none - > "$work/lines" && diff "$work/lines" - <<'LINES'
+code 0 output - calls 1
+code 5 output - calls 1
+code 7 output 000068656c6c6f calls 2
+code 0 output - calls 1
+code 1 output 6b calls 2
+code 0 output - calls 1
+code 1 output 6c calls 2
+code 0 output - calls 2
+code -61 output - calls 2
+code 1 output 6c calls 2
+code 0 output - calls 1
+code 0 output - calls 1
+refused -95 calls 1
+LINES
+    step "$1" $?
+}
+if cc -E - <<< '#include <sqlite3.h>' > /dev/null 2>&1; then
+    cc -std=c99 "${flags[@]}" "$here/large.c" "$archive" -lsqlite3 -o "$work/large" && plays_large "large by cc" || step "large by cc" 1
+    cc "${flags[@]}" "${clean[@]}" "$here/large.c" "$archive" -lsqlite3 -o "$work/large" && plays_large "large under sanitizers" || step "large under sanitizers" 1
+else
+    echo "not run: examples/embed/large.c: there is no sqlite3.h"
+fi
 cc -shared -Wl,--whole-archive "$archive" -Wl,--no-whole-archive -o "$work/libsillarnica.so" && plays "host in Python" python3 "$here/host.py" "$work/libsillarnica.so" || step "host in Python" 1
+
+python3 "$top/tools/embed_parts.py" "$work/libsillarnica.so" "$radoscls" --seconds 20
+step "calls on parts of objects of any size" $?
 
 python3 "$top/tools/embed.py" make "$calls" 1 "$work/calls" "$here/parts.img" "$top"/examples/{keep,count,hello,two}.img
 cc -std=gnu11 -O2 "${flags[@]}" "${wrap[@]}" "$top/tools/embed.c" "$archive" -o "$work/embed" && "$work/embed" "$work/calls" 8 > "$work/printed"

@@ -15,6 +15,14 @@ class Verified(ctypes.Structure):
     _fields_ = [("held", ctypes.c_void_p), ("is_open", ctypes.c_uint32)]
 
 
+class Limits(ctypes.Structure):
+    _fields_ = [("bytes", ctypes.c_uint64)] + [(name, ctypes.c_uint32) for name in ("xattrs", "keys", "xattr_name", "key_name")]
+
+
+class Want(ctypes.Structure):
+    _fields_ = [("length", ctypes.c_uint32), ("bytes", ctypes.c_uint8 * 68)]
+
+
 def flatten(object):
     """The flat form of an object."""
     if object is None:
@@ -97,6 +105,17 @@ class Library:
             return self.call(of, method, form, caller, text, answer.output_len + answer.edits_len)
         end = answer.output_len + answer.edits_len
         return result, answer, out.raw[:answer.output_len], out.raw[answer.output_len:end]
+
+    def call_part(self, verified, method, part, caller, limits, text, room=1 << 16):
+        """The same of a handle, on a part of an object, by five limits; and the need before the output."""
+        answer, want, out = Answer(), Want(), ctypes.create_string_buffer(room)
+        asked = [*self.slices(method, part), ctypes.c_uint64(caller), ctypes.byref(Limits(*limits)), *self.slices(text)]
+        told = [ctypes.byref(answer), ctypes.byref(want), out, ctypes.c_size_t(room)]
+        result = self.calls.sillarnica_verified_call_part(ctypes.byref(verified), *asked, *told)
+        if result == -34:
+            return self.call_part(verified, method, part, caller, limits, text, answer.output_len + answer.edits_len)
+        end = answer.output_len + answer.edits_len
+        return result, answer, bytes(want.bytes[:want.length]), out.raw[:answer.output_len], out.raw[answer.output_len:end]
 
 
 def main(path, image, *words):

@@ -11,6 +11,8 @@ instructions than it has. A call is a function of its arguments. Its reply has t
 refuses, and then nothing changes; its output; the edits, one for each thing that the method did to the object, in order, also
 where it changed nothing; and the object after them.
 
+An object of any size stays where the caller keeps it: `Class.call_on` asks a `Store` for what the method touches.
+
 The shared library is the one of the environment's variable SILLARNICA_LIBRARY, or the system's `libsillarnica.so.2`.
 """
 from __future__ import annotations
@@ -20,14 +22,18 @@ import dataclasses
 import os
 import struct
 import threading
-from typing import Iterator, List, Mapping, NamedTuple, Optional, Tuple, Union
+from typing import Dict, Iterator, List, Mapping, NamedTuple, Optional, Protocol, Tuple, Union
 
 __version__ = "0.5.0.dev0"
-__all__ = ["Class", "Edit", "InputTooLong", "Malformed", "Method", "NoMethod", "Object", "Refused", "Reply", "edited"]
+__all__ = ["Class", "Done", "Edit", "Full", "InputTooLong", "Limits", "Malformed", "Method", "NoMethod", "Object", "Refused", "Reply",
+           "Store", "edited"]
 
 # The number of what the library declares: it rises when a call or a format changes.
 CALLS = 2
 DATA, XATTRS, KEYS = 1, 2, 4
+# Of a part of an object: the bytes of a block, and how many a call can have.
+BLOCK, BLOCKS = 4096, 1024
+ANY_NUMBER = 2**32 - 1
 
 
 class Refused(Exception):
@@ -51,7 +57,12 @@ class InputTooLong(ValueError):
 
 
 class Malformed(ValueError):
-    """The object is past a limit: 65,536 bytes of data, 32 xattrs, 1,024 keys, names of 1 to 64 bytes, values of 4,096."""
+    """The object is past a limit: 65,536 bytes of data, 32 xattrs, 1,024 keys, names of 1 to 64 bytes, values of 4,096. Of a
+    call on a store: the limits are none, what the store answered is past them, or over 4 MiB of data are read."""
+
+
+class Full(Exception):
+    """A call on a store came to over 32 xattrs or 1,024 keys, of those that it looked up or set."""
 
 
 @dataclasses.dataclass
@@ -97,6 +108,49 @@ class Reply(NamedTuple):
     object: Optional[Object]
 
 
+class Done(NamedTuple):
+    """The answer of a call on a store: the method's code, its output, the instructions executed, and the edits, which the caller
+    makes of the object."""
+
+    code: int
+    output: bytes
+    steps: int
+    edits: List[Edit]
+
+
+class Limits(NamedTuple):
+    """What an object in a store may hold: bytes of data (below 2^63), how many xattrs and keys (None: any number), and the bytes of
+    their names (1 to 64). A number has the call look up all those names first."""
+
+    data: int = 1 << 31
+    xattrs: Optional[int] = None
+    keys: Optional[int] = None
+    xattr_name: int = 64
+    key_name: int = 64
+
+
+class Store(Protocol):
+    """Where the caller keeps one object of any size. All answers of one call have to be of one state of it."""
+
+    def size(self) -> Optional[int]:
+        """The bytes of its data; None if there is no object."""
+
+    def read(self, at: int, length: int) -> bytes:
+        """These bytes of the data, all below its size."""
+
+    def xattr(self, name: bytes) -> Optional[bytes]:
+        """The value of an xattr; None if there is none of that name."""
+
+    def key(self, name: bytes) -> Optional[bytes]:
+        """The value of a key; None if there is none of that name."""
+
+    def xattrs_from(self, place: bytes, most: int) -> List[Tuple[bytes, bytes]]:
+        """The least xattrs whose names aren't below a place, in the order of their bytes: `most` of them, or fewer if no more come."""
+
+    def keys_from(self, place: bytes, most: int) -> List[Tuple[bytes, bytes]]:
+        """The same of keys."""
+
+
 class _Refusal(ctypes.Structure):
     _fields_ = [("kind", ctypes.c_uint32), ("number", ctypes.c_uint32), ("method", ctypes.c_uint64), ("slot", ctypes.c_int64)]
 
@@ -111,6 +165,14 @@ class _Declared(ctypes.Structure):
 
 class _Verified(ctypes.Structure):
     _fields_ = [("held", ctypes.c_void_p), ("is_open", ctypes.c_uint32)]
+
+
+class _Limits(ctypes.Structure):
+    _fields_ = [("data", ctypes.c_uint64)] + [(name, ctypes.c_uint32) for name in ("xattrs", "keys", "xattr_name", "key_name")]
+
+
+class _Want(ctypes.Structure):
+    _fields_ = [("length", ctypes.c_uint32), ("bytes", ctypes.c_uint8 * 68)]
 
 
 def _load() -> ctypes.CDLL:
@@ -201,6 +263,78 @@ def edited(object: Optional[Object], edits: List[Edit]) -> Optional[Object]:
     return made
 
 
+def _texts(pairs: Mapping[bytes, bytes]) -> bytes:
+    return b"".join(_number("<H", len(it)) + it for pair in sorted(pairs.items()) for it in pair)
+
+
+class _Names:
+    """What a call knows of an object's xattrs, or keys: the intervals that were looked at, and the entries in them."""
+
+    def __init__(self) -> None:
+        self.intervals: Dict[bytes, bytes] = {}
+        self.entries: Dict[bytes, bytes] = {}
+
+    def learn(self, low: bytes, high: bytes, found: Mapping[bytes, bytes]) -> None:
+        """All names from one place to below another, b"" for the end of all, are these."""
+        self.entries.update(found)
+        for start, end in sorted(self.intervals.items()):
+            if (not end or low <= end) and (not high or start <= high):
+                low, high = min(low, start), b"" if not high or not end else max(high, end)
+                del self.intervals[start]
+        self.intervals[low] = high
+
+    def learn_page(self, place: bytes, page: List[Tuple[bytes, bytes]], most: int) -> None:
+        self.learn(place, page[-1][0] + b"\0" if len(page) >= most else b"", dict(page))
+
+    def form(self) -> bytes:
+        return b"".join(_number("<H", len(pairs)) + _texts(pairs) for pairs in (self.intervals, self.entries))
+
+
+class _Part:
+    """What a call knows of the object in a store, as it asks for more."""
+
+    def __init__(self, store: Store, limits: Limits) -> None:
+        self.store, self.size = store, store.size()
+        self.blocks: Dict[int, bytes] = {}
+        self.xattrs, self.keys, self.pages = _Names(), _Names(), 16
+        if self.size is not None and limits.xattrs is not None:
+            self.xattrs.learn(b"", b"", dict(store.xattrs_from(b"", 33)))
+        if self.size is not None and limits.keys is not None:
+            self.keys.learn(b"", b"", dict(store.keys_from(b"", 1025)))
+        self.test()
+
+    def form(self) -> bytes:
+        if self.size is None:
+            return b"\0"
+        blocks = b"".join(struct.pack("<Q", number) + block for number, block in sorted(self.blocks.items()))
+        return b"\1" + _number("<Q", self.size) + _number("<I", len(self.blocks)) + blocks + self.xattrs.form() + self.keys.form()
+
+    def fetch(self, need: bytes) -> None:
+        if need[0] == 1:
+            first, count = struct.unpack("<QB", need[1:])
+            at = first * BLOCK
+            data = self.store.read(at, min(count * BLOCK, self.size - at))  # type: ignore[operator]
+            for number in range(count):
+                self.blocks[first + number] = data[number * BLOCK : (number + 1) * BLOCK]
+            if len(self.blocks) > BLOCKS:
+                raise Malformed("over 4 MiB of data are read")
+            return
+        name = need[3:]
+        if need[0] in (2, 3):
+            names, value = (self.xattrs, self.store.xattr(name)) if need[0] == 2 else (self.keys, self.store.key(name))
+            names.learn(name, name + b"\0", {} if value is None else {name: value})
+        else:
+            names, ask, room = (self.keys, self.store.keys_from, 1024) if need[0] == 4 else (self.xattrs, self.store.xattrs_from, 32)
+            most = max(1, min(self.pages, room - len(names.entries)))
+            names.learn_page(name, ask(name, most), most)
+            self.pages = min(256, self.pages * 4)
+        self.test()
+
+    def test(self) -> None:
+        if len(self.xattrs.entries) > 32 or len(self.keys.entries) > 1024:
+            raise Full("over 32 xattrs or 1,024 keys")
+
+
 class Class:
     """A verified class. Several threads may use it at once: each call has a handle of its own, all of one class."""
 
@@ -254,6 +388,27 @@ class Class:
         edits = [*_edits(out[answer.output_len : end])]
         return Reply(answer.code, output, answer.steps, edits, edited(object, edits))
 
+    def call_on(self, store: Store, method: str, input: bytes = b"", caller: int = 1, limits: Limits = Limits()) -> Done:
+        """Calls a method on the object of a store, which is asked for what the method touches and isn't changed: the edits are the
+        caller's to make. Raises what `call` does, and `Full`."""
+        if not 0 <= caller < 1 << 32:
+            raise ValueError(f"{caller}: a caller's number has 32 bits")
+        told = _Limits(limits.data, *(ANY_NUMBER if it is None else it for it in limits[1:3]), *limits[3:])
+        part, name, room = _Part(store, limits), method.encode(), 4096
+        while True:
+            result, answer, need, out = self._called_part(name, part.form(), caller, told, input, room)
+            if result == -11:
+                part.fetch(need)
+            elif result == -34:
+                room = answer.output_len + answer.edits_len
+            else:
+                break
+        if result == -28:
+            raise Full("over 32 xattrs or 1,024 keys")
+        _raise(result, method)
+        end = answer.output_len + answer.edits_len
+        return Done(answer.code, out[: answer.output_len], answer.steps, [*_edits(out[answer.output_len : end])])
+
     def _handle(self) -> _Verified:
         """A handle that no other call has: one that a call gave back, or another copy."""
         with self._lock:
@@ -284,6 +439,19 @@ class Class:
         finally:
             self._give_back(handle)
         return result, answer, out.raw
+
+    def _called_part(
+        self, name: bytes, part: bytes, caller: int, limits: _Limits, text: bytes, room: int
+    ) -> Tuple[int, _Answer, bytes, bytes]:
+        answer, want, out = _Answer(), _Want(), ctypes.create_string_buffer(room)
+        asked = [*_slices(name, part), ctypes.c_uint64(caller), ctypes.byref(limits), *_slices(text)]
+        written = [ctypes.byref(answer), ctypes.byref(want), out, ctypes.c_size_t(room)]
+        handle = self._handle()
+        try:
+            result = _calls.sillarnica_verified_call_part(ctypes.byref(handle), *asked, *written)
+        finally:
+            self._give_back(handle)
+        return result, answer, bytes(want.bytes[: want.length]), out.raw
 
     def close(self) -> None:
         """Gives the memory back. Closing again does nothing."""

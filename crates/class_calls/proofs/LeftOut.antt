@@ -1,19 +1,19 @@
 -- A call on an object that is like another in the parts that the method needs is answered as one on
 -- that.
-use Rattle.std.proofs.Common.{◌≡◌, ◌∙◌, ℕ, ℤ, pos, ◌<ℤ◌, ◌^◌, ◌≤◌, Bool, true, false, List, [], Some, None, Ok, refl, ap, sym, subst, inl, inr, arith, length}
+use Rattle.std.proofs.Common.{◌≡◌, ◌∙◌, ℕ, pos, ◌<ℤ◌, ◌^◌, ◌≤◌, Bool, true, false, List, [], Some, None, Ok, refl, ap, sym, subst, inl, inr, arith, length}
 use Rattle.std.specs.Prelude.{◌⊎◌, if◌then◌else◌}
 use Rattle.std.specs.FinMap as fin
 use Rattle.std.specs.Int.{w64, cast_unsigned}
 use Rattle.std.proofs.lemmas.Option.{same_Some}
-use Rattle.bpf_decode.specs.Class.{ClassMethod, IsMethod}
+use Rattle.bpf_decode.specs.Class.{ClassMethod}
 use Rattle.object_store.specs.Object.{Content, PlainObject, nothing, content_of, AreBytes, AreWithin, IsContent, IsObject}
 use Rattle.object_store.specs.declared.limits.TheConstants.{DATA_LIMIT, XATTR_LIMIT, KEY_LIMIT}
 use Rattle.txn.specs.Edits.{Edit, all_edited, spelled}
 use Rattle.bpf_machine.specs.State as machine
 use Rattle.bpf_machine.specs.Lists.{Lists, EndsHaveLists, ListsAreOne}
-use Rattle.bpf_machine.specs.Safe.{caps_of, RunsTo, RunsAreChains, HasLayout, Simulates}
+use Rattle.bpf_machine.specs.Safe.{RunsTo, RunsAreChains, HasLayout, Simulates}
 use Rattle.verifier.specs.Verified.{IsVerified}
-use Rattle.interp.specs.Plain.{AnswersMethod, ListsMethod, AnswersListed, method_named, outcome_of_answer}
+use Rattle.interp.specs.Plain.{AnswersMethod, ListsMethod, method_named, outcome_of_answer}
 use Rattle.interp.specs.declared.outcome.Listed.{Listed}
 use Rattle.footprint.specs.declared.parts.Parts.{Parts}
 use Rattle.footprint.specs.Parts.{reduced, joined, restored, Covers}
@@ -22,7 +22,7 @@ use Rattle.footprint.specs.Frame.{whole_outcome, Frames, FrameLaw, ListFrames, L
 use Rattle.footprint.proofs.Runs.{restored_reduced}
 use Rattle.object_bytes.specs.Flat.{Spells}
 use Rattle.object_bytes.proofs.Again.{nothing_is}
-use Rattle.class_calls.specs.Answers.{IsAnsweredBy, RefusesMethod, IsMalformed}
+use Rattle.class_calls.specs.Answers.{IsAnsweredBy, RefusesMethod}
 use Rattle.class_calls.specs.declared.answer.Answer.{Answer}
 use Rattle.class_calls.specs.declared.answer.MethodError.{MethodError}
 use Rattle.class_calls.specs.declared.answer.MethodError.TheVariants as method

@@ -2,3 +2,6 @@ pub mod One
 pub mod LeftOut
 pub mod Place
 pub mod Over
+pub mod Counted
+pub mod OnParts
+pub mod Lacking

@@ -16,9 +16,9 @@ use Rattle.bpf_machine.specs.State.{Ended}
 use Rattle.bpf_machine.specs.Flat.{entry}
 use Rattle.bpf_machine.specs.Lists.{ListsAreOne}
 use Rattle.bpf_machine.specs.Safe.{caps_of, first_layout, RunsTo, RunsAreChains, HasLayout}
-use Rattle.interp.specs.Plain.{AnswersMethod, ListsMethod, InputPasses, method_named, outcome_of_answer}
+use Rattle.interp.specs.Plain.{AnswersMethod, ListsMethod, method_named, outcome_of_answer}
 use Rattle.object_bytes.specs.Flat.{flat, Spells}
-use Rattle.class_calls.specs.Answers.{IsLoaded, RefusesImage, RefusesClass, IsAnsweredBy, RefusesMethod, AreSame, IsWantOfClass}
+use Rattle.class_calls.specs.Answers.{IsLoaded, RefusesImage, IsAnsweredBy, RefusesMethod, AreSame, IsWantOfClass}
 use Rattle.class_calls.specs.declared.answer.Answer.{Answer}
 use Rattle.class_calls.specs.declared.answer.MethodError.{MethodError}
 use Rattle.class_calls.specs.declared.answer.MethodError.TheVariants as method

@@ -1,6 +1,6 @@
 -- A list of edits over another object.
-use Rattle.std.proofs.Common.{◌≡◌, ◌∙◌, ℕ, zero, suc, ◌+◌, ◌-◌, ◌<◌, ◌≤◌, min, Bool, true, false, cond, List, [], ◌∷◌, ◌++◌, Option, Some, None, Result, Ok, Err, is_some, refl, ap, sym, subst, arith, length, take, drop, replicate, get_or, inl, inr, length-append, append_assoc}
-use Rattle.std.specs.Prelude.{◌⊎◌, if◌then◌else◌, nat_lt, ◌==◌, not, ◌&&◌}
+use Rattle.std.proofs.Common.{◌≡◌, ◌∙◌, ℕ, ◌+◌, ◌-◌, ◌<◌, ◌≤◌, min, Bool, true, false, cond, List, [], ◌∷◌, ◌++◌, Some, None, Result, Ok, Err, is_some, refl, ap, sym, subst, arith, length, take, drop, replicate, get_or, inl, inr, length-append, append_assoc}
+use Rattle.std.specs.Prelude.{◌⊎◌, if◌then◌else◌, nat_lt, ◌==◌}
 use Rattle.std.specs.FinMap as fin
 use Rattle.std.specs.Ordering.{nat_cmp, is_eq, eq_by_cmp}
 use Rattle.std.specs.Cmp.Lexicographic.{slice_cmp}
@@ -13,12 +13,13 @@ use Rattle.std.proofs.Math.ListN.{get_or-eq_default}
 use Rattle.std.proofs.lemmas.Map.Lookups.{exact_bytes}
 use Rattle.std.specs.Cmp.{tied_itself}
 use Rattle.object_store.specs.declared.store_error.StoreError.{StoreError}
-use Rattle.object_store.specs.declared.store_error.StoreError.TheVariants.{TooBig, TooMany, NoAttr, Range, Exists, Absent}
+use Rattle.object_store.specs.declared.store_error.StoreError.TheVariants.{TooBig, TooMany, NoAttr, Range, Absent}
 use Rattle.object_store.specs.declared.limits.TheConstants.{DATA_LIMIT, VALUE_LIMIT, XATTR_LIMIT, KEY_LIMIT}
 use Rattle.object_store.specs.Object.{Attributes, Content, PlainObject, nothing, content_of, spliced, resized}
 use Rattle.object_store.specs.Calls as calls
 use Rattle.txn.specs.Edits.{Edit, Create, Remove, SetXattr, RemoveXattr, SetKey, RemoveKey, SetLength, Write, there, edited, and_then, all_edited}
-use Rattle.class_calls.specs.Over.{made, all_made, Position, Byte, Xattr, Key, AreSameAt, AreOfOneSize, WritesByte, Writes, Wrote, Stands, MadeIsEdited, ListsStand}
+use Rattle.txn.specs.Made.{made, all_made}
+use Rattle.class_calls.specs.Over.{Position, Byte, Xattr, Key, AreSameAt, AreOfOneSize, WritesByte, Writes, Wrote, MadeIsEdited, ListsStand}
 
 -- ---- the bytes
 under : (a b : ℕ) → (a < b) ⊎ (b ≤ a)

@@ -27,6 +27,7 @@ fn of_image(error: ImageError) -> ClassError
 {
     match error.error {
         DecodeError::NoMemory => ClassError::NoMemory,
+        // Every other error is of the image, whichever it is.
         _ => ClassError::Image(error),
     }
 }
@@ -37,6 +38,7 @@ fn of_verdict(refusal: Refusal) -> ClassError
 {
     match refusal.rule {
         Rule::NoMemory => ClassError::NoMemory,
+        // Every other rule is broken by the class, whichever it is.
         _ => ClassError::Verdict(refusal),
     }
 }

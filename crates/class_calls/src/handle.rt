@@ -5,12 +5,15 @@ ghost use Rattle.std.specs.Option.{option_map};
 ghost use Rattle.verifier.specs.Verified.{method_named};
 ghost use Rattle.class_calls.specs.Answers.{IsAnsweredBy, IsLoaded, RefusesImage, RefusesMethod};
 ghost use Rattle.class_calls.specs.Handle.{IsPlace, declared_of, told, told_of};
+ghost use Rattle.class_calls.specs.Parts.{IsAnsweredByPart, RefusesPart};
 
 use crate::answer::{Answer, ClassCall, MethodError, call_on};
 use crate::class::{ClassError, judged, place_of, read};
+use crate::part_call::{PartCall, PartCallError, call_part};
 use bpf_decode::ClassImage;
 use footprint::{Parts, needed};
 use interp::Room;
+use part_calls::{PartAnswer, PartRoom};
 use std::alloc::{AllocError, Global};
 use std::marker::Model;
 use std::sync::Arc;
@@ -35,6 +38,8 @@ struct Held {
     declared: Vec<Declared>,
 }
 
+// Written out, here and at `ClassHandle`, so that a crate that drops one calls this and needn't
+// prove again how a class is dropped.
 impl Drop for Held {
     fn drop(self) {
         let Held { class, declared } = self;
@@ -76,13 +81,19 @@ fn declared_by(alloc: Global, class: &ClassImage) -> Result<Vec<Declared>, Alloc
 pub struct ClassHandle {
     held: Arc<Held>,
     room: Room,
+    part_room: PartRoom,
 }
 
 impl Drop for ClassHandle {
     fn drop(self) {
-        let ClassHandle { held, room } = self;
+        let ClassHandle {
+            held,
+            room,
+            part_room,
+        } = self;
         drop(held);
         drop(room);
+        drop(part_room);
     }
 }
 
@@ -117,6 +128,7 @@ impl ClassHandle {
         Ok(ClassHandle {
             held,
             room: Room::new(alloc),
+            part_room: PartRoom::new(alloc),
         })
     }
 
@@ -127,6 +139,7 @@ impl ClassHandle {
         Ok(ClassHandle {
             held: Arc::try_clone(&self.held)?,
             room: Room::new(alloc),
+            part_room: PartRoom::new(alloc),
         })
     }
 
@@ -141,6 +154,23 @@ impl ClassHandle {
         ensures held { self.new ≡ self.old }
     {
         call_on(alloc, &mut self.room, &self.held.class, request)
+    }
+
+    /// Calls a method of the class on a part of an object, by a host's limits.
+    pub fn call_part(
+        &mut self,
+        alloc: Global,
+        request: PartCall,
+    ) -> Result<PartAnswer, PartCallError>
+        ensures ok { IfOk result
+            (IsAnsweredByPart self.old request.entry.method.now request.entry.part.now request.entry.caller
+            request.entry.limits request.entry.input.now) }
+        ensures refused { IfErr result
+            (RefusesPart self.old request.entry.method.now request.entry.part.now request.entry.caller
+            request.entry.limits request.entry.input.now) }
+        ensures held { self.new ≡ self.old }
+    {
+        call_part(alloc, &mut self.part_room, &self.held.class, request)
     }
 
     /// The name of the method of a number, from 0 on, and what it declares; none past the last.

@@ -9,6 +9,9 @@ ghost use Rattle.class_calls.specs.declared.answer.MethodError.{MethodError};
 ghost use Rattle.class_calls.specs.declared.class.ClassError.{ClassError};
 ghost use Rattle.class_calls.specs.Needs.{NeededAreEnough};
 ghost use Rattle.class_calls.specs.Over.{ListsStand, MadeIsEdited};
+ghost use Rattle.class_calls.specs.OnParts.{AllIsEnough, IsNeededOnce, MoreOfPartIsEnough};
+ghost use Rattle.class_calls.specs.OnParts.{MoreOfPartStopsNoEarlier};
+ghost use Rattle.class_calls.specs.OnParts.{PartsAreAnsweredAlike, PartsAreAnsweredAsWhole};
 
 /// An image has one class, or but for want of memory one reason to have none.
 pub fn one_class()
@@ -66,3 +69,33 @@ pub fn lists_stand_over_others()
     ensures made { MadeIsEdited }
     ensures stand { ListsStand }
 {}
+
+/// Where calls on several parts of one object are answered, by one host's limits, they are answered
+/// alike; by the limits of all objects also as `call_on` answers on the object's flat form.
+pub fn parts_have_one_answer()
+    ensures same { PartsAreAnsweredAlike }
+    ensures whole { PartsAreAnsweredAsWhole }
+{
+    // For the proof: bytes spell one part, a flat form is of one object, and a run is a chain of steps
+    // in some layout.
+    bpf_machine::chains();
+    bpf_machine::layouts();
+    object_bytes::one_object();
+    part_bytes::one_part();
+}
+
+/// A call on a part that has all of its object needs nothing. Where a call on a part of an object is
+/// answered, one on a part of it that has more needs nothing either: it is answered alike, or `Full`,
+/// or refused for want of memory. Where both need something, the one on the part that has more stops
+/// at the same helper call as the other, or at a later one: at a later one, if the part has the blocks
+/// or the name that the other needed.
+pub fn more_of_a_part_is_enough()
+    ensures all { AllIsEnough }
+    ensures more { MoreOfPartIsEnough }
+    ensures later { MoreOfPartStopsNoEarlier }
+    ensures once { IsNeededOnce }
+{
+    // For the proof: bytes spell one part, and a run that knows more needs nothing more.
+    part_bytes::one_part();
+    part_calls::more_is_enough();
+}

@@ -8,8 +8,13 @@ mod answer;
 mod class;
 mod handle;
 mod laws;
+mod part_call;
 
 pub use answer::{Answer, ClassCall, MethodError, call_on};
 pub use class::{ClassError, load, place_of};
 pub use handle::{ClassHandle, Declared};
-pub use laws::{lists_stand_over_others, one_answer, one_class, parts_may_be_left_out};
+pub use laws::{
+    lists_stand_over_others, more_of_a_part_is_enough, one_answer, one_class,
+    parts_have_one_answer, parts_may_be_left_out,
+};
+pub use part_call::{PartCall, PartCallError, call_part};

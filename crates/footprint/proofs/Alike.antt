@@ -22,11 +22,12 @@ use Rattle.bpf_machine.specs.Flat.{IsStuck, Layout, flat_after, step, exit_code,
 use Rattle.bpf_machine.specs.Lists.{ListsAtExit, listed_entry, list_of}
 use Rattle.bpf_machine.specs.Typed.{fetch}
 use Rattle.bpf_machine.specs.Decoded.{insn_act, insn_exit_of}
+use Rattle.bpf_machine.specs.Blind.{NoCall, elsewhere, StepsAreBlind}
 use Rattle.bpf_machine.specs.Safe.{caps_of, BytesAreInstructions, ElsewhereIsStuck}
 use Rattle.footprint.specs.Calls.{given_in}
 use Rattle.footprint.specs.Answers.{Answered, answer_to, then_answers, answers_at, answers, AnswersDecideRuns, AreAlike, AnswersDecideLists}
 use Rattle.footprint.proofs.Calls.{false_true}
-use Rattle.footprint.proofs.Moves.{with_both, NoCall, act_both, exit_both, given_both, helped, leaves_both, help_is, Stepped, stepped}
+use Rattle.footprint.proofs.Moves.{given_elsewhere, helped, plain_leaves, help_is, Stepped, stepped}
 
 -- ---- what an effect leaves, by what there was
 -- whether an object that was there is there after a helper
@@ -161,7 +162,7 @@ same_answer e f xs ys h =
     let first : a ≡ b = cc in
     record { number = ap (λ (x : Answered). x.number) first; bytes = ap (λ (x : Answered). x.bytes) first; rest = cc }
 
-module _ (begins : BytesAreInstructions) (elsewhere : ElsewhereIsStuck) (caps : Caps) (lay : Layout) (is : List Insn) (fit : AllFit is) where
+module _ (blind : StepsAreBlind) (begins : BytesAreInstructions) (outside : ElsewhereIsStuck) (caps : Caps) (lay : Layout) (is : List Insn) (fit : AllFit is) where
   -- an instruction that is no call has no answer
   no_answer : (i : Insn) (s : State ℕ) → NoCall i → answers_at caps lay (Some i) s ≡ []
   no_answer (Alu bits operation dst source) s other = refl
@@ -190,21 +191,21 @@ module _ (begins : BytesAreInstructions) (elsewhere : ElsewhereIsStuck) (caps : 
   step_alike : (s t : State ℕ) (x : PlainObject) (xs ys : List Answered) → is_some s.object ≡ is_some x → Stepped caps lay is s t →
       answers_at caps lay (fetch (slots is) s.slot) s ++ xs ≡ answers_at caps lay (fetch (slots is) s.slot) (put x s) ++ ys → StepsAlike s t x xs ys
   step_alike s t x xs ys same (Stepped.plain i other at e) h =
-      let leaves = leaves_both caps lay i s t other e in
+      let leaves = plain_leaves blind caps lay i s t other e in
       let gone : (u : State ℕ) → answers_at caps lay (fetch (slots is) s.slot) u ≡ [] = λ u. ap (λ (f : Option Insn). answers_at caps lay f u) at ∙ no_answer i u other in
       record {
         after = x;
         there = ap (λ (u : State ℕ). is_some u.object) leaves ∙ same;
         steps = (begins caps lay is fit (put x s) i at).acts
-            ∙ sym (act_both caps lay x s.edits i s other)
-            ∙ ap (option_map (with_both x s.edits)) e
-            ∙ ap (λ (u : State ℕ). Some (with_both x u.edits t)) (sym leaves);
+            ∙ sym (blind.acts caps lay s.limits x s.edits i s other)
+            ∙ ap (option_map (elsewhere s.limits x s.edits)) e
+            ∙ ap (λ (u : State ℕ). Some (elsewhere u.limits x u.edits t)) (sym leaves);
         rest = sym (ap (λ (l : List Answered). l ++ xs) (gone s)) ∙ h ∙ ap (λ (l : List Answered). l ++ ys) (gone (put x s));
       }
   step_alike s t x xs ys same (Stepped.called id g at is_given left) h =
       let e = effect id s.object (asked g) in
       let f = effect id x (asked g) in
-      let given : given_in caps lay id (put x s) ≡ Some g = given_both caps lay x s.edits id s ∙ is_given in
+      let given : given_in caps lay id (put x s) ≡ Some g = given_elsewhere blind caps lay x s.edits id s ∙ is_given in
       let one : answers_at caps lay (fetch (slots is) s.slot) s ≡ record { number = e.answer; bytes = e.bytes } ∷ [] =
       ap (λ (i : Option Insn). answers_at caps lay i s) at ∙ ap (answer_to id s.object) is_given in
       let two : answers_at caps lay (fetch (slots is) s.slot) (put x s) ≡ record { number = f.answer; bytes = f.bytes } ∷ [] =
@@ -218,6 +219,7 @@ module _ (begins : BytesAreInstructions) (elsewhere : ElsewhereIsStuck) (caps : 
         object = f.object;
         out_len = unwrap_or (sym r.out_len i) s.out_len;
         caller = s.caller;
+        limits = s.limits;
         edits = with_edits (sym (r.edits a.number) i) s.edits;
       } in
       record {
@@ -253,7 +255,7 @@ module _ (begins : BytesAreInstructions) (elsewhere : ElsewhereIsStuck) (caps : 
   exit_stops s v e = by (fetch (slots is) s.slot) refl
     where
       by : (f : Option Insn) → fetch (slots is) s.slot ≡ f → step caps lay (spelling is) s ≡ None
-      by None f = (elsewhere caps lay is s f).no_step
+      by None f = (outside caps lay is s f).no_step
       by (Some i) f =
           let a = begins caps lay is fit s i f in
           a.acts ∙ is_exit i s v (sym a.exits ∙ e)
@@ -288,7 +290,7 @@ module _ (begins : BytesAreInstructions) (elsewhere : ElsewhereIsStuck) (caps : 
       let first = step_alike s c.0 x
       (then_answers (step caps lay (spelling is) s) (answers caps lay is k))
       (then_answers (step caps lay (spelling is) (put x s)) (answers caps lay is k)) same
-      (stepped caps lay is fit begins elsewhere s c.0 c.1) a in
+      (stepped caps lay is fit begins outside s c.0 c.1) a in
       let left : answers caps lay is k c.0 ≡ answers caps lay is k (put first.after c.0) =
       sym (ap (λ (o : Option (State ℕ)). then_answers o (answers caps lay is k)) c.1)
       ∙ first.rest
@@ -300,10 +302,10 @@ module _ (begins : BytesAreInstructions) (elsewhere : ElsewhereIsStuck) (caps : 
   exit_alike s x v e = by (fetch (slots is) s.slot) refl
     where
       by : (f : Option Insn) → fetch (slots is) s.slot ≡ f → exit_code (spelling is) (put x s) ≡ Some v
-      by None f = absurd (none-some v (sym (elsewhere caps lay is s f).no_exit ∙ e))
+      by None f = absurd (none-some v (sym (outside caps lay is s f).no_exit ∙ e))
       by (Some i) f =
           (begins caps lay is fit (put x s) i f).exits
-          ∙ sym (exit_both caps lay x s.edits i s)
+          ∙ sym (blind.exits caps lay s.limits x s.edits i s)
           ∙ sym (begins caps lay is fit s i f).exits
           ∙ e
 
@@ -425,11 +427,11 @@ module _ (begins : BytesAreInstructions) (elsewhere : ElsewhereIsStuck) (caps : 
       }
 
 -- ---- the laws
-pub answers_decide_runs : BytesAreInstructions → ElsewhereIsStuck → AnswersDecideRuns
-answers_decide_runs begins elsewhere m is_method lay one other same caller input outcome steps list l a =
-    let e = ends_alike begins elsewhere (caps_of m) lay m.instructions is_method.fit one other (listed_entry (caps_of m) lay one caller input) other outcome steps steps list (omega arith) same same l a in
+pub answers_decide_runs : StepsAreBlind → BytesAreInstructions → ElsewhereIsStuck → AnswersDecideRuns
+answers_decide_runs blind begins outside m is_method lay one other same caller input outcome steps list l a =
+    let e = ends_alike blind begins outside (caps_of m) lay m.instructions is_method.fit one other (listed_entry (caps_of m) lay one caller input) other outcome steps steps list (omega arith) same same l a in
     record { after = e.after; there = e.there; lists = e.lists }
 
-pub answers_decide_lists : BytesAreInstructions → ElsewhereIsStuck → AnswersDecideLists
-answers_decide_lists begins elsewhere m is_method one other same caller input p q j k a b l r lay ok h =
-    alike begins elsewhere (caps_of m) lay m.instructions is_method.fit one other (listed_entry (caps_of m) lay one caller input) other p q j k a b same same (l lay ok) (r lay ok) h
+pub answers_decide_lists : StepsAreBlind → BytesAreInstructions → ElsewhereIsStuck → AnswersDecideLists
+answers_decide_lists blind begins outside m is_method one other same caller input p q j k a b l r lay ok h =
+    alike blind begins outside (caps_of m) lay m.instructions is_method.fit one other (listed_entry (caps_of m) lay one caller input) other p q j k a b same same (l lay ok) (r lay ok) h

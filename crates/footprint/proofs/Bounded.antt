@@ -20,7 +20,9 @@ use Rattle.bpf_decode.specs.Instruction.{AllFit, byte_count, signed_byte_count, 
 use Rattle.bpf_decode.specs.Arithmetic.{alu_value, neg_value, mov_value, signed_move_value, end_value, is_taken, signed_load_value}
 use Rattle.bpf_decode.specs.Jump.{jump_target, branch_to}
 use Rattle.object_store.specs.declared.limits.TheConstants.{NAME_LIMIT, VALUE_LIMIT}
-use Rattle.object_store.specs.Calls.{is_named}
+use Rattle.object_store.specs.Calls.{is_named_within}
+use Rattle.object_store.specs.declared.limits.Limits.{Limits}
+use Rattle.object_store.specs.Limits.{profile}
 use Rattle.object_store.specs.Object.{PlainObject, part}
 use Rattle.txn.specs.Edits.{Edit, edit_bytes, spelled}
 use Rattle.helpers.specs.declared.argument.Argument.{Argument}
@@ -39,22 +41,13 @@ use Rattle.bpf_machine.specs.Flat.{Layout, base, holds, find, range, load, load_
 use Rattle.bpf_machine.specs.Lists.{listed_entry, list_of}
 use Rattle.bpf_machine.specs.Typed.{extended}
 use Rattle.bpf_machine.specs.Decoded.{operand_in, insn_act}
+use Rattle.bpf_machine.specs.Blind.{NoCall, StepsAreBlind}
 use Rattle.bpf_machine.specs.Safe.{caps_of, BytesAreInstructions, ElsewhereIsStuck, HasLayout, first_layout}
 use Rattle.footprint.specs.Calls.{given_in}
 use Rattle.footprint.specs.Lengths.{list_length, longest_text, most_of_call, ListsAreBounded, list_limit, ListsAreShort}
 use Rattle.footprint.proofs.EditBytes.{no_length, done_length, created_length, write_length, set_xattr_length, set_key_length, remove_xattr_length, remove_key_length}
-use Rattle.footprint.proofs.Moves.{NoCall, helped, leaves_both, Stepped, stepped}
+use Rattle.footprint.proofs.Moves.{bind_some, only_some, given_limits, helped, plain_leaves, Stepped, stepped}
 
--- what gives a value was there
-bind_some : {A B : Type 0} (o : Option A) (f : A → Option B) (y : B) → (o >>= f) ≡ Some y → (x : A) × (o ≡ Some x) × (f x ≡ Some y)
-bind_some None f y e = absurd (none-some y e)
-bind_some (Some x) f y e = (x, refl, e)
-
-only_some : {B : Type 0} (b : Bool) (o : Option B) (y : B) → only b o ≡ Some y → o ≡ Some y
-only_some true o y e = e
-only_some false o y e = absurd (none-some y e)
-
--- ---- a text is no longer than the longest region
 module _ (caps : Caps) (lay : Layout) where
   size_longest : (r : Region) → size caps r ≤ longest_text caps
   size_longest Input = omega arith
@@ -138,30 +131,30 @@ refuses errno o true e es n neg h =
     subst (λ (b : Bool). list_length (if b then es else []) ≤ n) (sym neg) (no_length n)
 refuses errno o false e es n neg h = h refl
 
-name_short : (name : List ℕ) → not (is_named name) ≡ false → length name ≤ NAME_LIMIT
-name_short name e = grind arith
+name_short : (name : List ℕ) (most : ℕ) → most ≡ NAME_LIMIT → not (is_named_within most name) ≡ false → length name ≤ NAME_LIMIT
+name_short name most same e = grind arith
 
-set_xattr_short : (o : PlainObject) (g : table.Given) → list_length (if_done ((row SetXattr).effect o g).answer (edits_row SetXattr o g)) ≤ 6 + (NAME_LIMIT + VALUE_LIMIT)
-set_xattr_short o g =
-    refuses EINVAL o (not (is_named (text g 0))) _ (edits_row SetXattr o g) _ refl (λ named.
+set_xattr_short : (o : PlainObject) (g : table.Given) → g.limits ≡ profile → list_length (if_done ((row SetXattr).effect o g).answer (edits_row SetXattr o g)) ≤ 6 + (NAME_LIMIT + VALUE_LIMIT)
+set_xattr_short o g limits =
+    refuses EINVAL o (not (is_named_within g.limits.xattrs.length (text g 0))) _ (edits_row SetXattr o g) _ refl (λ named.
     refuses EFBIG o (nat_lt VALUE_LIMIT (length (text g 1))) _ (edits_row SetXattr o g) _ refl (λ short.
-    done_length _ _ (edits_row SetXattr o g) (omega (arith, set_xattr_length o (text g 0) (text g 1), name_short (text g 0) named, ltb-false VALUE_LIMIT (length (text g 1)) short))))
+    done_length _ _ (edits_row SetXattr o g) (omega (arith, set_xattr_length o (text g 0) (text g 1), name_short (text g 0) g.limits.xattrs.length (ap (λ (l : Limits). l.xattrs.length) limits) named, ltb-false VALUE_LIMIT (length (text g 1)) short))))
 
-set_key_short : (o : PlainObject) (g : table.Given) → list_length (if_done ((row MapSet).effect o g).answer (edits_row MapSet o g)) ≤ 6 + (NAME_LIMIT + VALUE_LIMIT)
-set_key_short o g =
-    refuses EINVAL o (not (is_named (text g 0))) _ (edits_row MapSet o g) _ refl (λ named.
+set_key_short : (o : PlainObject) (g : table.Given) → g.limits ≡ profile → list_length (if_done ((row MapSet).effect o g).answer (edits_row MapSet o g)) ≤ 6 + (NAME_LIMIT + VALUE_LIMIT)
+set_key_short o g limits =
+    refuses EINVAL o (not (is_named_within g.limits.keys.length (text g 0))) _ (edits_row MapSet o g) _ refl (λ named.
     refuses EFBIG o (nat_lt VALUE_LIMIT (length (text g 1))) _ (edits_row MapSet o g) _ refl (λ short.
-    done_length _ _ (edits_row MapSet o g) (omega (arith, set_key_length o (text g 0) (text g 1), name_short (text g 0) named, ltb-false VALUE_LIMIT (length (text g 1)) short))))
+    done_length _ _ (edits_row MapSet o g) (omega (arith, set_key_length o (text g 0) (text g 1), name_short (text g 0) g.limits.keys.length (ap (λ (l : Limits). l.keys.length) limits) named, ltb-false VALUE_LIMIT (length (text g 1)) short))))
 
-remove_xattr_short : (o : PlainObject) (g : table.Given) → list_length (if_done ((row RmXattr).effect o g).answer (edits_row RmXattr o g)) ≤ 3 + NAME_LIMIT
-remove_xattr_short o g =
-    refuses EINVAL o (not (is_named (text g 0))) _ (edits_row RmXattr o g) _ refl (λ named.
-    done_length _ _ (edits_row RmXattr o g) (omega (arith, remove_xattr_length (text g 0), name_short (text g 0) named)))
+remove_xattr_short : (o : PlainObject) (g : table.Given) → g.limits ≡ profile → list_length (if_done ((row RmXattr).effect o g).answer (edits_row RmXattr o g)) ≤ 3 + NAME_LIMIT
+remove_xattr_short o g limits =
+    refuses EINVAL o (not (is_named_within g.limits.xattrs.length (text g 0))) _ (edits_row RmXattr o g) _ refl (λ named.
+    done_length _ _ (edits_row RmXattr o g) (omega (arith, remove_xattr_length (text g 0), name_short (text g 0) g.limits.xattrs.length (ap (λ (l : Limits). l.xattrs.length) limits) named)))
 
-remove_key_short : (o : PlainObject) (g : table.Given) → list_length (if_done ((row MapRm).effect o g).answer (edits_row MapRm o g)) ≤ 3 + NAME_LIMIT
-remove_key_short o g =
-    refuses EINVAL o (not (is_named (text g 0))) _ (edits_row MapRm o g) _ refl (λ named.
-    done_length _ _ (edits_row MapRm o g) (omega (arith, remove_key_length (text g 0), name_short (text g 0) named)))
+remove_key_short : (o : PlainObject) (g : table.Given) → g.limits ≡ profile → list_length (if_done ((row MapRm).effect o g).answer (edits_row MapRm o g)) ≤ 3 + NAME_LIMIT
+remove_key_short o g limits =
+    refuses EINVAL o (not (is_named_within g.limits.keys.length (text g 0))) _ (edits_row MapRm o g) _ refl (λ named.
+    done_length _ _ (edits_row MapRm o g) (omega (arith, remove_key_length (text g 0), name_short (text g 0) g.limits.keys.length (ap (λ (l : Limits). l.keys.length) limits) named)))
 
 -- ---- what the set ones of registers 1 to 3 count
 abbrev pub held : ℕ → Option ℕ → ℕ
@@ -298,7 +291,7 @@ module _ (c : ℕ) (s : State ℕ) where
     gains Exit other = gains_none
 
 -- ---- a call leaves a fourth of what the set registers count, and of one step more
-module _ (caps : Caps) (lay : Layout) where
+module _ (blind : StepsAreBlind) (caps : Caps) (lay : Layout) where
   abbrev most : ℕ
   most = most_of_call caps
 
@@ -332,75 +325,78 @@ module _ (caps : Caps) (lay : Layout) where
       let l = least in
       omega (arith, done_length ((row h).effect s.object (asked g)).answer n (edits_row h s.object (asked g)) short)
 
-  call_leaves : (h : Helper) (s : State ℕ) (g : Given) → arguments caps lay s (row h).takes.arguments 1 ≡ Some g → Leaves h s g
-  call_leaves Stat s g e = nothing_left Stat s g 0 (omega arith) (omega arith)
-  call_leaves Read s g e = nothing_left Read s g 0 (omega arith) (omega arith)
-  call_leaves Write s g e =
+  call_leaves : (h : Helper) (s : State ℕ) (g : Given) → s.limits ≡ profile → arguments caps lay s (row h).takes.arguments 1 ≡ Some g → Leaves h s g
+  call_leaves Stat s g p e = nothing_left Stat s g 0 (omega arith) (omega arith)
+  call_leaves Read s g p e = nothing_left Read s g 0 (omega arith) (omega arith)
+  call_leaves Write s g p e =
       let short = texts_short caps lay s (Number ∷ Readable ∷ []) 1 g e 0 in
       let set = number_text_set s g e in
       let done = done_length ((row Write).effect s.object (asked g)).answer (14 + length (text (asked g) 0)) (edits_row Write s.object (asked g)) (write_length s.object (number (asked g) 0) (text (asked g) 0)) in
       omega arith
-  call_leaves Truncate s g e = nothing_left Truncate s g 9 (omega arith) (omega arith)
-  call_leaves Remove s g e = nothing_left Remove s g 1 (omega arith) (omega arith)
-  call_leaves GetXattr s g e = nothing_left GetXattr s g 0 (omega arith) (omega arith)
-  call_leaves SetXattr s g e =
+  call_leaves Truncate s g p e = nothing_left Truncate s g 9 (omega arith) (omega arith)
+  call_leaves Remove s g p e = nothing_left Remove s g 1 (omega arith) (omega arith)
+  call_leaves GetXattr s g p e = nothing_left GetXattr s g 0 (omega arith) (omega arith)
+  call_leaves SetXattr s g p e =
       let set = texts_set s g e in
-      let done = set_xattr_short s.object (asked g) in
+      let done = set_xattr_short s.object (asked g) (given_limits blind caps lay s (Readable ∷ Readable ∷ []) 1 g e ∙ p) in
       omega arith
-  call_leaves RmXattr s g e =
-      let done = remove_xattr_short s.object (asked g) in
+  call_leaves RmXattr s g p e =
+      let done = remove_xattr_short s.object (asked g) (given_limits blind caps lay s (Readable ∷ []) 1 g e ∙ p) in
       let l = least in
       omega arith
-  call_leaves MapGet s g e = nothing_left MapGet s g 0 (omega arith) (omega arith)
-  call_leaves MapSet s g e =
+  call_leaves MapGet s g p e = nothing_left MapGet s g 0 (omega arith) (omega arith)
+  call_leaves MapSet s g p e =
       let set = texts_set s g e in
-      let done = set_key_short s.object (asked g) in
+      let done = set_key_short s.object (asked g) (given_limits blind caps lay s (Readable ∷ Readable ∷ []) 1 g e ∙ p) in
       omega arith
-  call_leaves MapRm s g e =
-      let done = remove_key_short s.object (asked g) in
+  call_leaves MapRm s g p e =
+      let done = remove_key_short s.object (asked g) (given_limits blind caps lay s (Readable ∷ []) 1 g e ∙ p) in
       let l = least in
       omega arith
-  call_leaves MapNext s g e = nothing_left MapNext s g 0 (omega arith) (omega arith)
-  call_leaves OutLen s g e = nothing_left OutLen s g 0 (omega arith) (omega arith)
-  call_leaves Create s g e = nothing_left Create s g 1 (omega arith) (created_length s.object)
-  call_leaves Caller s g e = nothing_left Caller s g 0 (omega arith) (omega arith)
-  call_leaves Compare s g e = nothing_left Compare s g 0 (omega arith) (omega arith)
-  call_leaves Copy s g e = nothing_left Copy s g 0 (omega arith) (omega arith)
-  call_leaves XattrNext s g e = nothing_left XattrNext s g 0 (omega arith) (omega arith)
+  call_leaves MapNext s g p e = nothing_left MapNext s g 0 (omega arith) (omega arith)
+  call_leaves OutLen s g p e = nothing_left OutLen s g 0 (omega arith) (omega arith)
+  call_leaves Create s g p e = nothing_left Create s g 1 (omega arith) (created_length s.object)
+  call_leaves Caller s g p e = nothing_left Caller s g 0 (omega arith) (omega arith)
+  call_leaves Compare s g p e = nothing_left Compare s g 0 (omega arith) (omega arith)
+  call_leaves Copy s g p e = nothing_left Copy s g 0 (omega arith) (omega arith)
+  call_leaves XattrNext s g p e = nothing_left XattrNext s g 0 (omega arith) (omega arith)
 
-  called_leaves : (id : ℕ) (s : State ℕ) (g : Given) → given_in caps lay id s ≡ Some g → 4 * list_length (edits id s.object (asked g)) ≤ weight most s + most
-  called_leaves id s g e = by (helper_of id) e
+  called_leaves : (id : ℕ) (s : State ℕ) (g : Given) → s.limits ≡ profile → given_in caps lay id s ≡ Some g → 4 * list_length (edits id s.object (asked g)) ≤ weight most s + most
+  called_leaves id s g p e = by (helper_of id) e
     where
       by : (h : Option Helper) → (option_map (λ h. (row h).takes) h >>= λ takes. only (not takes.writes || caps.writes) (arguments caps lay s takes.arguments 1)) ≡ Some g → 4 * list_length (edits_of h s.object (asked g)) ≤ weight most s + most
       by None e = absurd (none-some g e)
       by (Some h) e =
-          call_leaves h s g (only_some (not (row h).takes.writes || caps.writes) (arguments caps lay s (row h).takes.arguments 1) g e)
+          call_leaves h s g p (only_some (not (row h).takes.writes || caps.writes) (arguments caps lay s (row h).takes.arguments 1) g e)
 
   -- ---- along a run
   -- four times the bytes so far, and what the set registers count
   record Counts (s t : State ℕ) (before : List Edit) : Type 0 where
     list : List Edit
     kept : t.edits ≡ Some list
+    limits : t.limits ≡ profile
     most_bytes : 4 * list_length list + weight most t ≤ 4 * list_length before + weight most s + most
 
-  step_counts : (is : List Insn) (s t : State ℕ) (es : List Edit) → s.edits ≡ Some es → Stepped caps lay is s t → Counts s t es
-  step_counts is s t es kept (Stepped.plain i other at e) =
+  step_counts : (is : List Insn) (s t : State ℕ) (es : List Edit) → s.limits ≡ profile → s.edits ≡ Some es → Stepped caps lay is s t → Counts s t es
+  step_counts is s t es p kept (Stepped.plain i other at e) =
       let gained = (gains most s caps lay i other).by t e in
       record {
         list = es;
-        kept = ap (λ (u : State ℕ). u.edits) (leaves_both caps lay i s t other e) ∙ kept;
+        kept = ap (λ (u : State ℕ). u.edits) (plain_leaves blind caps lay i s t other e) ∙ kept;
+        limits = ap (λ (u : State ℕ). u.limits) (plain_leaves blind caps lay i s t other e) ∙ p;
         most_bytes = omega arith;
       }
-  step_counts is s t es kept (Stepped.called id g at is_given left) =
+  step_counts is s t es p kept (Stepped.called id g at is_given left) =
       let more = edits id s.object (asked g) in
       let u : State ℕ = go (s.slot + 1) (helped id s g) in
       let none_set : weight most u ≡ 0 = omega arith in
       let same : weight most u ≡ weight most t = ap (weight most) left in
-      let leaves = called_leaves id s g is_given in
+      let leaves = called_leaves id s g p is_given in
       let joined : list_length (es ++ more) ≡ list_length es + list_length more = ap length (flat_map-append edit_bytes es more) ∙ length-append (spelled es) (spelled more) in
       record {
         list = es ++ more;
         kept = sym (ap (λ (u : State ℕ). u.edits) left) ∙ ap (with_edits more) kept;
+        limits = sym (ap (λ (u : State ℕ). u.limits) left) ∙ p;
         most_bytes = omega arith;
       }
 
@@ -410,13 +406,13 @@ module _ (caps : Caps) (lay : Layout) where
     kept : l.edits ≡ Some list
     most_bytes : 4 * list_length list + weight most l ≤ 4 * list_length before + weight most s + most * n
 
-  chain_counts : BytesAreInstructions → ElsewhereIsStuck → (is : List Insn) → AllFit is → (n : ℕ) (s l : State ℕ) (es : List Edit) → s.edits ≡ Some es → Chain caps lay (spelling is) n s l → CountsOn n s l es
-  chain_counts begins elsewhere is fit zero s l es kept c =
+  chain_counts : BytesAreInstructions → ElsewhereIsStuck → (is : List Insn) → AllFit is → (n : ℕ) (s l : State ℕ) (es : List Edit) → s.limits ≡ profile → s.edits ≡ Some es → Chain caps lay (spelling is) n s l → CountsOn n s l es
+  chain_counts begins elsewhere is fit zero s l es p kept c =
       let same : weight most s ≡ weight most l = ap (weight most) c in
       record { list = es; kept = sym (ap (λ (u : State ℕ). u.edits) c) ∙ kept; most_bytes = omega arith }
-  chain_counts begins elsewhere is fit (suc n) s l es kept c =
-      let first = step_counts is s c.0 es kept (stepped caps lay is fit begins elsewhere s c.0 c.1) in
-      let rest = chain_counts begins elsewhere is fit n c.0 l first.list first.kept c.2 in
+  chain_counts begins elsewhere is fit (suc n) s l es p kept c =
+      let first = step_counts is s c.0 es p kept (stepped caps lay is fit begins elsewhere s c.0 c.1) in
+      let rest = chain_counts begins elsewhere is fit n c.0 l first.list first.limits first.kept c.2 in
       let one_more : most * suc n ≡ most * n + most = mul-suc most n in
       let one = first.most_bytes in
       let others = rest.most_bytes in
@@ -432,13 +428,13 @@ at_exit v s es kept = by (nat_lt v (2 ^ 63))
         subst (λ (o : Option (List Edit)). list_length (unwrap_or o []) ≤ list_length es) (sym kept) (omega arith)
     by false = no_length (list_length es)
 
-pub lists_are_bounded : BytesAreInstructions → ElsewhereIsStuck → ListsAreBounded
-lists_are_bounded begins elsewhere m is_method lay object caller input outcome steps list l =
+pub lists_are_bounded : StepsAreBlind → BytesAreInstructions → ElsewhereIsStuck → ListsAreBounded
+lists_are_bounded blind begins elsewhere m is_method lay object caller input outcome steps list l =
     let caps = caps_of m in
     let c = most_of_call caps in
     let first = listed_entry caps lay object caller input in
     let e = l.ends in
-    let k = chain_counts caps lay begins elsewhere m.instructions is_method.fit e.before_exit first e.last [] refl e.chain in
+    let k = chain_counts blind caps lay begins elsewhere m.instructions is_method.fit e.before_exit first e.last [] refl refl e.chain in
     let counted = e.counted in
     let all : steps + 2 ≡ e.before_exit + 3 = omega arith in
     let three : c * (steps + 2) ≡ c * e.before_exit + c * 3 = ap (λ (n : ℕ). c * n) all ∙ mul-add c e.before_exit 3 in
@@ -474,8 +470,8 @@ below n c steps most h less few =
     let product = mul-le c (steps + 2) most 4098 less (omega arith) in
     omega arith
 
-pub lists_are_short : BytesAreInstructions → ElsewhereIsStuck → HasLayout → ListsAreShort
-lists_are_short begins elsewhere layouts rules m is_method within object caller input outcome steps list few lists =
+pub lists_are_short : StepsAreBlind → BytesAreInstructions → ElsewhereIsStuck → HasLayout → ListsAreShort
+lists_are_short blind begins elsewhere layouts rules m is_method within object caller input outcome steps list few lists =
     by rules within.in_cap within.out_cap
   where
     steps_few : steps ≤ 4096
@@ -483,7 +479,7 @@ lists_are_short begins elsewhere layouts rules m is_method within object caller 
 
     bounded : 4 * list_length list ≤ most_of_call (caps_of m) * (steps + 2)
     bounded =
-        lists_are_bounded begins elsewhere m is_method (first_layout (caps_of m)) object caller input outcome steps list
+        lists_are_bounded blind begins elsewhere m is_method (first_layout (caps_of m)) object caller input outcome steps list
         (lists (first_layout (caps_of m)) (layouts (caps_of m) (omega (arith, is_method.in_cap)) (omega (arith, is_method.out_cap))))
 
     by : (rules : RuleSet) → m.in_cap ≤ capacity_limit rules → m.out_cap ≤ capacity_limit rules → list_length list < list_limit rules

@@ -9,10 +9,10 @@ use Rattle.bpf_machine.specs.Typed.{fetch}
 use Rattle.helpers.specs.declared.helper.Helper.{Helper}
 use Rattle.helpers.specs.Table.{helper_of}
 use Rattle.footprint.specs.declared.parts.Parts.{Parts}
-use Rattle.footprint.specs.declared.scan.Deed.{Deed}
-use Rattle.footprint.specs.declared.scan.Deed.TheVariants.{Bytes, Xattrs, Keys, Removal, Creation}
+use Rattle.footprint.specs.declared.scan.Touch.{Touch}
+use Rattle.footprint.specs.declared.scan.Touch.TheVariants.{Bytes, Xattrs, Keys, Removal, Creation}
 use Rattle.footprint.specs.Parts.{Covers}
-use Rattle.footprint.specs.Needed.{does, helper_does, calls_such, calls, renews, needed}
+use Rattle.footprint.specs.Needed.{touches, helper_touches, calls_such, calls, renews, needed}
 use Rattle.footprint.proofs.Helpers.{MayCall}
 use Rattle.footprint.proofs.Steps.{MayDo}
 
@@ -23,15 +23,15 @@ later (suc m) zero xs i e = absurd (none-some i e)
 later (suc m) (suc k) xs i e = later m k xs i e
 
 -- an instruction at a slot is one of the code
-pub found : (deed : Deed) (is : List Insn) (k : ℕ) (i : Insn) → fetch (slots is) k ≡ Some i → calls_such deed i ≡ true → calls deed is ≡ true
-found deed [] k i e c = absurd (none-some i e)
-found deed (j ∷ is) zero i e c =
-    ap (λ (b : Bool). if b then true else calls deed is) (ap (calls_such deed) (same_Some j i e) ∙ c)
-found deed (j ∷ is) (suc k) i e c =
+pub found : (touch : Touch) (is : List Insn) (k : ℕ) (i : Insn) → fetch (slots is) k ≡ Some i → calls_such touch i ≡ true → calls touch is ≡ true
+found touch [] k i e c = absurd (none-some i e)
+found touch (j ∷ is) zero i e c =
+    ap (λ (b : Bool). if b then true else calls touch is) (ap (calls_such touch) (same_Some j i e) ∙ c)
+found touch (j ∷ is) (suc k) i e c =
     let l = later (slot_count j - 1) k (slots is) i e in
-    either (calls_such deed j) (found deed is l.0 i l.1 c)
+    either (calls_such touch j) (found touch is l.0 i l.1 c)
   where
-    either : (b : Bool) → calls deed is ≡ true → (if b then true else calls deed is) ≡ true
+    either : (b : Bool) → calls touch is ≡ true → (if b then true else calls touch is) ≡ true
     either true h = refl
     either false h = h
 
@@ -57,8 +57,8 @@ module _ (is : List Insn) (kept : Parts) (covers : Covers kept (needed is)) (onc
     creation = λ e. does_it Creation e;
   }
     where
-      does_it : (deed : Deed) → does deed h ≡ true → calls deed is ≡ true
-      does_it deed e = found deed is k (Call id) at (ap (helper_does deed) named ∙ e)
+      does_it : (touch : Touch) → touches touch h ≡ true → calls touch is ≡ true
+      does_it touch e = found touch is k (Call id) at (ap (helper_touches touch) named ∙ e)
 
   pub may_do : (k : ℕ) (i : Insn) → fetch (slots is) k ≡ Some i → MayDo kept (calls Creation is) i
   may_do k (Alu bits operation dst source) at = tt

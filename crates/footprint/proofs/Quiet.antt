@@ -21,11 +21,12 @@ use Rattle.bpf_machine.specs.Helper.{asked}
 use Rattle.bpf_machine.specs.Flat.{Layout, Chain}
 use Rattle.bpf_machine.specs.Lists.{ListsAtExit, listed_entry}
 use Rattle.bpf_machine.specs.Typed.{fetch}
+use Rattle.bpf_machine.specs.Blind.{StepsAreBlind}
 use Rattle.bpf_machine.specs.Safe.{caps_of, BytesAreInstructions, ElsewhereIsStuck, HasLayout, first_layout}
 use Rattle.footprint.specs.Calls.{writes_by, may_change}
 use Rattle.footprint.specs.Lengths.{ChangesNothing, NoChangeLeavesNothing, OnlyReads, ReadersLeaveNothing}
 use Rattle.footprint.proofs.Calls.{later, false_true}
-use Rattle.footprint.proofs.Moves.{helped, leaves_both, Stepped, stepped}
+use Rattle.footprint.proofs.Moves.{helped, plain_leaves, Stepped, stepped}
 
 -- ---- a helper that changes nothing leaves no edits
 none : (n : ℕ) → if_done n [] ≡ []
@@ -66,10 +67,10 @@ quiet_edits id o g n = by (helper_of id) n
     by (Some h) n = quiet h o g n
 
 -- ---- so the list stays empty
-module _ (begins : BytesAreInstructions) (elsewhere : ElsewhereIsStuck) (caps : Caps) (lay : Layout) (is : List Insn) (fit : AllFit is) where
+module _ (blind : StepsAreBlind) (begins : BytesAreInstructions) (elsewhere : ElsewhereIsStuck) (caps : Caps) (lay : Layout) (is : List Insn) (fit : AllFit is) where
   -- the rest of a run in which each helper that may change the object answers a negative number
   step_quiet : (s t : State ℕ) → ((id answer : ℕ) → fetch (slots is) s.slot ≡ Some (Call id) → may_change id ≡ true → reg t 0 ≡ Some answer → 2 ^ 63 ≤ answer) → Stepped caps lay is s t → s.edits ≡ Some [] → t.edits ≡ Some []
-  step_quiet s t n (Stepped.plain i other at e) kept = ap (λ (u : State ℕ). u.edits) (leaves_both caps lay i s t other e) ∙ kept
+  step_quiet s t n (Stepped.plain i other at e) kept = ap (λ (u : State ℕ). u.edits) (plain_leaves blind caps lay i s t other e) ∙ kept
   step_quiet s t n (Stepped.called id g at is_given same) kept =
       let u : State ℕ = go (s.slot + 1) (helped id s g) in
       let empty = quiet_edits id s.object (asked g) (λ writes. n id (effect id s.object (asked g)).answer at writes (ap (λ (v : State ℕ). reg v 0) (sym same))) in
@@ -89,9 +90,9 @@ module _ (begins : BytesAreInstructions) (elsewhere : ElsewhereIsStuck) (caps : 
       by true = ap (λ (es : Option (List Edit)). unwrap_or es []) (chain_quiet l.ends.before_exit s l.ends.last h l.ends.chain kept)
       by false = refl
 
-pub no_change_leaves_nothing : BytesAreInstructions → ElsewhereIsStuck → NoChangeLeavesNothing
-no_change_leaves_nothing begins elsewhere m is_method lay object caller input outcome steps list h l =
-    ends_quiet begins elsewhere (caps_of m) lay m.instructions is_method.fit object (listed_entry (caps_of m) lay object caller input) outcome steps list h l refl
+pub no_change_leaves_nothing : StepsAreBlind → BytesAreInstructions → ElsewhereIsStuck → NoChangeLeavesNothing
+no_change_leaves_nothing blind begins elsewhere m is_method lay object caller input outcome steps list h l =
+    ends_quiet blind begins elsewhere (caps_of m) lay m.instructions is_method.fit object (listed_entry (caps_of m) lay object caller input) outcome steps list h l refl
 
 -- ---- code that calls no helper which may change the object
 -- what holds of each instruction holds of one at a slot
@@ -100,10 +101,10 @@ of_each P [] k i all e = absurd (none-some i e)
 of_each P (j ∷ is) zero i all e = subst P (same_Some j i e) all.0
 of_each P (j ∷ is) (suc k) i all e = let l = later (slot_count j - 1) k (slots is) i e in of_each P is l.0 i all.1 l.1
 
-pub readers_leave_nothing : BytesAreInstructions → ElsewhereIsStuck → HasLayout → ReadersLeaveNothing
-readers_leave_nothing begins elsewhere layouts m is_method reads object caller input outcome steps list lists =
+pub readers_leave_nothing : StepsAreBlind → BytesAreInstructions → ElsewhereIsStuck → HasLayout → ReadersLeaveNothing
+readers_leave_nothing blind begins elsewhere layouts m is_method reads object caller input outcome steps list lists =
     let caps = caps_of m in
     let lay = first_layout caps in
-    no_change_leaves_nothing begins elsewhere m is_method lay object caller input outcome steps list
+    no_change_leaves_nothing blind begins elsewhere m is_method lay object caller input outcome steps list
     (λ n s t id answer way at writes st answers. false_true (sym (of_each OnlyReads m.instructions s.slot (Call id) reads at) ∙ writes))
     (lists lay (layouts caps (omega (arith, is_method.in_cap)) (omega (arith, is_method.out_cap))))

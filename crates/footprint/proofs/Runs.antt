@@ -12,12 +12,13 @@ use Rattle.bpf_machine.specs.State.{State, Outcome, outcome_of, Ending, Ended, S
 use Rattle.txn.specs.Edits.{Edit, all_edited}
 use Rattle.helpers.specs.Edits.{EditsLead}
 use Rattle.bpf_machine.specs.Flat.{Layout, IsLayout, Chain, EndsAtExit, step, exit_code, run, entry}
-use Rattle.bpf_machine.specs.Lists.{list_of, Lists, ListsAtExit, listed_entry}
+use Rattle.bpf_machine.specs.Lists.{Lists, ListsAtExit, listed_entry}
 use Rattle.bpf_machine.specs.Typed.{fetch}
 use Rattle.bpf_machine.specs.Decoded.{insn_act, insn_exit_of}
+use Rattle.bpf_machine.specs.Blind.{StepsAreBlind}
 use Rattle.bpf_machine.specs.Safe.{caps_of, RunsTo, RunsAreChains, BytesAreInstructions, ElsewhereIsStuck, HasLayout, first_layout}
 use Rattle.footprint.specs.declared.parts.Parts.{Parts}
-use Rattle.footprint.specs.declared.scan.Deed.TheVariants.{Creation}
+use Rattle.footprint.specs.declared.scan.Touch.TheVariants.{Creation}
 use Rattle.footprint.specs.Parts.{reduced, restored, Covers}
 use Rattle.footprint.specs.Needed.{calls, renews, needed}
 use Rattle.footprint.specs.Frame.{whole_outcome, Frames, ListFrames}
@@ -69,7 +70,7 @@ one_less (Ended p j) o k e =
 one_less Stuck o k e = stuck_not o k e
 one_less Unfinished o k e = unfinished_not o k e
 
-module _ (law : EditsLead) (caps : Caps) (lay : Layout) (is : List Insn) (fit : AllFit is) (begins : BytesAreInstructions) (elsewhere : ElsewhereIsStuck) (kept : Parts) (whole : PlainObject) (creates listing : Bool) (may : (k : ℕ) (i : Insn) → fetch (slots is) k ≡ Some i → MayDo kept creates i) where
+module _ (blind : StepsAreBlind) (law : EditsLead) (caps : Caps) (lay : Layout) (is : List Insn) (fit : AllFit is) (begins : BytesAreInstructions) (elsewhere : ElsewhereIsStuck) (kept : Parts) (whole : PlainObject) (creates listing : Bool) (may : (k : ℕ) (i : Insn) → fetch (slots is) k ≡ Some i → MayDo kept creates i) where
   abbrev Good : State ℕ → Type 0
   Good s = IsGood kept whole creates listing s
 
@@ -135,9 +136,9 @@ module _ (law : EditsLead) (caps : Caps) (lay : Layout) (is : List Insn) (fit : 
       sym (ap (λ (x : Option ℕ). ends (reduced kept whole) s x (goes_on (step caps lay (spelling is) s) more)) a.exits
       ∙ ap (λ (y : Option (State ℕ)). ends (reduced kept whole) s (insn_exit_of caps lay i s) (goes_on y more)) a.acts)
       ∙ e in
-      let both = here s (insn_exit_of caps lay i s) (insn_act caps lay i s) (insn_act caps lay i (up s)) more more' g (acts law caps lay kept whole creates listing i s (may s.slot i f) g) r o k from in
+      let both = here s (insn_exit_of caps lay i s) (insn_act caps lay i s) (insn_act caps lay i (up s)) more more' g (acts blind law caps lay kept whole creates listing i s (may s.slot i f) g) r o k from in
       record {
-        ended = ap (λ (x : Option ℕ). ends whole (up s) x (goes_on (step caps lay (spelling is) (up s)) more')) (b.exits ∙ exits law caps lay kept whole creates listing i s)
+        ended = ap (λ (x : Option ℕ). ends whole (up s) x (goes_on (step caps lay (spelling is) (up s)) more')) (b.exits ∙ exits blind law caps lay kept whole creates listing i s)
             ∙ ap (λ (y : Option (State ℕ)). ends whole (up s) (insn_exit_of caps lay i s) (goes_on y more')) b.acts
             ∙ both.ended;
         empty = both.empty;
@@ -156,7 +157,7 @@ module _ (law : EditsLead) (caps : Caps) (lay : Layout) (is : List Insn) (fit : 
       by (Some i) f =
           let a = begins caps lay is fit s i f in
           let b = begins caps lay is fit (up s) i f in
-          let l = (acts law caps lay kept whole creates listing i s (may s.slot i f) g).by t (sym a.acts ∙ e) in
+          let l = (acts blind law caps lay kept whole creates listing i s (may s.slot i f) g).by t (sym a.acts ∙ e) in
           (l.0, b.acts ∙ l.1)
 
   chain_lifts : (n : ℕ) (s l : State ℕ) → Good s → Chain caps lay (spelling is) n s l → Good l × Chain caps lay (spelling is) n (up s) (up l)
@@ -173,7 +174,7 @@ module _ (law : EditsLead) (caps : Caps) (lay : Layout) (is : List Insn) (fit : 
       by None f = absurd (none-some v (sym (elsewhere caps lay is s f).no_exit ∙ e))
       by (Some i) f =
           (begins caps lay is fit (up s) i f).exits
-          ∙ exits law caps lay kept whole creates listing i s
+          ∙ exits blind law caps lay kept whole creates listing i s
           ∙ sym (begins caps lay is fit s i f).exits
           ∙ e
 
@@ -241,7 +242,7 @@ frames_all m whole caller input outcome steps runs = record {
   empty = reduced_all outcome.object;
 }
 
-module _ (law : EditsLead) (chains : RunsAreChains) (begins : BytesAreInstructions) (elsewhere : ElsewhereIsStuck) (layouts : HasLayout) (m : ClassMethod) (is_method : IsMethod m) (kept : Parts) (covers : Covers kept (needed m.instructions)) (whole : PlainObject) (caller : ℕ) (input : List ℕ) (outcome : Outcome) (steps : ℕ) (reduced_runs : RunsTo m (reduced kept whole) caller input outcome steps) where
+module _ (blind : StepsAreBlind) (law : EditsLead) (chains : RunsAreChains) (begins : BytesAreInstructions) (elsewhere : ElsewhereIsStuck) (layouts : HasLayout) (m : ClassMethod) (is_method : IsMethod m) (kept : Parts) (covers : Covers kept (needed m.instructions)) (whole : PlainObject) (caller : ℕ) (input : List ℕ) (outcome : Outcome) (steps : ℕ) (reduced_runs : RunsTo m (reduced kept whole) caller input outcome steps) where
   abbrev caps : Caps
   caps = caps_of m
 
@@ -254,7 +255,7 @@ module _ (law : EditsLead) (chains : RunsAreChains) (begins : BytesAreInstructio
         let creates = calls Creation m.instructions in
         let first = entry caps lay (reduced kept whole) caller input in
         let ends = (chains caps lay code (reduced kept whole) steps first outcome steps).1 (omega arith, reduced_runs lay ok) in
-        let both = runs law caps lay m.instructions is_method.fit begins elsewhere kept whole creates false (may_do m.instructions kept covers once) steps first (is_reduced kept creates whole, refl) outcome steps ends in
+        let both = runs blind law caps lay m.instructions is_method.fit begins elsewhere kept whole creates false (may_do m.instructions kept covers once) steps first (is_reduced kept creates whole, refl, refl) outcome steps ends in
         let same : run caps lay code whole steps (entry caps lay whole caller input) ≡ Ended (whole_outcome kept whole outcome) steps =
         ap (λ (w : PlainObject). run caps lay code whole steps (entry caps lay w caller input)) (sym (restored_reduced kept whole)) ∙ both.ended in
         let back = (chains caps lay code whole steps (entry caps lay whole caller input) (whole_outcome kept whole outcome) steps).0 same in
@@ -288,7 +289,7 @@ list_frames_all m whole caller input outcome steps list lists leads = record {
       (subst (λ (x : PlainObject). all_edited list x ≡ Ok outcome.object) (reduced_all whole) leads);
 }
 
-module _ (law : EditsLead) (chains : RunsAreChains) (begins : BytesAreInstructions) (elsewhere : ElsewhereIsStuck) (layouts : HasLayout) (m : ClassMethod) (is_method : IsMethod m) (kept : Parts) (covers : Covers kept (needed m.instructions)) (whole : PlainObject) (caller : ℕ) (input : List ℕ) (outcome : Outcome) (steps : ℕ) (list : List Edit) (reduced_lists : Lists m (reduced kept whole) caller input outcome steps list) (reduced_leads : all_edited list (reduced kept whole) ≡ Ok outcome.object) where
+module _ (blind : StepsAreBlind) (law : EditsLead) (chains : RunsAreChains) (begins : BytesAreInstructions) (elsewhere : ElsewhereIsStuck) (layouts : HasLayout) (m : ClassMethod) (is_method : IsMethod m) (kept : Parts) (covers : Covers kept (needed m.instructions)) (whole : PlainObject) (caller : ℕ) (input : List ℕ) (outcome : Outcome) (steps : ℕ) (list : List Edit) (reduced_lists : Lists m (reduced kept whole) caller input outcome steps list) (reduced_leads : all_edited list (reduced kept whole) ≡ Ok outcome.object) where
   abbrev listed_caps : Caps
   listed_caps = caps_of m
 
@@ -301,12 +302,12 @@ module _ (law : EditsLead) (chains : RunsAreChains) (begins : BytesAreInstructio
         let creates = calls Creation m.instructions in
         let may = may_do m.instructions kept covers once in
         let first = listed_entry listed_caps lay (reduced kept whole) caller input in
-        let good : IsGood kept whole creates true first = (is_reduced kept creates whole, ap Ok (sym (restored_reduced kept whole))) in
+        let good : IsGood kept whole creates true first = (is_reduced kept creates whole, ap Ok (sym (restored_reduced kept whole)), refl) in
         let l = reduced_lists lay ok in
         let ends = (chains listed_caps lay listed_code (reduced kept whole) steps first outcome steps).1 (omega arith, l.ends) in
-        let both = runs law listed_caps lay m.instructions is_method.fit begins elsewhere kept whole creates true may steps first good outcome steps ends in
+        let both = runs blind law listed_caps lay m.instructions is_method.fit begins elsewhere kept whole creates true may steps first good outcome steps ends in
         let back = (chains listed_caps lay listed_code whole steps (lift kept whole creates true first) (whole_outcome kept whole outcome) steps).0 both.ended in
-        let b = both_list law listed_caps lay m.instructions is_method.fit begins elsewhere kept whole creates true may first outcome steps list refl good l back.1 in (
+        let b = both_list blind law listed_caps lay m.instructions is_method.fit begins elsewhere kept whole creates true may first outcome steps list refl good l back.1 in (
           subst (λ (w : PlainObject). ListsAtExit listed_caps lay listed_code whole (listed_entry listed_caps lay w caller input) (whole_outcome kept whole outcome) steps list) (restored_reduced kept whole) b.lists,
           b.leads,
         )

@@ -19,48 +19,48 @@ use Rattle.helpers.specs.declared.helper.Helper.TheVariants.{Stat, Read, Write, 
 use Rattle.helpers.specs.declared.helper.Helper.TheVariants.{RmXattr, MapGet, MapSet, MapRm, MapNext, Create, XattrNext}
 use Rattle.helpers.specs.Table.{helper_of}
 use Rattle.footprint.specs.declared.parts.Parts.{Parts}
-use Rattle.footprint.specs.declared.scan.Deed.{Deed}
-use Rattle.footprint.specs.declared.scan.Deed.TheVariants.{Bytes, Xattrs, Keys, Removal, Creation}
+use Rattle.footprint.specs.declared.scan.Touch.{Touch}
+use Rattle.footprint.specs.declared.scan.Touch.TheVariants.{Bytes, Xattrs, Keys, Removal, Creation}
 
--- what a helper may do
-abbrev pub does : Deed → Helper → Bool
-does Bytes Stat = true
-does Bytes Read = true
-does Bytes Write = true
-does Bytes Truncate = true
-does Bytes h = false
-does Xattrs GetXattr = true
-does Xattrs SetXattr = true
-does Xattrs RmXattr = true
-does Xattrs XattrNext = true
-does Xattrs h = false
-does Keys MapGet = true
-does Keys MapSet = true
-does Keys MapRm = true
-does Keys MapNext = true
-does Keys h = false
-does Removal Remove = true
-does Removal h = false
-does Creation Write = true
-does Creation SetXattr = true
-does Creation MapSet = true
-does Creation Create = true
-does Creation h = false
+-- how a helper may touch an object
+abbrev pub touches : Touch → Helper → Bool
+touches Bytes Stat = true
+touches Bytes Read = true
+touches Bytes Write = true
+touches Bytes Truncate = true
+touches Bytes h = false
+touches Xattrs GetXattr = true
+touches Xattrs SetXattr = true
+touches Xattrs RmXattr = true
+touches Xattrs XattrNext = true
+touches Xattrs h = false
+touches Keys MapGet = true
+touches Keys MapSet = true
+touches Keys MapRm = true
+touches Keys MapNext = true
+touches Keys h = false
+touches Removal Remove = true
+touches Removal h = false
+touches Creation Write = true
+touches Creation SetXattr = true
+touches Creation MapSet = true
+touches Creation Create = true
+touches Creation h = false
 
--- an instruction calls a helper that does it
-abbrev pub helper_does : Deed → Option Helper → Bool
-helper_does deed None = false
-helper_does deed (Some h) = does deed h
+-- the same of what may be a helper
+abbrev pub helper_touches : Touch → Option Helper → Bool
+helper_touches touch None = false
+helper_touches touch (Some h) = touches touch h
 
 -- an instruction is a call of such a helper
-abbrev pub calls_such : Deed → Insn → Bool
-calls_such deed (Call id) = helper_does deed (helper_of id)
-calls_such deed i = false
+abbrev pub calls_such : Touch → Insn → Bool
+calls_such touch (Call id) = helper_touches touch (helper_of id)
+calls_such touch i = false
 
 -- one of the instructions calls such a helper
-abbrev pub calls : Deed → List Insn → Bool
-calls deed [] = false
-calls deed (i ∷ is) = if calls_such deed i then true else calls deed is
+abbrev pub calls : Touch → List Insn → Bool
+calls touch [] = false
+calls touch (i ∷ is) = if calls_such touch i then true else calls touch is
 
 -- it may remove an object and create it again
 abbrev pub renews : List Insn → Bool

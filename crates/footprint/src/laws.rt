@@ -5,7 +5,7 @@ ghost use Rattle.footprint.specs.Frame.{FrameLaw, ListFrameLaw};
 ghost use Rattle.footprint.specs.Lengths.{EditsAreShort, ListsAreBounded, ListsAreShort, NoChangeLeavesNothing};
 ghost use Rattle.footprint.specs.Lengths.{ReadersLeaveNothing};
 
-use bpf_machine::{chains, decoded, layouts};
+use bpf_machine::{blind_steps, chains, decoded, layouts};
 use helpers::edits_lead;
 
 /// A law. If a run of a method ends on an object without parts that the method's code doesn't need,
@@ -20,6 +20,8 @@ pub fn frame()
     chains();
     // For the proof: a step on the bytes is the step of the instruction that begins there.
     decoded();
+    // For the proof: only a call of a helper looks at the object or the list, or changes them.
+    blind_steps();
     // For the proof: there is a layout for all capacities.
     layouts();
     // For the proof: a helper's edits make of the object before the object after.
@@ -37,6 +39,8 @@ pub fn answers_decide_lists()
 {
     // For the proof: a step on the bytes is the step of the instruction that begins there.
     decoded();
+    // For the proof: only a call of a helper looks at the object or the list, or changes them.
+    blind_steps();
 }
 
 /// A law. A helper's edits have at most 14 bytes beside the name and the text that it was given. A
@@ -54,6 +58,8 @@ pub fn list_lengths()
 {
     // For the proof: a step on the bytes is the step of the instruction that begins there.
     decoded();
+    // For the proof: only a call of a helper looks at the object or the list, or changes them.
+    blind_steps();
     // For the proof: there is a layout for all capacities.
     layouts();
 }

@@ -1,15 +1,16 @@
 //! The scan of a method's code.
 
 ghost use Rattle.std.specs.Prelude.{◌≡◌};
-ghost use Rattle.footprint.specs.Needed.{does, calls_such, calls, needed};
+ghost use Rattle.footprint.specs.Needed.{touches, calls_such, calls, needed};
 
 use crate::parts::Parts;
 use bpf_decode::Insn;
 use helpers::Helper;
 
-/// An effect that a helper may have on an object, or a part that it may read.
+/// How a helper touches an object: a part that it may read or change, or that it may remove or
+/// create the object.
 #[derive(Clone, Copy)]
-enum Deed {
+enum Touch {
     Bytes,
     Xattrs,
     Keys,
@@ -17,50 +18,51 @@ enum Deed {
     Creation,
 }
 
-/// True if a helper does it.
-fn does(helper: Helper, deed: Deed) -> bool
-    ensures { result ≡ does deed helper }
+/// True if a helper touches an object so.
+fn touches(helper: Helper, touch: Touch) -> bool
+    ensures { result ≡ touches touch helper }
 {
-    match deed {
-        Deed::Bytes => matches!(
+    match touch {
+        Touch::Bytes => matches!(
             helper,
             Helper::Stat | Helper::Read | Helper::Write | Helper::Truncate
         ),
-        Deed::Xattrs => matches!(
+        Touch::Xattrs => matches!(
             helper,
             Helper::GetXattr | Helper::SetXattr | Helper::RmXattr | Helper::XattrNext
         ),
-        Deed::Keys => matches!(
+        Touch::Keys => matches!(
             helper,
             Helper::MapGet | Helper::MapSet | Helper::MapRm | Helper::MapNext
         ),
-        Deed::Removal => matches!(helper, Helper::Remove),
-        Deed::Creation => matches!(
+        Touch::Removal => matches!(helper, Helper::Remove),
+        Touch::Creation => matches!(
             helper,
             Helper::Write | Helper::SetXattr | Helper::MapSet | Helper::Create
         ),
     }
 }
 
-/// True if an instruction calls a helper that does it.
-fn calls_such(insn: &Insn, deed: Deed) -> bool
-    ensures { result ≡ calls_such deed insn.now }
+/// True if an instruction calls a helper that touches an object so.
+fn calls_such(insn: &Insn, touch: Touch) -> bool
+    ensures { result ≡ calls_such touch insn.now }
 {
     match insn {
         Insn::Call { helper } => match Helper::of(*helper) {
-            Some(helper) => does(helper, deed),
+            Some(helper) => touches(helper, touch),
             None => false,
         },
+        // No other instruction calls a helper.
         _ => false,
     }
 }
 
-/// True if code calls a helper that does it.
-fn calls(code: &[Insn], deed: Deed) -> bool
-    ensures { result ≡ calls deed code.now }
+/// True if code calls a helper that touches an object so.
+fn calls(code: &[Insn], touch: Touch) -> bool
+    ensures { result ≡ calls touch code.now }
 {
     for insn in code {
-        if calls_such(insn, deed) {
+        if calls_such(insn, touch) {
             return true;
         }
     }
@@ -74,10 +76,10 @@ pub fn needed(code: &[Insn]) -> Parts
     ensures { result ≡ needed code.now }
 {
     // The order of the two in the code doesn't count: a jump may lead from either to the other.
-    let renews = calls(code, Deed::Removal) && calls(code, Deed::Creation);
+    let renews = calls(code, Touch::Removal) && calls(code, Touch::Creation);
     Parts {
-        bytes: renews || calls(code, Deed::Bytes),
-        xattrs: renews || calls(code, Deed::Xattrs),
-        keys: renews || calls(code, Deed::Keys),
+        bytes: renews || calls(code, Touch::Bytes),
+        xattrs: renews || calls(code, Touch::Xattrs),
+        keys: renews || calls(code, Touch::Keys),
     }
 }

@@ -1,5 +1,5 @@
 -- What a call found is what its class answers.
-use Rattle.std.proofs.Common.{◌≡◌, ℕ, ℤ, List, Result, Ok, Err, IfOk, IfErr, inl, inr}
+use Rattle.std.proofs.Common.{ℕ, ℤ, List, Result, Ok, Err, IfOk, IfErr, inl, inr}
 use Rattle.bpf_decode.specs.Class.{ClassMethod}
 use Rattle.class_calls.specs.Answers.{IsAnsweredBy, RefusesMethod}
 use Rattle.class_calls.specs.declared.answer.Answer.{Answer}

@@ -1,3 +1,4 @@
 pub mod Goes
 pub mod Words
 pub mod Found
+pub mod FoundPart

@@ -13,7 +13,7 @@ use std::alloc::Global;
 
 /// Writes the output and then the edits, if there is room for both. If there isn't, nothing is
 /// written.
-fn write_out(answer: &Answer, out: &mut [u8]) -> bool
+pub(crate) fn write_out(answer: &Answer, out: &mut [u8]) -> bool
     ensures { HasRoom answer.now out.old out.new result }
 {
     let output: &[u8] = answer.output.as_slice();
@@ -63,19 +63,31 @@ pub(crate) fn tell(
     }
 }
 
-/// Calls a method of an image's class on an object in its flat form.
-pub(crate) fn call(
+/// Calls a method of the image's class on an object in its flat form: 0, and the buffer begins with
+/// the output and then the edits; 1 or 2 with the reason; -95 no such method; -7 the input is too
+/// long; -22 the bytes are no object's flat form, or `caller` is 2^32 or more; -12; or -34, if the
+/// buffer is too small for what `answer` says. Of several refusals it is the first in this order.
+#[unsafe(no_mangle)]
+pub extern "C" fn sillarnica_call(
     alloc: Global,
     image: &[u8],
-    request: ClassCall,
+    method: &[u8],
+    object: &[u8],
+    caller: u64,
+    input: &[u8],
     refusal: &mut ToldRefusal,
     answer: &mut ToldAnswer,
     out: &mut [u8],
 ) -> i32
-    ensures { TellsCall image.now request.entry.method.now request.entry.object.now request.entry.caller
-        request.entry.input.now refusal.old refusal.new (record { answer = answer.old; out = out.old })
-        (record { answer = answer.new; out = out.new }) result }
+    ensures { TellsCall image.now method.now object.now caller input.now refusal.old refusal.new
+        (record { answer = answer.old; out = out.old }) (record { answer = answer.new; out = out.new }) result }
 {
+    let request = ClassCall {
+        method,
+        object,
+        caller,
+        input,
+    };
     match load(alloc, image) {
         Ok(class) => tell(
             call_on(alloc, &mut Room::new(alloc), &class, request),

@@ -25,16 +25,20 @@ fn find<'a>(class: &'a ClassImage, name: &[u8]) -> Option<&'a Method>
     None
 }
 
-/// Says what a method of an image declares. No verdict is asked for.
-pub(crate) fn declared(
+/// Tells the declaration of a method: its flags (1 reads, 2 writes, 3 both) and the most bytes of
+/// its input and output. Returns 0; 1 if the bytes are no image; -95 if it has no method of that
+/// name; or -12. No rule is asked.
+#[unsafe(no_mangle)]
+pub extern "C" fn sillarnica_method(
     alloc: Global,
     image: &[u8],
-    name: &[u8],
+    method: &[u8],
     flags: &mut u32,
     in_cap: &mut u32,
     out_cap: &mut u32,
 ) -> i32
-    ensures { TellsMethod image.now name.now (record { flags = flags.old; in_cap = in_cap.old; out_cap = out_cap.old })
+    ensures { TellsMethod image.now method.now
+        (record { flags = flags.old; in_cap = in_cap.old; out_cap = out_cap.old })
         (record { flags = flags.new; in_cap = in_cap.new; out_cap = out_cap.new }) result }
 {
     let class = match read_image(alloc, image) {
@@ -46,7 +50,7 @@ pub(crate) fn declared(
             };
         }
     };
-    let Some(method) = find(&class, name) else {
+    let Some(method) = find(&class, method) else {
         return NO_METHOD;
     };
     *flags = u32::from(method.flags());
@@ -55,10 +59,12 @@ pub(crate) fn declared(
     0
 }
 
-/// The parts of an object that a method needs: 1 data, 2 xattrs, 4 keys, added. Refused: no such
-/// method, -95, and -12.
-pub(crate) fn needs(alloc: Global, image: &[u8], name: &[u8]) -> i32
-    ensures { TellsNeeds image.now name.now result }
+/// Returns the parts of an object that a method can see or change: 1 data, 2 xattrs, 4 keys, added.
+/// A call on any object that has these parts of another answers what one on the other does. -95:
+/// there is no such method; -12.
+#[unsafe(no_mangle)]
+pub extern "C" fn sillarnica_needs(alloc: Global, image: &[u8], method: &[u8]) -> i32
+    ensures { TellsNeeds image.now method.now result }
 {
     // For the proof: without the other parts a call answers the same.
     parts_may_be_left_out();
@@ -71,7 +77,7 @@ pub(crate) fn needs(alloc: Global, image: &[u8], name: &[u8]) -> i32
             };
         }
     };
-    match find(&class, name) {
+    match find(&class, method) {
         Some(method) => i32::from(needed(method.instructions()).number()),
         None => NO_METHOD,
     }
@@ -90,8 +96,11 @@ pub(crate) fn tell_method(found: &[u8], declared: Declared, told: &mut ToldMetho
     write_front(found, name);
 }
 
-/// Says what the method of a number declares and needs, and its name. No verdict is asked for.
-pub(crate) fn method_at(
+/// Tells the method of a number, from 0 on: what it declares, the parts of an object that it needs,
+/// the length of its name, and as many bytes of the name as fit. Returns 0; 1 if the bytes are no
+/// image; -95 past the last; or -12. No rule is asked.
+#[unsafe(no_mangle)]
+pub extern "C" fn sillarnica_method_at(
     alloc: Global,
     image: &[u8],
     n: usize,

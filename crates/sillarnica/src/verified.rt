@@ -3,12 +3,14 @@
 ghost use Rattle.std.specs.Prelude.{◌≡◌, ℕ, Some, None};
 ghost use Rattle.sillarnica.specs.Told.{TellsOpen, TellsCopy, TellsHeldCall, TellsHeldMethod, TellsHeldNeeds};
 ghost use Rattle.sillarnica.specs.Held.{IsHeld, open_number};
+ghost use Rattle.sillarnica.specs.Parts.{TellsHeldPartCall, limits_of};
 
 use crate::call::tell;
 use crate::method::{needs_of, tell_method};
 use crate::pointer::ClassPointer;
 use crate::told::{CLOSED, NO_MEMORY, NO_METHOD, ToldAnswer, ToldMethod, ToldRefusal, tell_class};
-use class_calls::{ClassCall, ClassHandle};
+use crate::told_part::{GivenLimits, ToldWant, limits_of, tell_part};
+use class_calls::{ClassCall, ClassHandle, PartCall};
 use std::alloc::Global;
 use std::mem::replace;
 
@@ -53,9 +55,10 @@ fn take(alloc: Global, verified: &mut Verified) -> Box<ClassHandle, Global>
     pointer.into_box()
 }
 
-/// Verifies an image's class and holds it. What was held before isn't looked at, so C may hand in
-/// memory that was never written.
-pub(crate) fn open(
+/// Verifies the image's class and holds it in the handle until it is closed: 0; 1 or 2 with the
+/// reason; or -12. But for 0 the handle is closed then. What it held before isn't looked at.
+#[unsafe(no_mangle)]
+pub extern "C" fn sillarnica_verified_open(
     alloc: Global,
     image: &[u8],
     refusal: &mut ToldRefusal,
@@ -76,8 +79,15 @@ pub(crate) fn open(
     }
 }
 
-/// Makes another handle of the class that is held. What that held before isn't looked at.
-pub(crate) fn copy(alloc: Global, verified: &mut Verified, other: &mut Verified) -> i32
+/// Makes another handle of the class that a handle holds, which both share: for another thread, say.
+/// 0; -9 if the handle is closed; or -12. But for 0 the other is closed then. What it held before
+/// isn't looked at.
+#[unsafe(no_mangle)]
+pub extern "C" fn sillarnica_verified_copy(
+    alloc: Global,
+    verified: &mut Verified,
+    other: &mut Verified,
+) -> i32
     ensures told { TellsCopy verified.old.pointer.class other.new.pointer.class result }
     ensures held { verified.new.pointer.class ≡ verified.old.pointer.class }
 {
@@ -98,30 +108,83 @@ pub(crate) fn copy(alloc: Global, verified: &mut Verified, other: &mut Verified)
     0
 }
 
-/// Calls a method of the class that is held, and holds it again.
-pub(crate) fn call(
+/// Calls a method of the class that the handle holds, which it holds afterwards too: what
+/// `sillarnica_call` answers for an image of that class, but for 1 and 2; or -9, if it is closed.
+#[unsafe(no_mangle)]
+pub extern "C" fn sillarnica_verified_call(
     alloc: Global,
     verified: &mut Verified,
-    request: ClassCall,
+    method: &[u8],
+    object: &[u8],
+    caller: u64,
+    input: &[u8],
     answer: &mut ToldAnswer,
     out: &mut [u8],
 ) -> i32
-    ensures told { TellsHeldCall verified.old.pointer.class request.entry.method.now request.entry.object.now
-        request.entry.caller request.entry.input.now (record { answer = answer.old; out = out.old })
-        (record { answer = answer.new; out = out.new }) result }
+    ensures told { TellsHeldCall verified.old.pointer.class method.now object.now caller input.now
+        (record { answer = answer.old; out = out.old }) (record { answer = answer.new; out = out.new }) result }
     ensures held { verified.new.pointer.class ≡ verified.old.pointer.class }
 {
     if verified.is_open != 1 {
         return CLOSED;
     }
     let mut class = take(alloc, verified);
+    let request = ClassCall {
+        method,
+        object,
+        caller,
+        input,
+    };
     let found = class.call(alloc, request);
     *verified = opened(class);
     tell(found, answer, out)
 }
 
-/// Says what the method of a number declares and needs, and its name.
-pub(crate) fn method_at(
+/// Calls a method of the class that the handle holds on a part of an object, by a host's limits: 0,
+/// and the buffer begins with the output and then the edits, which are those on every object that
+/// agrees with the part; -9 the handle is closed; -95 no such method; -7 the input is too long; -22
+/// `caller` is 2^32 or more, no host may give the limits, or the bytes spell no part that has the
+/// names which they have a number of; -11 `want` says what else is to be known of the object, or -28
+/// one name more would be set than a call can keep; -34 the buffer is too small for what `answer`
+/// says. Of several refusals it is the first in this order; -12 may come in place of any but -9.
+#[unsafe(no_mangle)]
+pub extern "C" fn sillarnica_verified_call_part(
+    alloc: Global,
+    verified: &mut Verified,
+    method: &[u8],
+    part: &[u8],
+    caller: u64,
+    limits: &GivenLimits,
+    input: &[u8],
+    answer: &mut ToldAnswer,
+    want: &mut ToldWant,
+    out: &mut [u8],
+) -> i32
+    ensures told { TellsHeldPartCall verified.old.pointer.class method.now part.now caller (limits_of limits.now)
+        input.now (record { answer = answer.old; want = want.old; out = out.old })
+        (record { answer = answer.new; want = want.new; out = out.new }) result }
+    ensures held { verified.new.pointer.class ≡ verified.old.pointer.class }
+{
+    if verified.is_open != 1 {
+        return CLOSED;
+    }
+    let mut class = take(alloc, verified);
+    let request = PartCall {
+        method,
+        part,
+        caller,
+        limits: limits_of(limits),
+        input,
+    };
+    let found = class.call_part(alloc, request);
+    *verified = opened(class);
+    tell_part(alloc, found, answer, want, out)
+}
+
+/// Tells the method of a number of the class that the handle holds, as `sillarnica_method_at` does:
+/// 0; -95 past the last; or -9, if it is closed.
+#[unsafe(no_mangle)]
+pub extern "C" fn sillarnica_verified_method_at(
     alloc: Global,
     verified: &mut Verified,
     n: usize,
@@ -147,22 +210,29 @@ pub(crate) fn method_at(
     result
 }
 
-/// The parts of an object that a method of the class needs: 1 data, 2 xattrs, 4 keys, added.
-pub(crate) fn needs(alloc: Global, verified: &mut Verified, name: &[u8]) -> i32
-    ensures told { TellsHeldNeeds verified.old.pointer.class name.now result }
+/// Returns the parts of an object that a method of the class needs, as `sillarnica_needs` does; -95:
+/// there is no such method; or -9, if the handle is closed.
+#[unsafe(no_mangle)]
+pub extern "C" fn sillarnica_verified_needs(
+    alloc: Global,
+    verified: &mut Verified,
+    method: &[u8],
+) -> i32
+    ensures told { TellsHeldNeeds verified.old.pointer.class method.now result }
     ensures held { verified.new.pointer.class ≡ verified.old.pointer.class }
 {
     if verified.is_open != 1 {
         return CLOSED;
     }
     let class = take(alloc, verified);
-    let result = needs_of(&class, name);
+    let result = needs_of(&class, method);
     *verified = opened(class);
     result
 }
 
-/// Frees the class, if one is held.
-pub(crate) fn close(alloc: Global, verified: &mut Verified)
+/// Frees the class that the handle holds. It is closed then, and closing it again does nothing.
+#[unsafe(no_mangle)]
+pub extern "C" fn sillarnica_verified_close(alloc: Global, verified: &mut Verified)
     ensures { verified.new.pointer.class ≡ None }
 {
     if verified.is_open == 1 {

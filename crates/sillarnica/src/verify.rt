@@ -13,12 +13,14 @@ use class_calls::{ClassError, load};
 use std::alloc::Global;
 use verifier::Refusal;
 
-pub(crate) fn verify(alloc: Global, image: &[u8], why: &mut ToldRefusal) -> i32
-    ensures { TellsVerify image.now why.old why.new result }
+/// Returns 0 if the image spells a class that no rule refuses; 1 or 2 with the reason; or -12.
+#[unsafe(no_mangle)]
+pub extern "C" fn sillarnica_verify(alloc: Global, image: &[u8], refusal: &mut ToldRefusal) -> i32
+    ensures { TellsVerify image.now refusal.old refusal.new result }
 {
     match load(alloc, image) {
         Ok(_class) => 0,
-        Err(error) => tell_class(image, why, error),
+        Err(error) => tell_class(image, refusal, error),
     }
 }
 
@@ -77,7 +79,10 @@ fn explain_class(alloc: Global, image: &[u8], error: ClassError, text: &mut [u8]
     }
 }
 
-pub(crate) fn explain(alloc: Global, image: &[u8], text: &mut [u8]) -> i64
+/// Writes the line that says why the image or the class is refused, as many bytes of it as fit.
+/// Returns the length of the line; 0 if the class is accepted; or -12.
+#[unsafe(no_mangle)]
+pub extern "C" fn sillarnica_explain(alloc: Global, image: &[u8], text: &mut [u8]) -> i64
     ensures { TellsExplain image.now text.old text.new result }
 {
     match load(alloc, image) {

@@ -1,4 +1,4 @@
-use Rattle.std.proofs.Common.{◌≡◌, ◌∙◌, List, ap, arith, sym, subst, Some, get_or}
+use Rattle.std.proofs.Common.{◌≡◌, ◌∙◌, List, ap, arith, subst, Some, get_or}
 use Rattle.bpf_decode.specs.Class.{ClassMethod}
 use Rattle.interp.specs.Plain.{AnswersMethod, ListsMethod}
 use Rattle.class_calls.proofs.Place.{is_that}

@@ -7,13 +7,13 @@ pub returns-clause-edits : goal.returns-clause-edits
 returns-clause-edits c = edits_are_short
 
 pub returns-clause-unchanged : goal.returns-clause-unchanged
-returns-clause-unchanged c = no_change_leaves_nothing c.decoded.ensures.begins c.decoded.ensures.elsewhere
+returns-clause-unchanged c = no_change_leaves_nothing c.blind_steps.ensures c.decoded.ensures.begins c.decoded.ensures.elsewhere
 
 pub returns-clause-readers : goal.returns-clause-readers
-returns-clause-readers c = readers_leave_nothing c.decoded.ensures.begins c.decoded.ensures.elsewhere c.layouts.ensures
+returns-clause-readers c = readers_leave_nothing c.blind_steps.ensures c.decoded.ensures.begins c.decoded.ensures.elsewhere c.layouts.ensures
 
 pub returns-clause-bounded : goal.returns-clause-bounded
-returns-clause-bounded c = lists_are_bounded c.decoded.ensures.begins c.decoded.ensures.elsewhere
+returns-clause-bounded c = lists_are_bounded c.blind_steps.ensures c.decoded.ensures.begins c.decoded.ensures.elsewhere
 
 pub returns-clause-short : goal.returns-clause-short
-returns-clause-short c = lists_are_short c.decoded.ensures.begins c.decoded.ensures.elsewhere c.layouts.ensures
+returns-clause-short c = lists_are_short c.blind_steps.ensures c.decoded.ensures.begins c.decoded.ensures.elsewhere c.layouts.ensures

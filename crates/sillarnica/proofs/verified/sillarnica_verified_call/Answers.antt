@@ -3,11 +3,11 @@ use Rattle.std.proofs.lemmas.Int.{to_z-of_z}
 use Rattle.bpf_decode.specs.Class.{ClassMethod}
 use Rattle.sillarnica.specs.Told.{Memory, TellsHeldCall}
 use Rattle.sillarnica.proofs.Found.{told_by}
-use Rattle.sillarnica.proofs.verified.call.Goals as goal
+use Rattle.sillarnica.proofs.verified.sillarnica_verified_call.Goals as goal
 
 pub returns-clause-told : goal.returns-clause-told
 returns-clause-told c =
-    let asked = c.args.request in
+    let asked = c.args in
     let class = c.deref_mut.result.now in
     let old : Memory = record { answer = c.args.answer.now; out = c.args.out.now } in
     let new : Memory = record { answer = c.tell.new.answer; out = c.tell.new.out } in
