@@ -1,5 +1,5 @@
 -- No message that a node sends again is a reply, so each is true of any list.
-use Rattle.std.proofs.Common.{◌≡◌, ℕ, zero, suc, ◌<◌, List, [], ◌∷◌, ◌++◌, length, drop, Bool, true, false, ◌||◌, ◌==◌, if◌then◌else◌, subst, arith}
+use Rattle.std.proofs.Common.{◌≡◌, ℕ, zero, suc, ◌<◌, List, [], ◌∷◌, ◌++◌, length, take, drop, Bool, true, false, ◌||◌, ◌==◌, if◌then◌else◌, subst, arith}
 use Rattle.std.specs.List.{AllByRecursion, Contains, slice_index_or}
 use Rattle.placement.specs.Placement.{has}
 use Rattle.pg_log.specs.Requests.{ClientRequest}
@@ -72,5 +72,12 @@ module _ (classes : Classes) (list : List ClientRequest) where
       (to_missing-true n s.joined s.members.acting (Install s.members s.log) tt) (ask_if-true n s (all_among s.members.acting s.joined))
   unanswered_in-true n s Active = reps_unacked-true n s s.members.acting s.acked
 
-pub unanswered-true : (classes : Classes) (list : List ClientRequest) (n : ℕ) (s : NodeState) (p : Packet) → Contains (unanswered n s) p → IsTrueOf classes list p.message.kind
-unanswered-true classes list n s p c = at (IsTrueHere classes list) (unanswered n s) p (unanswered_in-true classes list n s s.status) c.0 c.1 c.2
+-- what holds of all elements holds of the first ones
+all_take : {A : Type 0} (P : A → Type 0) (k : ℕ) (xs : List A) → AllByRecursion P xs → AllByRecursion P (take k xs)
+all_take P zero xs h = tt
+all_take P (suc k) [] h = tt
+all_take P (suc k) (x ∷ xs) h = (h.0, all_take P k xs h.1)
+
+pub unanswered-true : (classes : Classes) (list : List ClientRequest) (most n : ℕ) (s : NodeState) (p : Packet) → Contains (take most (unanswered n s)) p → IsTrueOf classes list p.message.kind
+unanswered-true classes list most n s p c =
+    at (IsTrueHere classes list) (take most (unanswered n s)) p (all_take (IsTrueHere classes list) most (unanswered n s) (unanswered_in-true classes list n s s.status)) c.0 c.1 c.2

@@ -1,5 +1,5 @@
 //! A worker's turn with an operation, while it holds the lock.
-ghost use Rattle.std.specs.Prelude.{◌≡◌, ℕ, Some, IfOk, OnErr};
+ghost use Rattle.std.specs.Prelude.{◌≡◌, ℕ, Some, take, IfOk, OnErr};
 ghost use Rattle.std.specs.List.{Contains};
 ghost use Rattle.group_world.specs.World.{IsTrueOf};
 ghost use Rattle.group_world.specs.Unanswered.{unanswered};
@@ -66,18 +66,19 @@ impl<N: BoardName> GroupCell<N> {
         }
     }
 
-    /// The messages that the node sends again, packed.
+    /// The first `most` of the messages that the node sends again, packed.
     pub fn resend(
         &mut self,
         alloc: Global,
         board: &Board,
+        most: usize,
     ) -> Result<Vec<Option<Outgoing<N>>>, NoMemory>
         requires { board.now ≡ N.board }
         ensures same { self.new ≡ self.old }
         ensures out { IfOk result
-            (λ v. GoOutAs self.old 0 (unanswered self.old.node.number self.old.node.state) v.items) }
+            (λ v. GoOutAs self.old 0 (take most (unanswered self.old.node.number self.old.node.state)) v.items) }
     {
-        let Ok(sent) = self.node().resend() else {
+        let Ok(sent) = self.node().resend_first(most) else {
             return Err(NoMemory);
         };
         self.all_out(alloc, board, 0, sent)

@@ -1,6 +1,6 @@
 -- Worked runs of the rules, message by message. The requests call a class with the methods `lock`
 -- and `unlock`. A line leaves out the answer of a call.
-use Rattle.std.specs.Prelude.{◌≡◌, ℕ, ◌-◌, List, [], ◌∷◌, ◌++◌, length, map, codes}
+use Rattle.std.specs.Prelude.{◌≡◌, ℕ, ◌-◌, List, [], ◌∷◌, ◌++◌, None, length, map, codes}
 use Rattle.bpf_decode.specs.Class.{ClassMethod}
 use Rattle.pg_log.specs.Requests.{ClientRequest}
 use Rattle.pg_log.specs.Log.{Classes}
@@ -40,7 +40,7 @@ line p = let said = in_short p.message.kind in (p.message.sender, p.receiver, sa
 
 -- a method of that name, which no run of the rules calls
 abbrev pub method : List ℕ → ClassMethod
-method name = record { name = name; flags = 3; in_cap = 0; out_cap = 0; instructions = [] }
+method name = record { name = name; flags = 3; in_cap = 0; out_cap = 0; instructions = []; loops = None }
 
 -- the class
 abbrev pub locks : Classes

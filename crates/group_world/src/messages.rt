@@ -9,8 +9,8 @@ pub struct Messages {
     items: Vec<Packet>,
 }
 
-// Written out, so that a crate that drops them calls this and needn't prove again how packets are
-// dropped.
+// Written out, here and at `CallReply` and `GroupMap`, so that a crate that drops one calls this and
+// needn't prove again how its parts are dropped.
 impl Drop for Messages {
     fn drop(self) {
         let Messages { items } = self;

@@ -5,15 +5,15 @@ ghost use Rattle.op_shards.specs.contracts.pass.SendPass as send_pass;
 ghost use Rattle.op_shards.specs.contracts.pass.TakePass as take_pass;
 ghost use Rattle.op_shards.specs.contracts.shards.OpShards as shards;
 
-use crate::op::Op;
+use crate::group_op::GroupOp;
 use crate::pass::{SendPass, TakePass};
 use crate::shards::OpShards;
 
 /// If operations may go from one thread to another, threads may share their queues, and the queues
 /// and the passes may go to another thread.
-pub fn queues_cross<T: Op + Send>()
-    ensures shared { IsSync (shards.the_row T.row T.Op) }
-    ensures shards { IsSend (shards.the_row T.row T.Op) }
+pub fn queues_cross<T: GroupOp + Send>()
+    ensures shared { IsSync (shards.the_row T.row T.GroupOp) }
+    ensures shards { IsSend (shards.the_row T.row T.GroupOp) }
     ensures sends { IsSend (send_pass.the_row T.row) }
     ensures takes { IsSend (take_pass.the_row T.row) }
 {

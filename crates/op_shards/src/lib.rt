@@ -11,8 +11,8 @@
 
 mod bell;
 mod crossing;
+mod group_op;
 mod laws;
-mod op;
 mod pass;
 mod queue_end;
 mod rule;
@@ -23,8 +23,8 @@ mod word;
 
 pub use bell::Bell;
 pub use crossing::queues_cross;
+pub use group_op::GroupOp;
 pub use laws::{Property, sending_goes_on};
-pub use op::Op;
 pub use pass::{SendPass, TakePass};
 pub use rule::{QueuePosition, Ranked};
 pub use schedule::Schedule;

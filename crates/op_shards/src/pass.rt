@@ -9,7 +9,7 @@ ghost use Rattle.op_shards.specs.Passes.{at_shard, name, names, queues_of, spots
 ghost use Rattle.op_shards.specs.Passes.{new_taker, after_submit, after_take, after_gather, join_ends, SenderWasKept};
 ghost use Rattle.op_shards.specs.Passes.{SenderWasKeptAt, TakerWasKept, TakerWasKeptAt};
 
-use crate::op::Op;
+use crate::group_op::GroupOp;
 use crate::queue_end::{FreeEnd, SendEnd, TakeEnd};
 use crate::rule::{Queue, Ranked};
 use std::alloc::{AllocError, Global};
@@ -91,7 +91,7 @@ impl<T> Model for TakePass<T> {
         All (λ l. l.parts ≡ parts_of s.ends.items) s.ends.items };
 }
 
-impl<T: Op> SendPass<T> {
+impl<T: GroupOp> SendPass<T> {
     /// Puts the operation into the queue of this shard. The pass has a list for each shard.
     pub(crate) fn push<R: Wait>(
         &mut self,
@@ -141,7 +141,7 @@ impl<T: Op> SendPass<T> {
     }
 }
 
-impl<T: Op> TakePass<T> {
+impl<T: GroupOp> TakePass<T> {
     /// Takes the oldest operation of this shard.
     pub(crate) fn pop<R: Wait>(
         &mut self,
@@ -185,7 +185,7 @@ impl<T: Op> TakePass<T> {
 }
 
 // Puts two takers' ends of each queue together.
-fn gather_ends<T: Op>(
+fn gather_ends<T: GroupOp>(
     queues: &Vec<Queue<T>>,
     ends: &mut Vec<TakeEnd<T>>,
     mut others: Vec<TakeEnd<T>>,
@@ -210,7 +210,7 @@ pub(crate) struct Members {
 }
 
 // The next sender's pass.
-fn next_send_pass<T: Op>(
+fn next_send_pass<T: GroupOp>(
     alloc: Global,
     queues: &Vec<Queue<T>>,
     free_ends: &mut Vec<FreeEnd<T>>,
@@ -240,7 +240,7 @@ fn next_send_pass<T: Op>(
 }
 
 // One more taker's pass, of the `left` that have none yet.
-fn next_take_pass<T: Op>(
+fn next_take_pass<T: GroupOp>(
     alloc: Global,
     queues: &Vec<Queue<T>>,
     free_ends: &mut Vec<FreeEnd<T>>,
@@ -270,7 +270,7 @@ fn next_take_pass<T: Op>(
 }
 
 /// The passes of all senders.
-pub(crate) fn new_send_passes<T: Op>(
+pub(crate) fn new_send_passes<T: GroupOp>(
     alloc: Global,
     queues: &Vec<Queue<T>>,
     free_ends: &mut Vec<FreeEnd<T>>,
@@ -293,7 +293,7 @@ pub(crate) fn new_send_passes<T: Op>(
 }
 
 /// The passes of all takers.
-pub(crate) fn new_take_passes<T: Op>(
+pub(crate) fn new_take_passes<T: GroupOp>(
     alloc: Global,
     queues: &Vec<Queue<T>>,
     free_ends: &mut Vec<FreeEnd<T>>,

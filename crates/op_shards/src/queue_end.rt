@@ -8,7 +8,7 @@ ghost use Rattle.op_shards.specs.Order.{sender, taker, free_end, unopened, of, I
 ghost use Rattle.op_shards.specs.Order.{IsNextAfter, KeptWith, WasKept};
 ghost use Rattle.op_shards.specs.Passes.{name, ranked, spot_of};
 
-use crate::op::Op;
+use crate::group_op::GroupOp;
 use crate::rule::{
     Meet, NextSender, NextTaker, Opened, Part, PassState, Placed, Put, Queue, Ranked, Take,
 };
@@ -89,7 +89,7 @@ impl<T> Model for TakeEnd<T> {
         (0 < s.pass.me.0.client.place.shards) × (s.pass.me.1 ≡ []) };
 }
 
-impl<T: Op> FreeEnd<T> {
+impl<T: GroupOp> FreeEnd<T> {
     /// All senders and takers of a new queue, at the place that the caller picks.
     pub fn open<J: Placed>(queue: &Queue<T>, pass: Pass<Ranked<T>, PassState<T>>) -> FreeEnd<T>
         requires pass { IsPassOf queue.now pass }
@@ -128,7 +128,7 @@ impl<T: Op> FreeEnd<T> {
     }
 }
 
-impl<T: Op> SendEnd<T> {
+impl<T: GroupOp> SendEnd<T> {
     /// Puts the operation in. It comes back only if the queue was full at one moment.
     pub fn push<R: Wait>(&mut self, rt: &R, queue: &Queue<T>, number: u64, op: T) -> Result<(), T>
         requires queue { self.old.spot.queue ≡ name queue.now }
@@ -188,7 +188,7 @@ impl<T: Op> SendEnd<T> {
     }
 }
 
-impl<T: Op> TakeEnd<T> {
+impl<T: GroupOp> TakeEnd<T> {
     /// Takes the oldest operation. None only if the queue was empty at one moment.
     pub fn pop<R: Wait>(&mut self, rt: &R, queue: &Queue<T>) -> Option<Ranked<T>>
         requires queue { self.old.spot.queue ≡ name queue.now }

@@ -1,6 +1,6 @@
 //! The rule of one queue: the operations that it holds, and the knowledge of each pass of it.
 
-use crate::op::Op;
+use crate::group_op::GroupOp;
 use crossbeam_queue::RuledArrayQueue;
 use crossbeam_queue::protocol::{Join, Lesson, Outcome, Protocol, Split};
 use std::collections::LinkedList;
@@ -42,7 +42,7 @@ pub struct InOrder<T> {
     of: PhantomData<T>,
 }
 
-impl<T: Op> Protocol<Ranked<T>, PassState<T>> for InOrder<T> {
+impl<T: GroupOp> Protocol<Ranked<T>, PassState<T>> for InOrder<T> {
     ghost use Rattle.op_shards.specs.Order.{Rule, unopened};
 
     ghost holds = { Rule T.group };
@@ -103,13 +103,13 @@ impl<T> Split<PassState<T>> for NextTaker {
 /// A push.
 pub struct Put;
 
-impl<T: Op> Outcome<Ranked<T>, PassState<T>> for Put {
+impl<T: GroupOp> Outcome<Ranked<T>, PassState<T>> for Put {
     ghost use Rattle.op_shards.specs.Order.{Puts};
 
     ghost then = { Puts T.group };
 }
 
-impl<T: Op> Lesson<Ranked<T>, PassState<T>> for Put {
+impl<T: GroupOp> Lesson<Ranked<T>, PassState<T>> for Put {
     ghost use Rattle.op_shards.specs.Order.{KeptWith};
 
     ghost fact = { KeptWith T.group };
@@ -118,13 +118,13 @@ impl<T: Op> Lesson<Ranked<T>, PassState<T>> for Put {
 /// A pop.
 pub struct Take;
 
-impl<T: Op> Outcome<Ranked<T>, PassState<T>> for Take {
+impl<T: GroupOp> Outcome<Ranked<T>, PassState<T>> for Take {
     ghost use Rattle.op_shards.specs.Order.{Takes};
 
     ghost then = { Takes T.group };
 }
 
-impl<T: Op> Lesson<Ranked<T>, PassState<T>> for Take {
+impl<T: GroupOp> Lesson<Ranked<T>, PassState<T>> for Take {
     ghost use Rattle.op_shards.specs.Order.{KeptWith};
 
     ghost fact = { KeptWith T.group };

@@ -10,7 +10,7 @@ ghost use Rattle.op_shards.specs.Passes.{name, names, queues_of, spots, spot_of,
 ghost use Rattle.op_shards.specs.Passes.{new_sender, new_taker, after_submit, after_take, after_gather, Grew, WasSent};
 ghost use Rattle.op_shards.specs.Passes.{SenderWasKept, SenderWasKeptAt, TakerWasKept, TakerWasKeptAt};
 
-use crate::op::Op;
+use crate::group_op::GroupOp;
 use crate::pass::{Members, SendPass, TakePass, new_send_passes, new_take_passes};
 use crate::queue_end::FreeEnd;
 use crate::rule::{Placed, Queue};
@@ -25,7 +25,7 @@ use txn::NoMemory;
 /// A bounded queue for each shard. An operation's shard is the number of its group modulo the
 /// number of shards. To a contract it is the queues by shard, how many senders and takers have
 /// passes of them, and how many operations each holds at most.
-pub struct OpShards<T: Op> {
+pub struct OpShards<T: GroupOp> {
     places: usize,
     senders: usize,
     takers: usize,
@@ -34,7 +34,7 @@ pub struct OpShards<T: Op> {
 
 // Written out, here and at the passes, so that a crate that drops one calls this and needn't prove
 // again how queues and their ends are dropped.
-impl<T: Op> Drop for OpShards<T> {
+impl<T: GroupOp> Drop for OpShards<T> {
     fn drop(self) {
         let OpShards {
             places: _,
@@ -46,7 +46,7 @@ impl<T: Op> Drop for OpShards<T> {
     }
 }
 
-impl<T: Op> Model for OpShards<T> {
+impl<T: GroupOp> Model for OpShards<T> {
     ghost use Rattle.std.specs.Prelude.{◌≡◌, ◌<◌, length, All};
     ghost use Rattle.crossbeam_queue.specs.Passes.{ruled_capacity};
     ghost use Rattle.op_shards.specs.Passes.{names, queues_of, Shards};
@@ -58,7 +58,7 @@ impl<T: Op> Model for OpShards<T> {
     ghost invariant = { λ s. (0 < length s.queues.items) × All (λ q. ruled_capacity q ≡ s.places) s.queues.items };
 }
 
-impl<T: Op> OpShards<T> {
+impl<T: GroupOp> OpShards<T> {
     /// Empty queues of `places` places each, and a pass of all of them for each sender and each
     /// taker.
     pub fn new(
@@ -191,7 +191,7 @@ impl<T: Op> OpShards<T> {
 }
 
 // A queue for each shard, and the end of each that has all its senders and takers.
-fn open_all<T: Op>(
+fn open_all<T: GroupOp>(
     alloc: Global,
     shards: usize,
     places: usize,
@@ -214,7 +214,7 @@ fn open_all<T: Op>(
 }
 
 // The queue of a shard. Its caller picks where the queue stands.
-fn open<T: Op, J: Placed>(
+fn open<T: GroupOp, J: Placed>(
     alloc: Global,
     shard: usize,
     shards: usize,

@@ -3,7 +3,7 @@
 pub enum AskError {
     /// Fewer than 256 places of its queue were free, and nothing was submitted. Requests leave the
     /// last places to what nodes send to one another.
-    Full,
+    NoRoom,
     /// Memory was refused, and nothing was submitted.
     NoMemory,
 }

@@ -10,7 +10,6 @@ ghost use Rattle.osd.specs.contracts.node.Node as node;
 ghost use Rattle.osd.specs.contracts.queued.Queued as queued;
 ghost use Rattle.osd.specs.contracts.running.Running as running;
 ghost use Rattle.osd.specs.contracts.sends.Sends as sends;
-ghost use Rattle.osd.specs.contracts.sends.Takes as takes;
 ghost use Rattle.osd.specs.contracts.worker.Worker as worker;
 ghost use Rattle.osd.specs.contracts.worker.WorkerPlace as place;
 
@@ -21,7 +20,7 @@ use crate::name::ClusterName;
 use crate::newest::Newest;
 use crate::node::Node;
 use crate::queued::Queued;
-use crate::sends::{Sends, Takes};
+use crate::sends::Sends;
 use crate::worker::{Worker, WorkerPlace};
 use carried::operation_crosses;
 use commit_board::board_crosses;
@@ -44,7 +43,7 @@ pub fn running_crosses<N: ClusterName + Send + Sync, R: Sync>()
     queues_cross::<Queued>();
     board_crosses();
     table_crosses();
-    passes_cross::<N>();
+    sends_cross::<N>();
     can_send::<OpenedSession<N>>();
     locked_crosses::<N>();
     places_cross::<N>();
@@ -57,16 +56,13 @@ fn queued_crosses()
     can_send::<Queued>();
 }
 
-fn passes_cross<N: ClusterName + Send>()
-    ensures sends { IsSend (sends.the_row N.row (record { queues = N.queues; config = N.config })
-        (record { board = N.board }) (record { classes = N.classes })) }
-    ensures takes { IsSend (takes.the_row N.row (record { queues = N.queues; config = N.config })
+fn sends_cross<N: ClusterName + Send>()
+    ensures { IsSend (sends.the_row N.row (record { queues = N.queues; config = N.config })
         (record { board = N.board }) (record { classes = N.classes })) }
 {
     queued_crosses();
     queues_cross::<Queued>();
     can_send::<Sends<N>>();
-    can_send::<Takes<N>>();
 }
 
 /// The values under the locks may cross threads; those of a worker's lock stand below.
@@ -83,7 +79,7 @@ fn locked_crosses<N: ClusterName + Send + Sync>()
     board_crosses();
     book_crosses();
     cell_crosses::<N>();
-    passes_cross::<N>();
+    sends_cross::<N>();
     can_share::<Node<N>>();
     can_send::<Desk<N>>();
     can_send::<Monitors<N>>();
@@ -95,8 +91,10 @@ fn worker_crosses<N: ClusterName + Send>()
         (record { board = N.board }) (record { classes = N.classes })) }
 {
     operation_crosses();
+    queued_crosses();
+    queues_cross::<Queued>();
     post_crosses::<N>();
-    passes_cross::<N>();
+    sends_cross::<N>();
     can_send::<Worker<N>>();
 }
 

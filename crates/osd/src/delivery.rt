@@ -19,22 +19,21 @@ pub(crate) struct Delivery<N: ClusterName> {
     pub outgoing: Outgoing<N>,
 }
 
-impl<N: ClusterName> Delivery<N> {
-    /// True of a refusal, over which a fate has no power.
-    pub fn is_refusal(&self) -> bool {
-        matches!(self.outgoing, Outgoing::ToClient(_, Post::Refused(_)))
-    }
+/// True of a refusal, over which a fate has no power.
+pub(crate) fn is_refusal<N: ClusterName>(outgoing: &Outgoing<N>) -> bool {
+    matches!(outgoing, Outgoing::ToClient(_, Post::Refused(_)))
+}
 
-    /// The same once more, if memory isn't refused. Of an answer there is none.
-    pub fn again(&self, alloc: Global) -> Option<Delivery<N>> {
-        let outgoing = match &self.outgoing {
-            Outgoing::ToNode(node, message) => Outgoing::ToNode(*node, message.copy(alloc).ok()?),
-            Outgoing::ToMonitor(interval) => Outgoing::ToMonitor(*interval),
-            Outgoing::ToClient(_, _) => return None,
-        };
-        Some(Delivery {
-            origin: self.origin,
-            outgoing,
-        })
+/// The same once more, if memory isn't refused. Of an answer there is none.
+pub(crate) fn once_more<N: ClusterName>(
+    alloc: Global,
+    outgoing: &Outgoing<N>,
+) -> Option<Outgoing<N>> {
+    match outgoing {
+        Outgoing::ToNode(node, message) => {
+            Some(Outgoing::ToNode(*node, message.copy(alloc).ok()?))
+        }
+        Outgoing::ToMonitor(interval) => Some(Outgoing::ToMonitor(*interval)),
+        Outgoing::ToClient(_, _) => None,
     }
 }

@@ -13,6 +13,7 @@
 
 mod ask_error;
 mod cause;
+mod cluster_parts;
 mod config;
 mod crossing;
 mod delivery;
@@ -28,7 +29,7 @@ mod newest;
 mod no_node;
 mod node;
 mod nudges;
-mod parts;
+mod primaries;
 mod queued;
 mod running;
 mod scenario;
@@ -36,6 +37,7 @@ mod sends;
 mod worker;
 
 pub use ask_error::AskError;
+pub use cluster_parts::ClusterParts;
 pub use commit_board::NoMemory;
 pub use config::Config;
 pub use crossing::running_crosses;
@@ -45,7 +47,6 @@ pub use gate::{Gate, Open};
 pub use logged::{LoggedEntry, LoggedError};
 pub use name::ClusterName;
 pub use no_node::NoNode;
-pub use parts::ClusterParts;
 pub use running::Running;
 pub use scenario::{Scenario, play};
 pub use sends::Sends;

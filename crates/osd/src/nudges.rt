@@ -20,21 +20,14 @@ impl Nudges {
         Ok(Nudges { under_way })
     }
 
-    /// Begins a nudge of the group. False if one is under way, and if there is no such group.
-    pub fn begin(&self, group: usize) -> bool {
-        match self.under_way.get(group) {
-            Some(count) => count
-                .compare_exchange(0, 1, Ordering::SeqCst, Ordering::SeqCst)
-                .is_ok(),
-            None => false,
+    /// Begins a nudge of the group. None if one is under way, and if there is no such group.
+    pub fn begin(&self, group: usize) -> Option<Nudge<'_>> {
+        let under_way = self.under_way.get(group)?;
+        let began = under_way.compare_exchange(0, 1, Ordering::SeqCst, Ordering::SeqCst);
+        if began.is_err() {
+            return None;
         }
-    }
-
-    /// Ends a nudge of the group. Its operations may still be under way.
-    pub fn end(&self, group: usize) {
-        if let Some(count) = self.under_way.get(group) {
-            count.fetch_sub(1, Ordering::SeqCst);
-        }
+        Some(Nudge { under_way })
     }
 
     /// An operation is about to go into a queue: before that, since a worker may be done with it at
@@ -49,8 +42,24 @@ impl Nudges {
 
     /// An operation was served or lost, or no queue took it.
     pub fn remove(&self, group: usize, cause: Cause) {
-        if cause == Cause::Nudge {
-            self.end(group);
+        if cause == Cause::Nudge
+            && let Some(count) = self.under_way.get(group)
+        {
+            count.fetch_sub(1, Ordering::SeqCst);
         }
+    }
+}
+
+/// A nudge that is under way. Who sends by it has it, and it has to be ended.
+// It isn't `Drop`, so one that isn't ended doesn't compile, nor one that sends after its end.
+pub(crate) struct Nudge<'a> {
+    under_way: &'a AtomicU64,
+}
+
+impl Nudge<'_> {
+    /// Ends it. Its operations may still be under way.
+    pub fn end(self) {
+        let Nudge { under_way } = self;
+        under_way.fetch_sub(1, Ordering::SeqCst);
     }
 }

@@ -2,7 +2,7 @@ ghost use Rattle.std.specs.Prelude.{◌≡◌};
 
 use crate::cause::Cause;
 use carried::Operation;
-use op_shards::Op;
+use op_shards::GroupOp;
 use std::marker::Model;
 
 /// An operation in a queue. A place of a queue holds its box, so that queues are small. Contracts
@@ -30,7 +30,7 @@ impl Model for Queued {
     ghost view = { λ q. q.operation.value };
 }
 
-impl Op for Queued {
+impl GroupOp for Queued {
     ghost group = { λ o. o.group };
 
     fn group(&self) -> usize {

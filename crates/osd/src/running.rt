@@ -19,6 +19,7 @@ use crate::name::ClusterName;
 use crate::newest::Newest;
 use crate::node::Node;
 use crate::nudges::Nudges;
+use crate::primaries::Primaries;
 use crate::queued::Queued;
 use crate::worker::WorkerPlace;
 use commit_board::Board;
@@ -53,6 +54,7 @@ pub struct Running<N: ClusterName, R> {
     schedule: Schedule<AtomicU64>,
     bell: Bell<AtomicU64, Sleepers>,
     nudges: Nudges,
+    primaries: Primaries,
 }
 
 impl<N: ClusterName, R: Drop> Drop for Running<N, R> {
@@ -73,6 +75,7 @@ impl<N: ClusterName, R: Drop> Drop for Running<N, R> {
             schedule,
             bell,
             nudges,
+            primaries,
         } = self;
         drop(rt);
         drop(board);
@@ -87,6 +90,7 @@ impl<N: ClusterName, R: Drop> Drop for Running<N, R> {
         drop(schedule);
         drop(bell);
         drop(nudges);
+        drop(primaries);
     }
 }
 

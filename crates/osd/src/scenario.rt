@@ -1,7 +1,7 @@
 ghost use Rattle.std.specs.Prelude.{◌≡◌, IfOk};
 
+use crate::cluster_parts::ClusterParts;
 use crate::name::ClusterName;
-use crate::parts::ClusterParts;
 use crate::running::Running;
 use commit_board::NoMemory;
 use pg_log::ClassTable;

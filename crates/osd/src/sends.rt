@@ -1,16 +1,16 @@
-ghost use Rattle.std.specs.Prelude.{◌≡◌, ◌<◌, length, OnOk, OnErr};
+ghost use Rattle.std.specs.Prelude.{◌≡◌, OnOk, OnErr};
 ghost use Rattle.op_shards.specs.Passes.{WasSent};
 ghost use Rattle.osd.specs.Sent.{OnlySent, IsThat};
 
 use crate::name::ClusterName;
 use crate::queued::Queued;
-use op_shards::{OpShards, SendPass, TakePass};
+use op_shards::{OpShards, SendPass};
 use std::marker::{Model, PhantomData};
 use std::sync::Wait;
 
 /// A sender: a pass of the cluster's queues. Contracts see the pass.
 pub struct Sends<N: ClusterName> {
-    pass: SendPass<Queued>,
+    pub(crate) pass: SendPass<Queued>,
     /// The shard that the worker has claimed who sends by it.
     claimed: Option<usize>,
     of: PhantomData<N>,
@@ -79,77 +79,5 @@ impl<N: ClusterName> Sends<N> {
         ensures kept { OnErr result (self.new ≡ self.old) }
     {
         shards.submit(rt, &mut self.pass, queued)
-    }
-
-    /// The number of places of the shard's queue that are free at one moment.
-    pub(crate) fn free_places<R: Wait>(
-        &mut self,
-        rt: &R,
-        shards: &OpShards<Queued>,
-        shard: usize,
-    ) -> usize
-        requires queues { shards.now.queues ≡ N.queues }
-        requires shard { shard < length shards.now.queues.names }
-        ensures { self.new ≡ self.old }
-    {
-        shards.free_places(rt, &mut self.pass, shard)
-    }
-}
-
-/// A worker's taker: a pass of the cluster's queues.
-pub(crate) struct Takes<N: ClusterName> {
-    pass: TakePass<Queued>,
-    of: PhantomData<N>,
-}
-
-impl<N: ClusterName> Drop for Takes<N> {
-    fn drop(self) {
-        let Takes { pass, of: _ } = self;
-        drop(pass);
-    }
-}
-
-impl<N: ClusterName> Model for Takes<N> {
-    ghost use Rattle.std.specs.Prelude.{◌≡◌};
-    ghost use Rattle.op_shards.specs.Passes.{Taker};
-    ghost use Rattle.carried.specs.declared.operation.Operation.{Operation};
-
-    ghost Value = { Taker Operation };
-
-    ghost view = { λ t. t.pass };
-
-    ghost invariant = { λ t. t.pass.queues ≡ N.queues };
-}
-
-impl<N: ClusterName> Takes<N> {
-    /// A taker by its pass.
-    pub fn new(pass: TakePass<Queued>) -> Takes<N>
-        requires { pass.queues ≡ N.queues }
-    {
-        Takes {
-            pass,
-            of: PhantomData,
-        }
-    }
-
-    /// Takes the oldest operation of the shard.
-    pub fn take<R: Wait>(
-        &mut self,
-        rt: &R,
-        shards: &OpShards<Queued>,
-        shard: usize,
-    ) -> Option<Queued>
-        requires queues { shards.now.queues ≡ N.queues }
-        requires shard { shard < length shards.now.queues.names }
-    {
-        shards.take(rt, &mut self.pass, shard)
-    }
-
-    /// True only if the shard's queue is empty at one moment. False says nothing.
-    pub fn is_empty(&mut self, shards: &OpShards<Queued>, shard: usize) -> bool
-        requires queues { shards.now.queues ≡ N.queues }
-        requires shard { shard < length shards.now.queues.names }
-    {
-        shards.is_empty(&mut self.pass, shard)
     }
 }

@@ -1,5 +1,5 @@
 -- An Install, after the move is decided.
-use Rattle.std.proofs.Common.{◌≡◌, ℕ, ◌≤◌, ◌&&◌, ◌||◌, eqb, nat_lt, length, arith, Bool, true, false, cond, List, [], ◌∷◌, ◌++◌, Option, Some, None, Result, Ok, Err, IfOk, ap, sym, ◌∙◌, refl, subst}
+use Rattle.std.proofs.Common.{◌≡◌, ℕ, ◌≤◌, ◌&&◌, ◌||◌, eqb, nat_lt, length, arith, Bool, true, false, cond, List, [], ◌∷◌, ◌++◌, Option, Some, None, ap, sym, ◌∙◌, refl, subst}
 use Rattle.std.specs.Option.{unwrap_or}
 use Rattle.std.proofs.lemmas.Bool.{false≢true}
 use Rattle.std.proofs.lemmas.Bool.Decides.{nat_tests}
@@ -22,8 +22,7 @@ use Rattle.group_world.specs.declared.message.MessageKind.TheVariants.{Query, Lo
 use Rattle.group_world.specs.declared.message.Packet.{Packet}
 use Rattle.group_world.specs.declared.handle_error.HandleError.{HandleError}
 use Rattle.peering.specs.declared.node.arrival.Arrival.{Arrival}
-use Rattle.peering.specs.inner.Arriving.{after_move, interval_after, log_after, Makes, install_first, install_again, with_log, is_memory}
-use Rattle.peering.specs.Numbered.{NumberedNode}
+use Rattle.peering.specs.inner.Arriving.{after_move, interval_after, log_after, Makes, install_first, install_again, is_memory}
 
 pub waits : (st : Status) → is_waiting st ≡ true → st ≡ Waiting
 waits Waiting h = refl

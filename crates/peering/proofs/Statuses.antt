@@ -1,22 +1,16 @@
 -- A primary that asks, installs or is active.
-use Rattle.std.proofs.Common.{◌≡◌, ◌≢◌, ◌<◌, ℕ, Bool, true, false, ◌&&◌, cond, eqb, nat_lt, length, is_none, arith, List, ◌++◌, ◌∷◌, [], Result, Ok, Err, IfOk, ap, sym, ◌∙◌, refl}
-use Rattle.std.specs.Prelude.{OnOk}
+use Rattle.std.proofs.Common.{◌≡◌, ◌<◌, ℕ, Bool, true, false, ◌&&◌, cond, eqb, nat_lt, length, arith, List, ap, sym, ◌∙◌, refl}
 use denote.Enum.Bare.{sameb}
-use Rattle.std.proofs.lemmas.Bool.{eq-eqb}
 use Rattle.std.proofs.lemmas.Bool.Decides.{nat_tests}
 use Rattle.pg_log.specs.Requests.{ClientRequest}
 use Rattle.pg_log.specs.Log.{Classes}
-use Rattle.pg_log.specs.Refusals.{refusal}
 use Rattle.group_world.specs.contracts.status.Status.{the_type}
 use Rattle.group_world.specs.declared.status.Status.{Status}
 use Rattle.group_world.specs.declared.status.Status.TheVariants.{Out, Waiting, Installed, Asking, Installing, Active}
 use Rattle.group_world.specs.Node.{NodeState, Outcome, nothing, is_active, is_asking, is_installed, is_installing}
 use Rattle.group_world.specs.Rules.{acknowledge, activate, each_at, is_usable, adopt, adopt_log, commit, raised}
-use Rattle.group_world.specs.declared.handle_error.HandleError.{HandleError}
 use Rattle.group_world.specs.declared.party.Party.{Party}
 use Rattle.group_world.specs.declared.party.Party.TheVariants.{Node as ANode}
-use Rattle.peering.specs.inner.Arriving.{with_log}
-use Rattle.peering.specs.Numbered.{NumberedNode}
 
 pub asking_is : (st : Status) → sameb the_type st Asking ≡ is_asking st
 asking_is Out = refl

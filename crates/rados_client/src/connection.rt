@@ -7,9 +7,9 @@ ghost use Rattle.rados_client.specs.Session.{KnowsMore};
 ghost use Rattle.rados_client.specs.Promise.{IsAnswered, IsAsked, NotAsked, Says, WasAsked};
 
 use crate::exec_error::ExecError;
+use crate::exec_reply::ExecReply;
 use crate::found::Found;
 use crate::patience::Patience;
-use crate::reply::Reply;
 use commit_board::{Note, Seen};
 use group_cell::{Post, Reply as Posted};
 use osd::{AskError, ClusterName, Running, Sends};
@@ -18,8 +18,8 @@ use std::marker::Model;
 use std::sync::Wait;
 use std::thread;
 
-/// The number of turns that the other threads are given after a queue was full.
-const TURNS_WHEN_FULL: u32 = 64;
+/// The number of turns that the other threads are given after a request was not submitted again.
+const TURNS_WHEN_NOT_TAKEN: u32 = 64;
 
 /// A session's connection to its cluster: its token of the board, its sender, and the number of its
 /// nudges.
@@ -109,13 +109,13 @@ impl<'a, N: ClusterName, R: Wait> Connection<'a, N, R> {
 
     /// Asks for the request until it is answered or the tries are used up: the first submit is one,
     /// and each later submit and each look. None if memory was refused before the first submit.
-    pub fn ask(&mut self, request: &Request, tries: u32) -> Option<Result<Reply, ExecError>>
+    pub fn ask(&mut self, request: &Request, tries: u32) -> Option<Result<ExecReply, ExecError>>
         ensures none { IfNone result (self.new ≡ self.old) }
         ensures some { IfSome result (IsAsked N.classes self.old self.new request.now) }
     {
         let mut patience = match self.submit(request) {
             Ok(()) => Patience::after_taken(),
-            Err(AskError::Full) => Patience::after_full(),
+            Err(AskError::NoRoom) => Patience::after_no_room(),
             Err(AskError::NoMemory) => return None,
         };
         for _ in 1..tries {
@@ -132,7 +132,7 @@ impl<'a, N: ClusterName, R: Wait> Connection<'a, N, R> {
         &mut self,
         request: &Request,
         patience: &mut Patience,
-    ) -> Option<Result<Reply, ExecError>>
+    ) -> Option<Result<ExecReply, ExecError>>
         ensures seen { KnowsMore self.old.seen self.new.seen }
         ensures grew { Grew self.old.sends self.new.sends }
         ensures taken { IsTrue patience.new.taken →
@@ -184,11 +184,11 @@ impl<'a, N: ClusterName, R: Wait> Connection<'a, N, R> {
         self.nudge(request);
         match self.submit(request) {
             Ok(()) => patience.begin(),
-            Err(AskError::Full) => {
-                patience.wait_when_full();
-                pause(TURNS_WHEN_FULL);
+            // No room, or no memory.
+            Err(_) => {
+                patience.wait_when_not_taken();
+                pause(TURNS_WHEN_NOT_TAKEN);
             }
-            Err(AskError::NoMemory) => patience.go_on(),
         }
     }
 
@@ -225,14 +225,14 @@ impl<'a, N: ClusterName, R: Wait> Connection<'a, N, R> {
     }
 
     /// Knows from now on what the reply's note knew, too.
-    fn accept(&mut self, posted: Posted<N>) -> Reply
+    fn accept(&mut self, posted: Posted<N>) -> ExecReply
         ensures seen { KnowsMore self.old.seen self.new.seen }
         ensures sends { self.new.sends ≡ self.old.sends }
         ensures answered { IsAnswered N.classes self.new.seen posted.request result }
     {
         let (place, answer, note) = posted.into_parts();
         self.hear(note);
-        Reply::new(place, answer)
+        ExecReply::new(place, answer)
     }
 }
 

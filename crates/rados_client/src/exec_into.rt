@@ -6,7 +6,7 @@ ghost use Rattle.rados_client.specs.Into.{IsInto, filled, into_code};
 
 use crate::class_id::ClassId;
 use crate::exec_error::ExecError;
-use crate::reply::Reply;
+use crate::exec_reply::ExecReply;
 use crate::session::Session;
 use object_store::ObjectName;
 use osd::ClusterName;
@@ -40,7 +40,7 @@ impl<N: ClusterName, R: Wait> Session<'_, N, R> {
 }
 
 /// Puts a reply's output into the buffer.
-fn fill(reply: &Reply, buffer: &mut [u8]) -> i64
+fn fill(reply: &ExecReply, buffer: &mut [u8]) -> i64
     ensures code { result ≡ into_code reply.now.answer buffer.old }
     ensures buffer { buffer.new ≡ filled reply.now.answer buffer.old }
 {

@@ -1,5 +1,5 @@
 use crate::exec_error::ExecError;
-use crate::reply::Reply;
+use crate::exec_reply::ExecReply;
 use group_cell::Refused;
 use osd::ClusterName;
 
@@ -13,7 +13,7 @@ pub(crate) enum Found {
     /// The request is refused.
     Refused(ExecError),
     /// The request is answered.
-    Reply(Reply),
+    Reply(ExecReply),
 }
 
 impl Found {

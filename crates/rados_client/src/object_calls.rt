@@ -9,7 +9,7 @@ ghost use Rattle.rados_client.specs.ObjectCalls.{attr_input};
 use crate::call::Call;
 use crate::class_id::ClassId;
 use crate::exec_error::ExecError;
-use crate::reply::Reply;
+use crate::exec_reply::ExecReply;
 use crate::session::Session;
 use object_store::ObjectName;
 use osd::ClusterName;
@@ -29,7 +29,7 @@ impl<N: ClusterName, R: Wait> Session<'_, N, R> {
         object: &ObjectName,
         offset: u64,
         length: u64,
-    ) -> Result<Reply, ExecError>
+    ) -> Result<ExecReply, ExecError>
         ensures { IsCall N.classes self.old self.new (next_request self.old object.now 1 (codes "read")
             (to_le_bytes w64 offset ++ to_le_bytes w64 length)) result }
     {
@@ -54,7 +54,7 @@ impl<N: ClusterName, R: Wait> Session<'_, N, R> {
         object: &ObjectName,
         offset: u64,
         bytes: &[u8],
-    ) -> Result<Reply, ExecError>
+    ) -> Result<ExecReply, ExecError>
         ensures { IsCall N.classes self.old self.new
             (next_request self.old object.now 1 (codes "write") (to_le_bytes w64 offset ++ bytes.now)) result }
     {
@@ -71,7 +71,7 @@ impl<N: ClusterName, R: Wait> Session<'_, N, R> {
 
     /// The length of the object's data is the code; -2 (ENOENT) if there is no object. It
     /// answers as `exec`.
-    pub fn stat(&mut self, alloc: Global, object: &ObjectName) -> Result<Reply, ExecError>
+    pub fn stat(&mut self, alloc: Global, object: &ObjectName) -> Result<ExecReply, ExecError>
         ensures { IsCall N.classes self.old self.new (next_request self.old object.now 1 (codes "stat") []) result }
     {
         self.exec(alloc, object, ClassId::new(OBJECT_CLASS), "stat", &[])
@@ -85,7 +85,7 @@ impl<N: ClusterName, R: Wait> Session<'_, N, R> {
         alloc: Global,
         object: &ObjectName,
         name: &str,
-    ) -> Result<Reply, ExecError>
+    ) -> Result<ExecReply, ExecError>
         ensures { IsCall N.classes self.old self.new
             (next_request self.old object.now 1 (codes "getxattr") name.now) result }
     {
@@ -107,7 +107,7 @@ impl<N: ClusterName, R: Wait> Session<'_, N, R> {
         object: &ObjectName,
         name: &str,
         value: &[u8],
-    ) -> Result<Reply, ExecError>
+    ) -> Result<ExecReply, ExecError>
         ensures { IsCall N.classes self.old self.new
             (next_request self.old object.now 1 (codes "setxattr") (attr_input name.now value.now)) result }
     {
@@ -126,7 +126,7 @@ impl<N: ClusterName, R: Wait> Session<'_, N, R> {
     }
 
     /// Removes the object; the code is 0, or -2 (ENOENT) if there is none. It answers as `exec`.
-    pub fn remove(&mut self, alloc: Global, object: &ObjectName) -> Result<Reply, ExecError>
+    pub fn remove(&mut self, alloc: Global, object: &ObjectName) -> Result<ExecReply, ExecError>
         ensures { IsCall N.classes self.old self.new (next_request self.old object.now 1 (codes "remove") []) result }
     {
         self.exec(alloc, object, ClassId::new(OBJECT_CLASS), "remove", &[])

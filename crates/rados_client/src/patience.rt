@@ -13,14 +13,13 @@ const ALL_TURNS: u32 = 4_000;
 
 /// The time that a session goes on looking before it submits the request again, and the fact that a
 /// queue has taken the request. At least one look comes before each repeat, so that a session sees
-/// its answer also while its queue is full.
+/// its answer also while its queue is full or memory is short.
 #[derive(Clone, Copy)]
 pub(crate) struct Patience {
     looks_left: u32,
     /// The number of looks that follow the call's next refusal: 1 after the first, and twice as
-    /// many after each further one, up to `LOOKS`, if they give no more turns than `ALL_TURNS`. A group that is in
-    /// peering refuses at once, and
-    /// would be nudged by each session all the time.
+    /// many after each further one, up to `LOOKS`, if they give no more turns than `ALL_TURNS`. A
+    /// group that is in peering refuses at once, and would be nudged by each session all the time.
     looks_when_refused: u32,
     /// The number of turns that each look gives the other threads: 1, and twice as many after each
     /// repeat of the request, up to `TURNS`. Who waits for the end of a long peering would nudge
@@ -42,8 +41,8 @@ impl Patience {
         }
     }
 
-    /// After the queue gave the request back.
-    pub fn after_full() -> Patience
+    /// After the queue had no room for the request.
+    pub fn after_no_room() -> Patience
         ensures { result.taken ≡ false }
     {
         Patience {
@@ -83,23 +82,17 @@ impl Patience {
     pub fn begin(&mut self)
         ensures { self.new.taken ≡ true }
     {
-        self.go_on();
+        self.turns = self.turns.saturating_mul(2).min(TURNS);
+        self.looks_left = self.most_looks();
         self.taken = true;
     }
 
-    /// The queue gave the request back: it is submitted again after one look.
-    pub fn wait_when_full(&mut self)
+    /// No queue took the request, for want of room or of memory: it is submitted again after one
+    /// look.
+    pub fn wait_when_not_taken(&mut self)
         ensures { self.new.taken ≡ self.old.taken }
     {
         self.looks_left = 1;
-    }
-
-    /// Memory was refused to a submit, which counts as a try: the session looks on.
-    pub fn go_on(&mut self)
-        ensures { self.new.taken ≡ self.old.taken }
-    {
-        self.turns = self.turns.saturating_mul(2).min(TURNS);
-        self.looks_left = self.most_looks();
     }
 
     /// The most looks before the request is submitted again.

@@ -6,8 +6,8 @@ use crate::call::Call;
 use crate::class_id::ClassId;
 use crate::connection::Connection;
 use crate::exec_error::ExecError;
+use crate::exec_reply::ExecReply;
 use crate::open_error::OpenError;
-use crate::reply::Reply;
 use commit_board::Note;
 use object_store::ObjectName;
 use osd::{ClusterName, Running};
@@ -109,7 +109,7 @@ impl<'a, N: ClusterName, R: Wait> Session<'a, N, R> {
         class: ClassId,
         method: &str,
         input: &[u8],
-    ) -> Result<Reply, ExecError>
+    ) -> Result<ExecReply, ExecError>
         ensures { IsCall N.classes self.old self.new
             (next_request self.old object.now class method.now input.now) result }
     {
@@ -130,7 +130,7 @@ impl<'a, N: ClusterName, R: Wait> Session<'a, N, R> {
     ///
     /// Refused: `NothingSent` exactly if nothing was sent yet; else as `exec`, but for
     /// `NumbersUsedUp`.
-    pub fn retry(&mut self) -> Result<Reply, ExecError>
+    pub fn retry(&mut self) -> Result<ExecReply, ExecError>
         ensures { IsRepeat N.classes self.old self.new result }
     {
         let tries = self.connection.running().config().tries;
@@ -166,7 +166,7 @@ impl<'a, N: ClusterName, R: Wait> Session<'a, N, R> {
     }
 
     /// Makes a call.
-    pub(crate) fn call(&mut self, alloc: Global, call: &Call<'_>) -> Result<Reply, ExecError>
+    pub(crate) fn call(&mut self, alloc: Global, call: &Call<'_>) -> Result<ExecReply, ExecError>
         ensures { IsCall N.classes self.old self.new
             (next_request self.old call.now.object.now call.now.class call.now.method.now
             ((call.now.head.now ++ call.now.body.now) ++ call.now.tail.now)) result }
@@ -188,7 +188,7 @@ impl<'a, N: ClusterName, R: Wait> Session<'a, N, R> {
     }
 
     /// Sends a new request.
-    fn send(&mut self, number: RequestNumber, request: Request) -> Result<Reply, ExecError>
+    fn send(&mut self, number: RequestNumber, request: Request) -> Result<ExecReply, ExecError>
         requires { number ≡ suc self.old.used }
         ensures { IsCall N.classes self.old self.new request result }
     {

@@ -19,7 +19,7 @@ use std::sync::Wait;
 
 impl<N: ClusterName, R: Wait> Running<N, R> {
     /// Submits a copy of the request to the newest map's primary of its object's group. Refused,
-    /// and nothing was submitted: `Full` if fewer than 256 places of the queue were free,
+    /// and nothing was submitted: `NoRoom` if fewer than 256 places of the queue were free,
     /// `NoMemory` if memory was refused.
     pub fn ask(&self, sends: &mut Sends<N>, request: &Request) -> Result<(), AskError>
         ensures grew { Grew sends.old sends.new }
@@ -30,12 +30,12 @@ impl<N: ClusterName, R: Wait> Running<N, R> {
     {
         let group = self.group_of(request.object());
         if !self.has_room(sends, group) {
-            return Err(AskError::Full);
+            return Err(AskError::NoRoom);
         }
         let Ok(copy) = request.copy() else {
             return Err(AskError::NoMemory);
         };
-        let node = self.newest.lock(&self.rt).primary(group);
+        let node = self.primaries.of(group);
         self.submit(
             sends,
             Cause::Event,
@@ -52,8 +52,17 @@ impl<N: ClusterName, R: Wait> Running<N, R> {
     pub(crate) fn has_room(&self, sends: &mut Sends<N>, group: usize) -> bool
         ensures { sends.new ≡ sends.old }
     {
+        self.room(sends, group) > 0
+    }
+
+    /// The number of operations that clients and nudges may put into the queue of the group.
+    pub(crate) fn room(&self, sends: &mut Sends<N>, group: usize) -> usize
+        ensures { sends.new ≡ sends.old }
+    {
         let shard = group % self.shards.count();
-        sends.free_places(&self.rt, &self.shards, shard) >= KEPT_PLACES
+        let free = self.shards.free_places(&self.rt, &mut sends.pass, shard);
+        // With `KEPT_PLACES` free one may go in.
+        free.saturating_sub(KEPT_PLACES - 1)
     }
 
     /// Submits an operation, and wakes the workers if its queue took it and the sender hasn't
@@ -83,7 +92,7 @@ impl<N: ClusterName, R: Wait> Running<N, R> {
             Err(queued) => {
                 drop(queued);
                 self.nudges.remove(group, cause);
-                Err(AskError::Full)
+                Err(AskError::NoRoom)
             }
         }
     }

@@ -3,7 +3,7 @@
 ghost use Rattle.std.specs.Prelude.{◌<◌};
 ghost use Rattle.osd.specs.Sent.{OnlySent, IsInternalTo};
 
-use crate::delivery::{Delivery, Origin};
+use crate::delivery::Origin;
 use crate::name::ClusterName;
 use crate::running::Running;
 use crate::sends::Sends;
@@ -14,12 +14,19 @@ use pg_log::ClientId;
 use std::sync::Wait;
 
 impl<N: ClusterName, R: Wait> Running<N, R> {
-    /// Brings what a node sends to its receiver. It is lost if a queue is full, or if memory is
-    /// refused.
-    pub(crate) fn deliver(&self, sends: &mut Sends<N>, delivery: Delivery<N>)
-        ensures { OnlySent sends.old sends.new (IsInternalTo delivery.origin.group) }
+    /// Brings what a node sends, if there is something, to its receiver. It is lost if a queue is
+    /// full, or if memory is refused.
+    pub(crate) fn deliver(
+        &self,
+        sends: &mut Sends<N>,
+        origin: &Origin,
+        outgoing: Option<Outgoing<N>>,
+    )
+        ensures { OnlySent sends.old sends.new (IsInternalTo origin.now.group) }
     {
-        let Delivery { origin, outgoing } = delivery;
+        let Some(outgoing) = outgoing else {
+            return;
+        };
         match outgoing {
             Outgoing::ToNode(node, message) => {
                 let _ = self.submit(
@@ -40,8 +47,8 @@ impl<N: ClusterName, R: Wait> Running<N, R> {
     }
 
     /// Asks the group's monitor to activate the interval, and tells the node if it did.
-    fn ask_monitor(&self, sends: &mut Sends<N>, origin: Origin, interval: Epoch)
-        ensures { OnlySent sends.old sends.new (IsInternalTo origin.group) }
+    fn ask_monitor(&self, sends: &mut Sends<N>, origin: &Origin, interval: Epoch)
+        ensures { OnlySent sends.old sends.new (IsInternalTo origin.now.group) }
     {
         let group = origin.group;
         if group >= self.config.groups as usize || !self.activates(group, interval) {

@@ -39,7 +39,8 @@ impl<N: ClusterName, R: Wait> Running<N, R> {
         }
     }
 
-    /// Hands a group's newest map to its acting nodes, if its interval is new.
+    /// Hands a group's newest map to its acting nodes, and has its primary asked from now on, if its
+    /// interval is new.
     fn tell_group(&self, sends: &mut Sends<N>, group: usize)
         requires { group < N.config.groups }
         ensures { OnlySent sends.old sends.new (IsInternalTo group) }
@@ -47,6 +48,8 @@ impl<N: ClusterName, R: Wait> Running<N, R> {
         if !self.newest.lock(&self.rt).is_new_interval(group) {
             return;
         }
+        let primary = self.newest.lock(&self.rt).primary(group);
+        self.primaries.set(group, primary);
         for place in 0..REPLICA_LIMIT {
             self.tell_at(sends, group, place);
         }

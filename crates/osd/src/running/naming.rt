@@ -3,6 +3,7 @@
 ghost use Rattle.std.specs.Prelude.{◌≡◌, ◌*◌, ◌+◌, ◌<◌, ◌≤◌, IfOk, OnOk, All, vec_len};
 ghost use Rattle.osd.specs.Unnamed.{IsUnused};
 
+use crate::cluster_parts::{AllQueues, ClusterParts, Maps, Rows};
 use crate::config::Config;
 use crate::desk::Desk;
 use crate::limits::SESSION_LIMIT;
@@ -12,10 +13,10 @@ use crate::name::ClusterName;
 use crate::newest::Newest;
 use crate::node::Node;
 use crate::nudges::Nudges;
-use crate::parts::{AllQueues, ClusterParts, Maps, Rows};
+use crate::primaries::Primaries;
 use crate::queued::Queued;
 use crate::running::Running;
-use crate::sends::{Sends, Takes};
+use crate::sends::Sends;
 use crate::worker::{Worker, WorkerPlace};
 use commit_board::{NoMemory, Writer};
 use group_cell::GroupCell;
@@ -53,7 +54,7 @@ impl<N: ClusterName, R: Wait + Drop> Running<N, R> {
         let Rows { board, mut writers, seen } = rows;
         let AllQueues { shards, sends, takes } = queues;
         let made = made_of::<N>(alloc, &config, &mut writers, sends, takes)?;
-        let Made { nodes, mail, of_monitors, of_sessions, workers, nudges } = made;
+        let Made { nodes, mail, of_monitors, of_sessions, workers, nudges, primaries } = made;
         let Maps { book, newest } = maps;
         let running = Running {
             alloc,
@@ -71,6 +72,7 @@ impl<N: ClusterName, R: Wait + Drop> Running<N, R> {
             schedule: Schedule::of(AtomicU64::new(0), AtomicU64::new(0)),
             bell: Bell::of(AtomicU64::new(0), AtomicU64::new(0), Sleepers::new()),
             nudges,
+            primaries,
         };
         running.tell_first();
         Ok(running)
@@ -95,6 +97,7 @@ struct Made<N: ClusterName> {
     of_sessions: Vec<Sends<N>>,
     workers: Vec<WorkerPlace<N>>,
     nudges: Nudges,
+    primaries: Primaries,
 }
 
 /// Those values, by the tokens and the passes of the parts.
@@ -119,6 +122,7 @@ fn made_of<N: ClusterName>(
     let nodes = nodes_of::<N>(alloc, config, writers)?;
     let mail = mailboxes::<N>(alloc)?;
     let nudges = Nudges::new(alloc, config.groups as usize)?;
+    let primaries = Primaries::new(alloc, config.groups as usize)?;
     Ok(Made {
         nodes,
         mail,
@@ -126,6 +130,7 @@ fn made_of<N: ClusterName>(
         of_sessions: senders,
         workers,
         nudges,
+        primaries,
     })
 }
 
@@ -202,19 +207,9 @@ fn senders_of<N: ClusterName>(
     let mut senders = Vec::new(alloc);
     let count = passes.len();
     for sender in 0..count {
-        senders.push(next_sender::<N>(&mut passes))?;
+        senders.push(Sends::new(passes.pop().unwrap()))?;
     }
     Ok(senders)
-}
-
-/// A sender by the next of the passes.
-fn next_sender<N: ClusterName>(passes: &mut Vec<SendPass<Queued>>) -> Sends<N>
-    requires some { 0 < vec_len passes.old }
-    requires passes { All (λ p. p.queues ≡ N.queues) passes.old.items }
-    ensures passes { All (λ p. p.queues ≡ N.queues) passes.new.items }
-    ensures rest { vec_len passes.new + 1 ≡ vec_len passes.old }
-{
-    Sends::new(passes.pop().unwrap())
 }
 
 /// The workers by their passes. Each takes one of the senders.
@@ -238,12 +233,13 @@ fn workers_of<N: ClusterName>(
     Ok(workers)
 }
 
-/// A taker by the next of the passes.
-fn next_taker<N: ClusterName>(passes: &mut Vec<TakePass<Queued>>) -> Takes<N>
+/// The next of the takers' passes.
+fn next_taker<N: ClusterName>(passes: &mut Vec<TakePass<Queued>>) -> TakePass<Queued>
     requires some { 0 < vec_len passes.old }
     requires passes { All (λ p. p.queues ≡ N.queues) passes.old.items }
+    ensures taker { result.queues ≡ N.queues }
     ensures passes { All (λ p. p.queues ≡ N.queues) passes.new.items }
     ensures rest { vec_len passes.new + 1 ≡ vec_len passes.old }
 {
-    Takes::new(passes.pop().unwrap())
+    passes.pop().unwrap()
 }

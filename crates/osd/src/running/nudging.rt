@@ -5,8 +5,9 @@ ghost use Rattle.op_shards.specs.Passes.{Grew};
 ghost use Rattle.osd.specs.Sent.{OnlySent, IsInternalTo};
 
 use crate::cause::Cause;
-use crate::delivery::{Delivery, Origin};
+use crate::delivery::Origin;
 use crate::name::ClusterName;
+use crate::nudges::Nudge;
 use crate::running::Running;
 use crate::sends::Sends;
 use carried::{Carried, Operation};
@@ -30,16 +31,16 @@ impl<N: ClusterName, R: Wait> Running<N, R> {
         if group >= self.config.groups as usize {
             return;
         }
-        if !self.nudges.begin(group) {
+        let Some(nudge) = self.nudges.begin(group) else {
             return;
+        };
+        for place in 0..REPLICA_LIMIT {
+            self.tell_if_behind(sends, &nudge, group, place);
         }
         for place in 0..REPLICA_LIMIT {
-            self.tell_if_behind(sends, group, place);
+            self.send_again(sends, &nudge, group, place);
         }
-        for place in 0..REPLICA_LIMIT {
-            self.send_again(sends, group, place);
-        }
-        self.nudges.end(group);
+        nudge.end();
     }
 
     /// The node that acts at that place of the group's newest map.
@@ -50,7 +51,7 @@ impl<N: ClusterName, R: Wait> Running<N, R> {
     }
 
     /// Hands the newest map to the node that acts at that place, if its interval is lower.
-    fn tell_if_behind(&self, sends: &mut Sends<N>, group: usize, place: usize)
+    fn tell_if_behind(&self, sends: &mut Sends<N>, _nudge: &Nudge<'_>, group: usize, place: usize)
         requires { group < N.config.groups }
         ensures { OnlySent sends.old sends.new (IsInternalTo group) }
     {
@@ -96,38 +97,39 @@ impl<N: ClusterName, R: Wait> Running<N, R> {
         );
     }
 
-    /// Submits what the node that acts at that place sends again.
-    fn send_again(&self, sends: &mut Sends<N>, group: usize, place: usize)
+    /// Submits what the node that acts at that place sends again, up to the first message that finds
+    /// no room: for those after it there is none either.
+    fn send_again(&self, sends: &mut Sends<N>, _nudge: &Nudge<'_>, group: usize, place: usize)
         requires { group < N.config.groups }
         ensures { OnlySent sends.old sends.new (IsInternalTo group) }
     {
-        let Some(node) = self.acting(group, place) else {
+        let Some(sender) = self.acting(group, place) else {
             return;
         };
-        self.resend(sends, group, node);
-    }
-
-    /// Submits what a node sends again, up to the first message that finds no room: for those after
-    /// it there is none either.
-    fn resend(&self, sends: &mut Sends<N>, group: usize, node: NodeId)
-        requires { group < N.config.groups }
-        ensures { OnlySent sends.old sends.new (IsInternalTo group) }
-    {
-        for outgoing in self.unanswered(group, node) {
-            if !self.deliver_some(sends, group, node, outgoing) {
+        let origin = Origin {
+            cause: Cause::Nudge,
+            group,
+            sender,
+        };
+        // Few go to the monitors, and these go out in any case.
+        let room = self.room(sends, group);
+        let most = room.max(REPLICA_LIMIT);
+        for outgoing in self.unanswered(group, sender, most) {
+            if !self.may_go_out(sends, group, &outgoing) {
                 return;
             }
+            self.deliver(sends, &origin, outgoing);
         }
     }
 
-    /// The messages that a node sent and whose answers it still waits for, if it isn't stopped. A
-    /// message is lost if memory is refused.
-    fn unanswered(&self, group: usize, node: NodeId) -> Vec<Option<Outgoing<N>>> {
+    /// The first `most` of the messages that a node sent and whose answers it still waits for, if it
+    /// isn't stopped. A message is lost if memory is refused.
+    fn unanswered(&self, group: usize, node: NodeId, most: usize) -> Vec<Option<Outgoing<N>>> {
         let nothing = Vec::new(self.alloc);
         let Some(mut cell) = self.awake(node, group) else {
             return nothing;
         };
-        match cell.resend(self.alloc, &self.board) {
+        match cell.resend(self.alloc, &self.board, most) {
             Ok(sent) => sent,
             Err(_) => nothing,
         }
@@ -135,38 +137,12 @@ impl<N: ClusterName, R: Wait> Running<N, R> {
 
     /// True if it takes none of the places that a nudge leaves to the nodes. A message to the
     /// monitors may always go out, since it may end a peering.
-    fn may_go_out(&self, sends: &mut Sends<N>, group: usize, outgoing: &Outgoing<N>) -> bool
+    fn may_go_out(&self, sends: &mut Sends<N>, group: usize, outgoing: &Option<Outgoing<N>>) -> bool
         ensures { sends.new ≡ sends.old }
     {
         match outgoing {
-            Outgoing::ToNode(_, _) => self.has_room(sends, group),
-            Outgoing::ToMonitor(_) | Outgoing::ToClient(_, _) => true,
+            Some(Outgoing::ToNode(_, _)) => self.has_room(sends, group),
+            Some(Outgoing::ToMonitor(_) | Outgoing::ToClient(_, _)) | None => true,
         }
-    }
-
-    /// Brings what a node sends to whom it is for, if memory for it was there. What goes to a node
-    /// leaves the last places of the queue free. False if it found no room.
-    fn deliver_some(
-        &self,
-        sends: &mut Sends<N>,
-        group: usize,
-        sender: NodeId,
-        outgoing: Option<Outgoing<N>>,
-    ) -> bool
-        ensures { OnlySent sends.old sends.new (IsInternalTo group) }
-    {
-        let Some(outgoing) = outgoing else {
-            return true;
-        };
-        if !self.may_go_out(sends, group, &outgoing) {
-            return false;
-        }
-        let origin = Origin {
-            cause: Cause::Nudge,
-            group,
-            sender,
-        };
-        self.deliver(sends, Delivery { origin, outgoing });
-        true
     }
 }

@@ -7,12 +7,11 @@ ghost use Rattle.osd.specs.Turned.{WasTurn, IsLostOrTurn};
 
 use crate::cause::Cause;
 use crate::delivery::{Delivery, Origin};
-use crate::fate::{DeliveryMode, Fate, PassAll};
+use crate::fate::{Fate, PassAll};
 use crate::gate::Gate;
 use crate::name::ClusterName;
 use crate::running::Running;
-use crate::sends::Sends;
-use crate::worker::Worker;
+use crate::worker::{Due, Worker};
 use carried::{Carried, Operation};
 use group_cell::Outgoing;
 use placement::NodeId;
@@ -97,7 +96,7 @@ impl<N: ClusterName, R: Wait> Running<N, R> {
     /// Serves each shard for a while, beginning at the worker's own number modulo the number of
     /// shards. Answers whether there was an operation.
     fn round<G: Gate, F: Fate>(&self, worker: &mut Worker<N>, gate: &G, fate: &F) -> bool
-        ensures { OnlySent worker.old.sends worker.new.sends IsAny }
+        ensures { OnlySent worker.old worker.new IsAny }
     {
         let shards = self.shards.count();
         let mut shard = worker.number % shards;
@@ -117,7 +116,7 @@ impl<N: ClusterName, R: Wait> Running<N, R> {
         for look in 0..SPINS {
             let shard = look % shards;
             let is_claimed = self.schedule.is_claimed(shard);
-            if !is_claimed && !worker.takes.is_empty(&self.shards, shard) {
+            if !is_claimed && !self.shards.is_empty(&mut worker.takes, shard) {
                 return true;
             }
             spin_loop();
@@ -136,9 +135,9 @@ impl<N: ClusterName, R: Wait> Running<N, R> {
         shard: usize,
     ) -> bool
         requires { shard < length N.queues.names }
-        ensures { OnlySent worker.old.sends worker.new.sends IsAny }
+        ensures { OnlySent worker.old worker.new IsAny }
     {
-        if worker.takes.is_empty(&self.shards, shard) {
+        if self.shards.is_empty(&mut worker.takes, shard) {
             return false;
         }
         // Two workers at one shard could bring a member the second of two Reps first. It ignores
@@ -173,7 +172,7 @@ impl<N: ClusterName, R: Wait> Running<N, R> {
         shard: usize,
     ) -> Row
         requires { shard < length N.queues.names }
-        ensures { OnlySent worker.old.sends worker.new.sends IsAny }
+        ensures { OnlySent worker.old worker.new IsAny }
     {
         let mut row = Row {
             has_begun: false,
@@ -198,13 +197,13 @@ impl<N: ClusterName, R: Wait> Running<N, R> {
         row: &mut Row,
     ) -> bool
         requires { shard < length N.queues.names }
-        ensures { OnlySent worker.old.sends worker.new.sends IsAny }
+        ensures { OnlySent worker.old worker.new IsAny }
     {
-        let Some(queued) = worker.takes.take(&self.rt, &self.shards, shard) else {
+        let Some(queued) = self.shards.take(&self.rt, &mut worker.takes, shard) else {
             row.is_empty = true;
             return false;
         };
-        let goes_on = row.has_begun || worker.takes.is_empty(&self.shards, shard);
+        let goes_on = self.may_go_on(worker, row.has_begun, shard);
         let cause = queued.cause();
         let operation = queued.into_operation();
         let group = operation.group;
@@ -214,6 +213,18 @@ impl<N: ClusterName, R: Wait> Running<N, R> {
         self.nudges.remove(group, cause);
         row.has_begun = true;
         goes_on
+    }
+
+    /// True if a row goes on after the operation that was taken: it has begun, or no other waits.
+    fn may_go_on(&self, worker: &mut Worker<N>, has_begun: bool, shard: usize) -> bool
+        requires { shard < length N.queues.names }
+        ensures { worker.new ≡ worker.old }
+    {
+        // An early return, since a proof loses what two branches know of the worker.
+        if has_begun {
+            return true;
+        }
+        self.shards.is_empty(&mut worker.takes, shard)
     }
 
     /// Asks the gate. The other workers have the shard while it keeps a client's request.
@@ -229,37 +240,21 @@ impl<N: ClusterName, R: Wait> Running<N, R> {
 
     /// Serves one operation.
     fn turn<F: Fate>(&self, worker: &mut Worker<N>, fate: &F, cause: Cause, operation: Operation)
-        ensures { OnlySent worker.old.sends worker.new.sends IsAny }
+        ensures { OnlySent worker.old worker.new IsAny }
     {
         let Operation {
             group,
             node,
             carried,
         } = operation;
-        for outgoing in self.handle(group, node, carried) {
-            let origin = Origin {
-                cause,
-                group,
-                sender: node,
-            };
-            self.send_some(worker, fate, origin, outgoing);
-        }
-    }
-
-    /// Sends what a node sends, if memory for it was there.
-    fn send_some<F: Fate>(
-        &self,
-        worker: &mut Worker<N>,
-        fate: &F,
-        origin: Origin,
-        outgoing: Option<Outgoing<N>>,
-    )
-        ensures { OnlySent worker.old.sends worker.new.sends IsAny }
-    {
-        let Some(outgoing) = outgoing else {
-            return;
+        let origin = Origin {
+            cause,
+            group,
+            sender: node,
         };
-        self.send(worker, fate, Delivery { origin, outgoing });
+        for outgoing in self.handle(group, node, carried) {
+            self.send(worker, fate, &origin, outgoing);
+        }
     }
 
     /// The messages that go out by a turn of a node's cell with what reaches it; none if that is
@@ -277,48 +272,24 @@ impl<N: ClusterName, R: Wait> Running<N, R> {
         }
     }
 
-    /// Sends it once more, if memory for the copy is there.
-    fn deliver_twice(&self, sends: &mut Sends<N>, delivery: Delivery<N>)
-        ensures { OnlySent sends.old sends.new IsAny }
+    /// Sends what a node sends, as the fate has it. There is nothing if memory for it was refused.
+    fn send<F: Fate>(
+        &self,
+        worker: &mut Worker<N>,
+        fate: &F,
+        origin: &Origin,
+        outgoing: Option<Outgoing<N>>,
+    )
+        ensures { OnlySent worker.old worker.new IsAny }
     {
-        let again = delivery.again(self.alloc);
-        self.deliver_any(sends, Some(delivery));
-        self.deliver_any(sends, again);
-    }
-
-    /// Sends what a node sends, as the fate has it.
-    fn send<F: Fate>(&self, worker: &mut Worker<N>, fate: &F, delivery: Delivery<N>)
-        ensures { OnlySent worker.old.sends worker.new.sends IsAny }
-    {
-        if delivery.is_refusal() {
-            self.deliver(&mut worker.sends, delivery);
+        let Some(outgoing) = outgoing else {
             return;
-        }
-        let mode = fate.of(worker.number, worker.messages);
-        worker.messages = worker.messages.wrapping_add(1);
-        let late = worker.late.take();
-        self.deliver_as(worker, mode, delivery);
-        self.deliver_any(&mut worker.sends, late);
-    }
-
-    /// Does with what a node sends what the fate says.
-    fn deliver_as(&self, worker: &mut Worker<N>, mode: DeliveryMode, delivery: Delivery<N>)
-        ensures { OnlySent worker.old.sends worker.new.sends IsAny }
-    {
-        match mode {
-            DeliveryMode::Pass => self.deliver_any(&mut worker.sends, Some(delivery)),
-            DeliveryMode::Drop => drop(delivery),
-            DeliveryMode::Twice => self.deliver_twice(&mut worker.sends, delivery),
-            DeliveryMode::Late => worker.late = Some(delivery),
-        }
-    }
-
-    /// Brings what a node sends to whom it is for, if there is something.
-    fn deliver_any(&self, sends: &mut Sends<N>, delivery: Option<Delivery<N>>)
-        ensures { OnlySent sends.old sends.new IsAny }
-    {
-        if let Some(delivery) = delivery {
-            self.deliver(sends, delivery);
+        };
+        let Due { now, again, late } = worker.due(self.alloc, fate, origin, outgoing);
+        self.deliver(&mut worker.sends, origin, now);
+        self.deliver(&mut worker.sends, origin, again);
+        if let Some(Delivery { origin, outgoing }) = late {
+            self.deliver(&mut worker.sends, &origin, Some(outgoing));
         }
     }
 }

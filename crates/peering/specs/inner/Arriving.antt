@@ -1,6 +1,6 @@
 -- Steps of the code alone; no promise of the crate rests on them.
 -- What is decided before a node moves: the move, and the state after it.
-use Rattle.std.specs.Prelude.{◌≡◌, ℕ, List, [], ◌∷◌, ◌++◌, length, take, drop, Option, Some, None, ◌==◌, unwrap_or}
+use Rattle.std.specs.Prelude.{◌≡◌, ℕ, ◌-◌, List, [], ◌∷◌, ◌++◌, length, take, drop, Option, Some, None, ◌==◌, unwrap_or}
 use Rattle.std.specs.Prelude.{Bool, true, false, if◌then◌else◌}
 use Rattle.pg_log.specs.Requests.{ClientRequest}
 use Rattle.pg_log.specs.declared.log_error.LogError.{LogError}
@@ -110,6 +110,16 @@ at_interval interval log = record fresh { interval = interval; log = log }
 -- the Reps to one member, of the requests from its acknowledged length on
 abbrev pub reps_for : ℕ → ℕ → ℕ → ℕ → List ClientRequest → List Packet
 reps_for n m interval a rest = if m == n then [] else reps_from n m interval a rest
+
+-- all messages, or the first ones, that many
+abbrev pub first : {X : Type 0} → Option ℕ → List X → List X
+first None xs = xs
+first (Some most) xs = take most xs
+
+-- the same after some that were made before
+abbrev pub first_after : {X : Type 0} → Option ℕ → ℕ → List X → List X
+first_after None made xs = xs
+first_after (Some most) made xs = take (most - made) xs
 
 -- memory was refused
 abbrev pub is_memory : LogError → Bool

@@ -2,6 +2,7 @@
 //! becomes active.
 ghost use Rattle.std.specs.Prelude.{◌≡◌, length, IfOk, IfErr, OnErr, if◌then◌else◌, ◌&&◌, ◌==◌, not, is_none, None};
 ghost use Rattle.std.specs.Prelude.{true, ◌≤◌};
+ghost use mathlib.Core.List.{IsPrefix};
 ghost use Rattle.placement.specs.Placement.{has};
 ghost use Rattle.pg_log.specs.Entries.{requests_of};
 ghost use Rattle.pg_log.specs.Log.{Classes as Table, Legal};
@@ -51,11 +52,12 @@ impl<C: Classes> GroupNode<C> {
 
     /// True if it can take a list: the list can be run, and begins with the committed list. It runs
     /// and changes nothing. A beginning of the own log can be run, since the log can: that costs a
-    /// comparison, and no index of the list.
+    /// comparison and no memory, so an Install that comes again is answered without an index.
     pub(crate) fn can_take(&self, table: &ClassTable, list: &[Request]) -> Result<bool, HandleError>
         requires { IsLegalBy table.now C.classes self.now.state.log }
         ensures ok { IfOk result (λ can. can ≡ is_usable table.now self.now.state list.now) }
         ensures err { IfErr result (λ e. e ≡ HandleError.NoMemory) }
+        ensures again { IfErr result (λ _. ¬ (IsPrefix list.now self.now.state.log)) }
     {
         if !self.keeps_committed(list) {
             return Ok(false);
@@ -71,7 +73,8 @@ impl<C: Classes> GroupNode<C> {
 
     /// True if a list is a beginning of the log, and so can be run.
     fn has_run(&self, list: &[Request]) -> bool
-        ensures { (classes : Table) → Legal classes self.now.state.log → result ≡ true →
+        ensures beginning { IsPrefix list.now self.now.state.log → result ≡ true }
+        ensures runs { (classes : Table) → Legal classes self.now.state.log → result ≡ true →
             first_refusal classes list.now ≡ None }
     {
         // For the proof: a beginning of a legal list is legal, and nothing refuses a request of a

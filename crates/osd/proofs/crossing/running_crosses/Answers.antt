@@ -50,7 +50,10 @@ returns-clause-shared g c =
                                 search (crossing.crosses, sendable) depth 20,
                                 (
                                   search (crossing.crosses, sendable) depth 20,
-                                  tt,
+                                  (
+                                    search (crossing.crosses, sendable) depth 20,
+                                    tt,
+                                  ),
                                 ),
                               ),
                             ),

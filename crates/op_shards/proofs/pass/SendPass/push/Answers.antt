@@ -27,8 +27,8 @@ push-requires-clause-here g c =
     let ends = c.self.inside.ends.items in
     let lt = in_range (λ l. l.spot.queue) ends _ k _ (ap (λ s. s.queues.names) c.self.view_is) c.requires.queue in
     let place = send_place c.self.inside.senders c.self.inside.takers ends k queue_end.result.now lt queue_end.ensures.value c.self.invariant.0 in
-    subst (λ (q : QueuePosition). g.T.Op.group c.args.op % q.shards ≡ q.shard) (sym place)
-    (subst (λ (n : List TableId). g.T.Op.group c.args.op % length n ≡ k) (sym (ap (λ s. s.queues.names) c.self.view_is)) c.requires.here)
+    subst (λ (q : QueuePosition). g.T.GroupOp.group c.args.op % q.shards ≡ q.shard) (sym place)
+    (subst (λ (n : List TableId). g.T.GroupOp.group c.args.op % length n ≡ k) (sym (ap (λ s. s.queues.names) c.self.view_is)) c.requires.here)
 
 pub invariant_of-self : goal.invariant_of-self
 invariant_of-self g c =
@@ -53,4 +53,4 @@ returns-clause-answer g c =
     let queue_end = c.index_mut-queue_end in
     let facts = c.push.ensures in
     let lt = in_range (λ l. l.spot.queue) c.self.inside.ends.items _ c.args.shard _ (ap (λ s. s.queues.names) c.self.view_is) c.requires.queue in
-    sends g.T.Op.group c.self.inside.senders c.self.inside.takers c.self.inside.sender c.self.inside.ends.items c.args.shard queue_end.result.now c.push.new.self _ c.args.op c.push.result lt queue_end.ensures.value c.self.invariant.0 c.self.invariant.1 facts.queue_end.0 facts.queue_end.1 facts.answer c.args.self.now c.self.view_is
+    sends g.T.GroupOp.group c.self.inside.senders c.self.inside.takers c.self.inside.sender c.self.inside.ends.items c.args.shard queue_end.result.now c.push.new.self _ c.args.op c.push.result lt queue_end.ensures.value c.self.invariant.0 c.self.invariant.1 facts.queue_end.0 facts.queue_end.1 facts.answer c.args.self.now c.self.view_is

@@ -33,4 +33,4 @@ returns g c =
     let queue_end = c.index_mut-queue_end in
     let facts = c.pop.ensures in
     let lt = in_range (λ l. l.spot.queue) c.self.inside.ends.items _ c.args.shard _ (ap (λ s. s.queues.names) c.self.view_is) c.requires in
-    takes_one g.T.Op.group c.self.inside.senders c.self.inside.takers c.self.inside.ends.items c.args.shard queue_end.result.now c.pop.new.self c.pop.result lt queue_end.ensures.value c.self.invariant.0 c.self.invariant.2 facts.queue_end.0 facts.queue_end.1 facts.answer c.args.self.now c.self.view_is
+    takes_one g.T.GroupOp.group c.self.inside.senders c.self.inside.takers c.self.inside.ends.items c.args.shard queue_end.result.now c.pop.new.self c.pop.result lt queue_end.ensures.value c.self.invariant.0 c.self.invariant.2 facts.queue_end.0 facts.queue_end.1 facts.answer c.args.self.now c.self.view_is

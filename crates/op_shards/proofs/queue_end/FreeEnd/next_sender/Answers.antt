@@ -8,4 +8,4 @@ another-requires-clause-rule g c =
     let next = ap (λ d. d.next) c.self.view_is in
     let senders = ap (λ d. d.spot.place.senders) c.self.view_is in
     let room : v.first < v.place.senders = omega (arith, next, senders, c.requires.room) in
-    next_sender_forks g.T.Op.group _ v.first v.place.senders v.parts v.place _ room c.self.invariant.1 c.self.invariant.0
+    next_sender_forks g.T.GroupOp.group _ v.first v.place.senders v.parts v.place _ room c.self.invariant.1 c.self.invariant.0

@@ -7,4 +7,4 @@ another-requires-clause-rule g c =
     let v = c.self.inside.pass.me.0.client in
     let parts = ap (λ d. d.parts) c.self.view_is in
     let part : 0 < v.parts = omega (arith, parts, c.requires.room) in
-    next_taker_forks g.T.Op.group _ _ part (ap (λ v. v.got) c.self.invariant.0) c.self.invariant.1
+    next_taker_forks g.T.GroupOp.group _ _ part (ap (λ v. v.got) c.self.invariant.0) c.self.invariant.1

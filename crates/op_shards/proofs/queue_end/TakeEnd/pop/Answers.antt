@@ -7,4 +7,4 @@ pop_as-requires-clause-rule g c =
     let v = c.self.inside.pass.me.0.client in
     let parts = ap (λ d. d.parts) c.self.view_is in
     let part : 0 < v.parts = omega (arith, parts, c.requires.part) in
-    (takes g.T.Op.group _ _ part c.self.invariant.1, learns g.T.Op.group _ _ c.self.invariant.1)
+    (takes g.T.GroupOp.group _ _ part c.self.invariant.1, learns g.T.GroupOp.group _ _ c.self.invariant.1)

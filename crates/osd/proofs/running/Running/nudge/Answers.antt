@@ -8,11 +8,11 @@ returns-then-group-self-clause-grew g c = only_grew (IsInternalTo c.args.group) 
 pub returns-then-group-self-clause-only : goal.returns-then-group-self-clause-only
 returns-then-group-self-clause-only g c = only_none _ _
 
-pub returns-then-not-begin-clause-grew : goal.returns-then-not-begin-clause-grew
-returns-then-not-begin-clause-grew g c = only_grew (IsInternalTo c.args.group) _ _ (only_none _ _)
+pub returns-in_default-clause-grew : goal.returns-in_default-clause-grew
+returns-in_default-clause-grew g c = only_grew (IsInternalTo c.args.group) _ _ (only_none _ _)
 
-pub returns-then-not-begin-clause-only : goal.returns-then-not-begin-clause-only
-returns-then-not-begin-clause-only g c = only_none _ _
+pub returns-in_default-clause-only : goal.returns-in_default-clause-only
+returns-in_default-clause-only g c = only_none _ _
 
 pub loop-place-init : goal.loop-place-init
 loop-place-init g c = only_none _ _

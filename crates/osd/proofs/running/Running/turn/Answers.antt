@@ -5,4 +5,4 @@ pub loop-outgoing-init : goal.loop-outgoing-init
 loop-outgoing-init g c = only_none _ _
 
 pub loop-outgoing-preserved : goal.loop-outgoing-preserved
-loop-outgoing-preserved g c = only_several _ _ _ _ c.loop-outgoing.invariant c.send_some.ensures
+loop-outgoing-preserved g c = only_several _ _ _ _ c.loop-outgoing.invariant c.send.ensures

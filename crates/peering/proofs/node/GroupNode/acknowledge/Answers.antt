@@ -1,11 +1,8 @@
 use Rattle.std.proofs.Common.{◌≡◌, ◌&&◌, refl, false, ℕ, true, List, ap, drop, eqb, length, max, sym, take, ◌∙◌, subst, arith}
-use denote.Enum.Bare.{sameb}
 use Rattle.std.proofs.lemmas.Bool.{and_parts}
 use Rattle.std.proofs.lemmas.Grind.{common_steps}
 use Rattle.pg_log.specs.Requests.{ClientRequest}
 use Rattle.peering_messages.specs.Sending.{IsLegalBy}
-use Rattle.group_world.specs.contracts.status.Status.{the_type}
-use Rattle.group_world.specs.declared.status.Status.TheVariants.{Active}
 use Rattle.group_world.specs.Node.{is_active}
 use Rattle.group_world.specs.Rules.{least_of, raised, replies_from}
 use Rattle.group_world.specs.declared.party.Party.TheVariants.{Node as ANode}

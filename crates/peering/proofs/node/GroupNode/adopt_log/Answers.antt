@@ -1,4 +1,4 @@
-use Rattle.std.proofs.Common.{◌≡◌, refl, eqb, true, false, [], ◌∷◌, ap, sym, ◌∙◌, cond, arith}
+use Rattle.std.proofs.Common.{◌≡◌, eqb, true, false, [], ◌∷◌, ap, sym, ◌∙◌, cond, arith}
 use Rattle.std.proofs.lemmas.Bool.{and_parts}
 use Rattle.std.proofs.lemmas.Grind.{common_steps}
 use Rattle.group_world.specs.Node.{is_asking}

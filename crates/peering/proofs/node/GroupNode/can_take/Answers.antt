@@ -17,7 +17,7 @@ none_where (Some why) false h = refl
 pub returns-then-has_run-clause-ok : goal.returns-then-has_run-clause-ok
 returns-then-has_run-clause-ok g c =
     let n = c.args.self.now in
-    let run = c.has_run.ensures c.args.table.now c.requires.legal c.if-has_run.true in
+    let run = c.has_run.ensures.runs c.args.table.now c.requires.legal c.if-has_run.true in
     ap is_none (sym run)
     ∙ and_true (is_none (first_refusal c.args.table.now c.args.list.now)) (begins (committed_list n.state) c.args.list.now) (sym c.keeps_committed.ensures.value ∙ c.if-not-keeps_committed.false)
 
@@ -26,3 +26,7 @@ returns-in-Ok-clause-ok g c =
     let n = c.args.self.now in
     none_where c.in-Ok.why c.is_none.result c.is_none.ensures ∙ ap is_none c.in-Ok.ensures.ok
     ∙ and_true (is_none (first_refusal c.args.table.now c.args.list.now)) (begins (committed_list n.state) c.args.list.now) (sym c.keeps_committed.ensures.value ∙ c.if-not-keeps_committed.false)
+
+-- memory is asked for only where the list is no beginning of the log
+pub returns-in-Err-clause-again : goal.returns-in-Err-clause-again
+returns-in-Err-clause-again g c = λ begins. false≢true (sym c.if-has_run.false ∙ c.has_run.ensures.beginning begins)

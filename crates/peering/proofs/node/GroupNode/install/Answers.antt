@@ -1,7 +1,7 @@
 use Rattle.std.proofs.Common.{◌≡◌, true, ap, sym, ◌∙◌, subst, cond, nat_lt, IfOk, arith}
 use Rattle.std.proofs.lemmas.Grind.{common_steps}
 use Rattle.group_world.specs.Node.{Outcome, nothing, is_waiting}
-use Rattle.group_world.specs.Rules.{arrive, install_after, is_usable, would_forget}
+use Rattle.group_world.specs.Rules.{arrive, is_usable, would_forget}
 use Rattle.peering.specs.Numbered.{IsDone}
 use Rattle.peering.proofs.Installing.{first_install, other_install, install_at, or_false, waits}
 use Rattle.peering.proofs.node.GroupNode.install.Goals as goal

@@ -1,8 +1,5 @@
 use Rattle.std.proofs.Common.{◌≡◌, ◌&&◌, ℕ, Option, Result, IfOk, false, eqb, ap, sym, ◌∙◌, subst}
-use denote.Enum.Bare.{sameb}
 use Rattle.std.proofs.lemmas.Bool.{and_parts}
-use Rattle.group_world.specs.contracts.status.Status.{the_type}
-use Rattle.group_world.specs.declared.status.Status.TheVariants.{Installed}
 use Rattle.group_world.specs.Node.{NodeState, is_installed, nothing}
 use Rattle.group_world.specs.Rules.{replicate}
 use Rattle.group_world.specs.declared.handle_error.HandleError.{HandleError}

@@ -2,7 +2,7 @@ use Rattle.std.proofs.Common.{sym, ap, ◌∙◌}
 use Rattle.std.proofs.lemmas.Bool.{true≢false}
 use Rattle.rados_client.specs.declared.patience.Patience.{Patience}
 use Rattle.rados_client.proofs.Asking.{grew_more, knows_more, knows_same, is_asked, not_asked_same, taken_in, untaken_in}
-use Rattle.rados_client.proofs.connection.Connection.ask.Goals.{in-Ok, in-Err-Full}
+use Rattle.rados_client.proofs.connection.Connection.ask.Goals.{in-Ok, in-Err-NoRoom}
 use Rattle.rados_client.proofs.connection.Connection.ask.Goals as goal
 
 pub returns-in-Some-clause-some : goal.returns-in-Some-clause-some
@@ -37,10 +37,10 @@ loop-init g c =
         taken = λ _. w.in-Ok.ensures.taken;
         untaken = λ not. absurd (true≢false (sym (ap (λ (p : Patience). p.taken) w.patience-is ∙ w.after_taken-patience.ensures) ∙ not));
       }
-      | in-Err-Full w ↦ record {
+      | in-Err-NoRoom w ↦ record {
         seen = seen;
         grew = grew;
-        taken = λ is. absurd (true≢false (sym is ∙ (ap (λ (p : Patience). p.taken) w.patience-is ∙ w.after_full-patience.ensures)));
-        untaken = λ _. not_asked_same old.sends new.sends c.args.request.now w.in-Err-Full.ensures.kept;
+        taken = λ is. absurd (true≢false (sym is ∙ (ap (λ (p : Patience). p.taken) w.patience-is ∙ w.after_no_room-patience.ensures)));
+        untaken = λ _. not_asked_same old.sends new.sends c.args.request.now w.in-Err-NoRoom.ensures.kept;
       }
     ]

@@ -10,8 +10,5 @@ returns-in-Ok-clause-taken g c now =
     let end = c.submit.new.self.sends in
     inr (asked_in c.args.self.now.sends c.nudge.new.self.sends end end c.args.request.now c.nudge.ensures.grew c.in-Ok.ensures.taken (grew_self end))
 
-pub returns-in-Err-Full-clause-grew : goal.returns-in-Err-Full-clause-grew
-returns-in-Err-Full-clause-grew g c = grew_more c.args.self.now.sends c.nudge.new.self.sends c.submit.new.self.sends c.nudge.ensures.grew c.submit.ensures.grew
-
-pub returns-in-Err-NoMemory-clause-grew : goal.returns-in-Err-NoMemory-clause-grew
-returns-in-Err-NoMemory-clause-grew g c = grew_more c.args.self.now.sends c.nudge.new.self.sends c.submit.new.self.sends c.nudge.ensures.grew c.submit.ensures.grew
+pub returns-in-Err-clause-grew : goal.returns-in-Err-clause-grew
+returns-in-Err-clause-grew g c = grew_more c.args.self.now.sends c.nudge.new.self.sends c.submit.new.self.sends c.nudge.ensures.grew c.submit.ensures.grew

@@ -1,5 +1,5 @@
 /// An operation, which is asked of a group. Contracts see the group as its number.
-pub trait Op: Drop {
+pub trait GroupOp: Drop {
     ghost use Rattle.std.specs.Prelude.{◌≡◌, ℕ};
 
     ghost group: { Self → ℕ };

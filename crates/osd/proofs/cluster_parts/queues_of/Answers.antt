@@ -1,6 +1,6 @@
 use Rattle.std.proofs.Common.{◌+◌, arith}
 use Rattle.osd.proofs.Parting.{senders_fit, takers_fit}
-use Rattle.osd.proofs.parts.queues_of.Goals as goal
+use Rattle.osd.proofs.cluster_parts.queues_of.Goals as goal
 
 pub returns-clause-sends : goal.returns-clause-sends
 returns-clause-sends c =

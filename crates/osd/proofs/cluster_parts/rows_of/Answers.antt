@@ -1,6 +1,6 @@
 use Rattle.std.proofs.Common.{◌*◌, ap, arith}
 use Rattle.osd.proofs.Parting.{writers_fit}
-use Rattle.osd.proofs.parts.rows_of.Goals as goal
+use Rattle.osd.proofs.cluster_parts.rows_of.Goals as goal
 
 pub returns : goal.returns
 returns c =

@@ -5,19 +5,19 @@ use group_world::{CallReply, Place};
 use std::marker::Model;
 
 /// The reply to a call. Contracts see its place and its answer.
-pub struct Reply {
+pub struct ExecReply {
     place: Place,
     answer: CallReply,
 }
 
-impl Drop for Reply {
+impl Drop for ExecReply {
     fn drop(self) {
-        let Reply { place: _, answer } = self;
+        let ExecReply { place: _, answer } = self;
         drop(answer);
     }
 }
 
-impl Model for Reply {
+impl Model for ExecReply {
     ghost use Rattle.rados_client.specs.Session.{PlacedReply};
 
     ghost Value = { PlacedReply };
@@ -28,14 +28,14 @@ impl Model for Reply {
     } };
 }
 
-impl Reply {
-    pub(crate) fn new(place: Place, answer: CallReply) -> Reply
+impl ExecReply {
+    pub(crate) fn new(place: Place, answer: CallReply) -> ExecReply
         ensures { result ≡ record {
           place = place;
           answer = answer;
         } }
     {
-        Reply { place, answer }
+        ExecReply { place, answer }
     }
 
     /// Where the call stands in its group's log, from 0 on.
