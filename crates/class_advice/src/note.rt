@@ -6,7 +6,7 @@ use crate::calls::push_call;
 use crate::known::push_kind;
 use crate::read::is_read;
 use crate::touched::push_touched;
-use abstract_regs::{Form, Frame, Link};
+use abstract_regs::{Frame, Link, LinkForm};
 use bpf_decode::{ClassImage, Insn, Method, RuleSet};
 use std::alloc::{AllocError, Global};
 use verifier::{Refusal, RefusedSlot, Rule, refused_slot};
@@ -14,7 +14,7 @@ use verifier::{Refusal, RefusedSlot, Rule, refused_slot};
 /// True if two registers have one number whole, at one distance.
 fn are_copies(x: Link, y: Link) -> bool {
     match (x.form, y.form) {
-        (Form::Whole, Form::Whole) => x.name == y.name && x.distance == y.distance,
+        (LinkForm::Whole, LinkForm::Whole) => x.name == y.name && x.distance == y.distance,
         _ => false,
     }
 }
@@ -80,6 +80,18 @@ fn push_wanted(out: &mut String, rules: RuleSet, rule: Rule) -> Result<(), Alloc
     write!(out, "  wanted: {wanted}\n  see docs/VERIFIER.md, {rule}\n")
 }
 
+/// What may be done of a jump back in a class of rule set 3.
+const MAY_LOOP: &str =
+    "  in rule set 3 a loop may be declared: radoscls heads IN OUT, then verify --loops\n";
+
+/// Adds that a loop may be declared, if a jump back is refused in rule set 3.
+fn push_loops(out: &mut String, rules: RuleSet, rule: Rule) -> Result<(), AllocError> {
+    if let (RuleSet::Three, Rule::Backward) = (rules, rule) {
+        out.push_str(MAY_LOOP)?;
+    }
+    Ok(())
+}
+
 /// The method, its capacities and the instruction.
 fn head(alloc: Global, method: &Method, insn: Insn) -> Result<String, AllocError> {
     let (name, in_cap, out_cap) = (method.name(), method.in_cap(), method.out_cap());
@@ -112,6 +124,7 @@ fn slot_text(
         push_call(&mut out, insn, advice)?;
         push_advice(&mut out, advice)?;
     }
+    push_loops(&mut out, rules, rule)?;
     Ok(out)
 }
 

@@ -4,10 +4,10 @@ use Rattle.std.specs.Prelude.{IfErr, IsErrAnd}
 use Rattle.std.proofs.lemmas.List.{length-take-le, take-append-drop}
 use Rattle.std.proofs.Math.Seq.{drop-cons, take-suc}
 use Rattle.bpf_decode.specs.Class.{ClassMethod}
-use Rattle.class_tool.specs.Files.{Disk}
+use Rattle.program_files.specs.Files.{Disk}
 use Rattle.class_tool.specs.Packing.{AreMethodsIn, CodeFails, IsMethodIn, MethodsFail}
 use Rattle.class_tool.specs.declared.action.RawMethod.{RawMethod}
-use Rattle.class_tool.specs.declared.failure.Failure.{Failure}
+use Rattle.program_files.specs.declared.failure.Failure.{Failure}
 
 -- one more method
 one_more : (disk : Option Disk) (raws : List RawMethod) (methods : List ClassMethod) (raw : RawMethod) (method : ClassMethod)

@@ -9,12 +9,12 @@ use Rattle.object_store.specs.Object.{Content, PlainObject}
 use Rattle.interp.specs.declared.outcome.Outcome.{Outcome}
 use Rattle.verifier.specs.Verified.{method_named}
 use Rattle.interp.specs.Plain.{Answers}
-use Rattle.class_tool.specs.Files.{Disk}
+use Rattle.program_files.specs.Files.{Disk}
 use Rattle.class_tool.specs.Begun.{Begins}
-use Rattle.class_tool.specs.Image.{IsSafeIn}
+use Rattle.program_files.specs.Image.{IsSafeIn}
 use Rattle.class_tool.specs.Log.{IsLogged, first_request}
 use Rattle.class_tool.specs.RunReport.{IsOneOutcome, IsReplied, IsReportOf, IsTraceText, Reports}
-use Rattle.class_tool.specs.declared.action.MethodCall.{MethodCall}
+use Rattle.object_texts.specs.declared.method_call.MethodCall.{MethodCall}
 use Rattle.class_tool.specs.declared.log.Logged.{Logged}
 use Rattle.class_tool.specs.declared.run_report.RunReport.{RunReport}
 use Rattle.class_tool.proofs.Called.{one_outcome}

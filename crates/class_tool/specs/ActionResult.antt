@@ -4,14 +4,15 @@ use Rattle.std.specs.List.{flat_map}
 use Rattle.std.specs.Fmt.{decimal}
 use Rattle.bpf_decode.specs.Class.{ClassMethod}
 use Rattle.class_tool.specs.declared.action.Action.{Action}
-use Rattle.class_tool.specs.declared.action.Action.TheVariants.{Verify, Run, Assemble, Pack, Disassemble}
+use Rattle.class_tool.specs.declared.action.Action.TheVariants.{Verify, Run, RunLarge, Assemble, Pack, Disassemble}
 use Rattle.class_tool.specs.declared.action_result.ActionResult.{ActionResult}
 use Rattle.class_tool.specs.declared.action_result.ActionResult.TheVariants.{Accepted, Ran, Assembled, Disassembled}
-use Rattle.class_tool.specs.declared.failure.Failure.{Failure}
-use Rattle.class_tool.specs.Assembly.{AssembleFails, Assembles, IsTextOf}
-use Rattle.class_tool.specs.Files.{Storage}
-use Rattle.class_tool.specs.Image.{IsSafeIn, LoadFails, ReadFails}
+use Rattle.program_files.specs.declared.failure.Failure.{Failure}
+use Rattle.program_files.specs.Assembly.{AssembleFails, Assembles, IsTextOf}
+use Rattle.program_files.specs.Files.{Storage}
+use Rattle.program_files.specs.Image.{IsSafeIn, LoadFails, ReadFails}
 use Rattle.class_tool.specs.Packing.{PackFails, Packs}
+use Rattle.class_tool.specs.LargeRun.{LargeReports, LargeRunFails}
 use Rattle.class_tool.specs.RunReport.{report_text}
 use Rattle.class_tool.specs.Run.{SavedReports, SavedRunFails}
 
@@ -31,6 +32,7 @@ result_text (Disassembled text) = string_bytes text
 abbrev pub Settles : Storage → Storage → Action → ActionResult → Type 0
 Settles before after (Verify image) (Accepted class) = (after ≡ before) × IsSafeIn before.disk image.now class
 Settles before after (Run call) (Ran report) = SavedReports before after call report
+Settles before after (RunLarge call) (Ran report) = LargeReports before after call report
 Settles before after (Assemble text image) Assembled = Assembles before after text.now image.now
 Settles before after (Pack asked) Assembled = Packs before after asked
 Settles before after (Disassemble image has_slots) (Disassembled text) =
@@ -41,6 +43,7 @@ Settles before after action answer = ⊥
 abbrev pub Fails : Storage → Storage → Action → Failure → Type 0
 Fails before after (Verify image) failure = (after ≡ before) × LoadFails before.disk image.now failure
 Fails before after (Run call) failure = SavedRunFails before after call failure
+Fails before after (RunLarge call) failure = LargeRunFails before after call failure
 Fails before after (Assemble text image) failure = AssembleFails before after text.now image.now failure
 Fails before after (Pack asked) failure = PackFails before after asked failure
 Fails before after (Disassemble image has_slots) failure = (after ≡ before) × ReadFails before.disk image.now failure

@@ -2,13 +2,13 @@
 use Rattle.std.specs.Prelude.{◌≡◌, ◌⊎◌, ℕ, List, Option, Some, None, Ok, Err}
 use Rattle.std.specs.Borrow.{Bor}
 use Rattle.object_store.specs.Object.{PlainObject}
-use Rattle.class_tool.specs.Assembly.{TextFails}
-use Rattle.class_tool.specs.Files.{Disk, Holds}
-use Rattle.class_tool.specs.Given.{object_before}
-use Rattle.class_tool.specs.Saved.{spelled_object}
-use Rattle.class_tool.specs.declared.action.MethodCall.{MethodCall}
-use Rattle.class_tool.specs.declared.failure.Failure.{Failure}
-use Rattle.class_tool.specs.declared.failure.Failure.TheVariants.{NoMemory}
+use Rattle.program_files.specs.Assembly.{TextFails}
+use Rattle.program_files.specs.Files.{Disk, Holds}
+use Rattle.object_texts.specs.Given.{object_before}
+use Rattle.object_texts.specs.Saved.{spelled_object}
+use Rattle.object_texts.specs.declared.method_call.MethodCall.{MethodCall}
+use Rattle.program_files.specs.declared.failure.Failure.{Failure}
+use Rattle.program_files.specs.declared.failure.Failure.TheVariants.{NoMemory}
 
 -- the file holds a text that spells the object
 pub record IsSpelledIn (disk : Option Disk) (name : List ℕ) (object : PlainObject) : Type 0 where

@@ -8,11 +8,11 @@ use Rattle.verifier.specs.Verdict.{method_verdict}
 use Rattle.verifier.specs.declared.refusal.Refusal.{Refusal}
 use Rattle.verifier.specs.declared.rule.Rule.{Rule}
 use Rattle.class_tool.specs.ActionResult.{method_line}
-use Rattle.class_tool.specs.Files.{Disk}
-use Rattle.class_tool.specs.Image.{IsSourceOf, class_of}
+use Rattle.program_files.specs.Files.{Disk}
+use Rattle.program_files.specs.Image.{IsSourceOf, class_of}
 use Rattle.class_tool.specs.Note.{IsNote}
 use Rattle.class_tool.specs.declared.each.Verdicts.{Verdicts}
-use Rattle.class_tool.specs.declared.image.Source.{Source}
+use Rattle.program_files.specs.declared.image.ClassSource.{ClassSource}
 
 -- a refusal's line, and a note below it, if one is asked for
 abbrev pub IsRefusalText : Bool → Refusal → List ℕ → Type 0
@@ -39,7 +39,7 @@ are_accepted rules (m ∷ ms) = is_none (method_verdict rules m) && are_accepted
 
 -- the text is that of the class whose image or text the file holds
 pub record AreVerdicts (disk : Option Disk) (name : List ℕ) (is_explained : Bool) (verdicts : Verdicts) : Type 0 where
-  pub source : Source
+  pub source : ClassSource
   pub read : IsSourceOf disk name source
   pub lines : IsEachText is_explained (class_of source).rules 0 (class_of source).methods (string_bytes verdicts.lines)
   pub accepted : verdicts.are_accepted ≡ are_accepted (class_of source).rules (class_of source).methods

@@ -12,8 +12,8 @@ use Rattle.pg_log.specs.declared.log_error.LogError.{LogError}
 use Rattle.pg_log.specs.declared.log_error.LogError.TheVariants.{LogFull, StaleNumber, NoMemory, NoClass, NoMethod}
 use Rattle.pg_log.specs.declared.log_error.LogError.TheVariants.{InputTooLong}
 use Rattle.class_tool.specs.declared.log.Logged.{Logged}
-use Rattle.class_tool.specs.declared.failure.Failure.{Failure}
-use Rattle.class_tool.specs.declared.failure.Failure.TheVariants as failure
+use Rattle.program_files.specs.declared.failure.Failure.{Failure}
+use Rattle.program_files.specs.declared.failure.Failure.TheVariants as failure
 
 -- the caller's first request: that method of the first class, on the object `o`
 abbrev pub first_request : ℕ → List ℕ → List ℕ → ClientRequest
@@ -64,3 +64,4 @@ LogFails class method input failure.ObjectNotHex = ⊥
 LogFails class method input (failure.ObjectLine line) = ⊥
 LogFails class method input (failure.Object error) = ⊥
 LogFails class method input (failure.Call error) = CallRefused class method input error
+LogFails class method input failure.CallFull = ⊥

@@ -8,13 +8,13 @@ use Rattle.bpf_decode.specs.Reading.{code_of}
 use Rattle.bpf_decode.specs.declared.decode_error.DecodeError.{DecodeError}
 use Rattle.bpf_decode.specs.declared.decode_error.DecodeError.TheVariants as decode
 use Rattle.bpf_decode.specs.declared.insn.Insn.{Insn}
-use Rattle.class_tool.specs.Files.{Disk, FailsToWrite, Holds, IsUnreadable, Storage, Writes}
+use Rattle.program_files.specs.Files.{Disk, FailsToWrite, Holds, IsUnreadable, Storage, Writes}
 use Rattle.class_tool.specs.declared.action.Packing.{Packing}
 use Rattle.class_tool.specs.declared.action.RawMethod.{RawMethod}
-use Rattle.class_tool.specs.declared.failure.Failure.{Failure}
-use Rattle.class_tool.specs.declared.failure.Failure.TheVariants.{CannotRead, CannotWrite, NoMemory, TextTooLong, Text}
-use Rattle.class_tool.specs.declared.failure.Failure.TheVariants.{Image, Verdict, InputNotHex, ObjectNotHex, ObjectLine}
-use Rattle.class_tool.specs.declared.failure.Failure.TheVariants.{Object, Call}
+use Rattle.program_files.specs.declared.failure.Failure.{Failure}
+use Rattle.program_files.specs.declared.failure.Failure.TheVariants.{CannotRead, CannotWrite, NoMemory, TextTooLong}
+use Rattle.program_files.specs.declared.failure.Failure.TheVariants.{Text, Image, Verdict, InputNotHex, ObjectNotHex}
+use Rattle.program_files.specs.declared.failure.Failure.TheVariants.{ObjectLine, Object, Call, CallFull}
 
 -- the file holds the raw code of those instructions
 pub record IsCodeIn (disk : Option Disk) (name : List ℕ) (instructions : List Insn) : Type 0 where
@@ -71,6 +71,7 @@ CodeFails disk name done ObjectNotHex = ⊥
 CodeFails disk name done (ObjectLine line) = ⊥
 CodeFails disk name done (Object error) = ⊥
 CodeFails disk name done (Call error) = ⊥
+CodeFails disk name done CallFull = ⊥
 
 -- the first methods were read, and the next one's code was not
 pub record MethodsFail (disk : Option Disk) (raws : List RawMethod) (failure : Failure) : Type 0 where
@@ -97,6 +98,7 @@ ClassFails rules methods ObjectNotHex = ⊥
 ClassFails rules methods (ObjectLine line) = ⊥
 ClassFails rules methods (Object error) = ⊥
 ClassFails rules methods (Call error) = ⊥
+ClassFails rules methods CallFull = ⊥
 
 -- all methods were read, and they have no image
 pub record PackedFails (disk : Option Disk) (rules : RuleSet) (raws : List RawMethod) (failure : Failure) : Type 0 where

@@ -3,16 +3,16 @@ use Rattle.std.specs.Prelude.{◌≡◌, ◌⊎◌, ℕ, List, Option, Ok, IsErr
 use Rattle.hex.specs.Hex.{decode_of}
 use Rattle.bpf_decode.specs.Class.{ClassMethod}
 use Rattle.object_store.specs.Object.{PlainObject}
-use Rattle.class_tool.specs.Files.{Disk, Storage}
+use Rattle.program_files.specs.Files.{Disk, Storage}
 use Rattle.class_tool.specs.Begun.{BeginFails, Begins}
-use Rattle.class_tool.specs.Image.{IsSafeIn, LoadFails}
+use Rattle.program_files.specs.Image.{IsSafeIn, LoadFails}
 use Rattle.class_tool.specs.Log.{LogFails}
 use Rattle.class_tool.specs.RunReport.{Reports}
-use Rattle.class_tool.specs.Saved.{SaveFails, Saves}
-use Rattle.class_tool.specs.declared.action.MethodCall.{MethodCall}
-use Rattle.class_tool.specs.declared.failure.Failure.{Failure}
+use Rattle.object_texts.specs.Saved.{SaveFails, Saves}
+use Rattle.object_texts.specs.declared.method_call.MethodCall.{MethodCall}
+use Rattle.program_files.specs.declared.failure.Failure.{Failure}
 use Rattle.class_tool.specs.declared.run_report.RunReport.{RunReport}
-use Rattle.class_tool.specs.declared.failure.Failure.TheVariants.{InputNotHex, NoMemory}
+use Rattle.program_files.specs.declared.failure.Failure.TheVariants.{InputNotHex, NoMemory}
 
 -- the class was loaded, and the input is not in hexadecimal; or memory was refused
 pub record InputFails (disk : Option Disk) (call : MethodCall) (failure : Failure) : Type 0 where

@@ -11,12 +11,12 @@ use Rattle.class_trace.specs.declared.steps.TraceLine.{TraceLine}
 use Rattle.interp.specs.Plain.{Answers}
 use Rattle.interp.specs.declared.outcome.Outcome.{Outcome}
 use Rattle.pg_log.specs.Requests.{ClientRequest}
-use Rattle.class_tool.specs.Files.{Disk}
+use Rattle.program_files.specs.Files.{Disk}
 use Rattle.class_tool.specs.Begun.{Begins}
-use Rattle.class_tool.specs.Image.{IsSafeIn}
+use Rattle.program_files.specs.Image.{IsSafeIn}
 use Rattle.class_tool.specs.Log.{IsLogged, first_request}
-use Rattle.class_tool.specs.Shown.{or_dash, shown_text}
-use Rattle.class_tool.specs.declared.action.MethodCall.{MethodCall}
+use Rattle.object_texts.specs.Shown.{or_dash, shown_text}
+use Rattle.object_texts.specs.declared.method_call.MethodCall.{MethodCall}
 use Rattle.class_tool.specs.declared.log.Logged.{Logged}
 use Rattle.class_tool.specs.declared.run_report.Holdings.{Holdings}
 use Rattle.class_tool.specs.declared.run_report.RunReport.{RunReport}

@@ -4,14 +4,13 @@ ghost use Rattle.std.specs.List.{AllByRecursion};
 ghost use Rattle.bpf_decode.specs.Class.{IsMethod};
 ghost use Rattle.class_tool.specs.Each.{AreVerdicts, IsEachText, IsRefusalText, IsVerdictText, are_accepted};
 ghost use Rattle.class_tool.specs.ActionResult.{method_line};
-ghost use Rattle.class_tool.specs.Image.{ReadFails, class_of};
+ghost use Rattle.program_files.specs.Image.{ReadFails, class_of};
 ghost use Rattle.class_tool.specs.Note.{IsNote};
 ghost use Rattle.verifier.specs.Verdict.{method_verdict};
 
-use crate::failed::{Failed, verdict_note};
-use crate::files::Reads;
-use crate::image::{Source, read_source};
+use crate::explain::verdict_note;
 use bpf_decode::Method;
+use program_files::{ClassSource, Failed, ReadableFiles, read_source};
 use std::alloc::{AllocError, Global};
 use std::fmt;
 use verifier::{Refusal, refused_slot};
@@ -48,7 +47,7 @@ impl fmt::Display for Verdicts {
 #[derive(Clone, Copy)]
 struct Judged<'a> {
     alloc: Global,
-    source: &'a Source,
+    source: &'a ClassSource,
     is_explained: bool,
 }
 
@@ -139,7 +138,7 @@ impl Judged<'_> {
 /// The verdict of each method of the class that a file holds, with a note below each refusal, if
 /// that is asked for; a text that is no class's fails with a note on each wrong line. It costs what
 /// `verify` does of an accepted class, and that again for each refusal that is explained.
-pub fn verify_each<F: Reads>(
+pub fn verify_each<F: ReadableFiles>(
     alloc: Global,
     files: &F,
     image: &str,

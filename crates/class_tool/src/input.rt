@@ -3,8 +3,8 @@
 ghost use Rattle.std.specs.Prelude.{◌≡◌, ◌⊎◌, IfOk, IfErr, IsErr, Ok};
 ghost use Rattle.hex.specs.Hex.{decode_of};
 
-use crate::failure::Failure;
 use hex::FromHexError;
+use program_files::Failure;
 use std::alloc::Global;
 
 /// The bytes that pairs of hexadecimal digits stand for, in either case. Of no digits it gives no

@@ -6,10 +6,10 @@ ghost use Rattle.pg_log.specs.Log.{reply_at};
 ghost use Rattle.pg_log.specs.Refusals.{append_answer};
 ghost use Rattle.class_tool.specs.Log.{IsCallRefusal, IsLogged, LogFails, first_request, refusal_of};
 
-use crate::failure::Failure;
 use interp::{CallError, ClassTable, TableError};
 use object_store::ObjectName;
 use pg_log::{Classes, ClientId, Group, LogError, Request, RequestNumber, RequestParts};
+use program_files::Failure;
 use std::alloc::{AllocError, Global};
 use std::marker::Brand;
 use verifier::VerifiedClass;

@@ -2,20 +2,18 @@
 
 ghost use Rattle.std.specs.Prelude.{◌⊎◌, IfOk, IfErr};
 ghost use Rattle.bpf_decode.specs.Class.{IsImage};
-ghost use Rattle.class_tool.specs.Files.{storage};
+ghost use Rattle.program_files.specs.Files.{storage};
 ghost use Rattle.class_tool.specs.Packing.{AreMethodsIn, ClassFails, CodeFails, IsCodeIn, IsMethodIn, IsPackedOf};
 ghost use Rattle.class_tool.specs.Packing.{MethodsFail, PackFails, PackedFails, Packs};
 
 use crate::action::{Packing, RawMethod};
-use crate::failed::{Failed, about_method};
-use crate::failure::Failure;
-use crate::files::{Files, Reads};
 use bpf_decode::{ClassImage, ImageError, Insn, Method, RuleSet, decode, write_image};
+use program_files::{About, Failed, Failure, Files, ReadableFiles};
 use std::alloc::Global;
 
 /// The instructions of the raw code that a file holds. A refusal of the code is an image's, after
 /// `done` methods.
-fn code_in<F: Reads>(
+fn code_in<F: ReadableFiles>(
     alloc: Global,
     files: &F,
     name: &str,
@@ -38,7 +36,7 @@ fn code_in<F: Reads>(
 }
 
 /// The method whose raw code a file holds, after `done` methods.
-fn method_in<F: Reads>(
+fn method_in<F: ReadableFiles>(
     alloc: Global,
     files: &F,
     raw: &RawMethod<'_>,
@@ -53,7 +51,7 @@ fn method_in<F: Reads>(
 }
 
 /// The methods whose raw code files hold, in their order.
-fn methods_in<F: Reads>(
+fn methods_in<F: ReadableFiles>(
     alloc: Global,
     files: &F,
     raws: &[RawMethod<'_>],
@@ -85,7 +83,7 @@ fn image_of(alloc: Global, rules: RuleSet, methods: Vec<Method>) -> Result<Vec<u
 }
 
 /// The image of the class of the methods whose raw code files hold.
-fn packed<F: Reads>(
+fn packed<F: ReadableFiles>(
     alloc: Global,
     files: &F,
     rules: RuleSet,
@@ -97,6 +95,23 @@ fn packed<F: Reads>(
 {
     let methods = methods_in(alloc, files, raws)?;
     image_of(alloc, rules, methods)
+}
+
+/// The method that was not read, of those that `pack` packs.
+fn about_method(alloc: Global, raws: &[RawMethod<'_>], failure: Failure) -> About {
+    let Failure::Image(error) = failure else {
+        return About::Nothing;
+    };
+    let Some(raw) = raws.get(error.methods) else {
+        return About::Methods;
+    };
+    match (
+        String::from_str(alloc, raw.name),
+        String::from_str(alloc, raw.code),
+    ) {
+        (Ok(name), Ok(file)) => About::Method(name, file, raw.in_cap, raw.out_cap),
+        _ => About::Nothing,
+    }
 }
 
 /// Writes the image of the class of those methods, whose raw code files hold. Nothing is written

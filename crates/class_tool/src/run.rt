@@ -5,31 +5,27 @@ ghost use Rattle.std.specs.Option.{option_copied};
 ghost use Rattle.std.specs.Int.{w64};
 ghost use Rattle.interp.specs.Plain.{Answers};
 ghost use Rattle.interp.specs.declared.outcome.Outcome.{Outcome as AnOutcome};
-ghost use Rattle.class_tool.specs.Image.{IsSafeIn, class_of};
+ghost use Rattle.program_files.specs.Image.{IsSafeIn, class_of};
 ghost use Rattle.class_tool.specs.Log.{IsLogged, LogFails, first_request};
 ghost use Rattle.class_tool.specs.RunReport.{IsOneOutcome, IsReplied, IsReportOf, Reports};
-ghost use Rattle.class_tool.specs.Assembly.{TextFails};
+ghost use Rattle.program_files.specs.Assembly.{TextFails};
 ghost use Rattle.class_tool.specs.Begun.{BeginFails, Begins, IsMisspelledIn, IsSpelledIn};
-ghost use Rattle.class_tool.specs.Files.{storage};
-ghost use Rattle.class_tool.specs.Saved.{SaveFails, Saves};
+ghost use Rattle.program_files.specs.Files.{storage};
+ghost use Rattle.object_texts.specs.Saved.{SaveFails, Saves};
 ghost use Rattle.class_tool.specs.Run.{RunFails, SavedReports, SavedRunFails};
 ghost use Rattle.class_tool.specs.declared.log.Logged.{Logged as ALogged};
 
-use crate::action::MethodCall;
-use crate::assembly::read_text;
-use crate::failed::Failed;
-use crate::failure::Failure;
-use crate::files::{Files, Reads};
-use crate::given::object_before;
-use crate::image::{Source, load_with_source};
 use crate::input::decode_input;
 use crate::log::{Logged, append};
 use crate::run_report::RunReport;
-use crate::saved::{save, spelled_object};
 use crate::traced::traced;
 use bpf_machine::outcomes;
 use interp::Outcome;
 use object_store::Object;
+use object_texts::{MethodCall, object_before, save, spelled_object};
+use program_files::{
+    ClassSource, Failed, Failure, Files, ReadableFiles, load_with_source, read_text,
+};
 use std::alloc::{AllocError, Global};
 use verifier::VerifiedClass;
 
@@ -134,7 +130,7 @@ fn call_beside(
 }
 
 /// The object before a call: that of the file that is named for it, or else that of words.
-fn begun<F: Reads>(
+fn begun<F: ReadableFiles>(
     alloc: Global,
     files: &F,
     asked: &MethodCall<'_>,
@@ -149,7 +145,7 @@ fn begun<F: Reads>(
 }
 
 /// The object that a file's text spells.
-fn loaded<F: Reads>(alloc: Global, files: &F, file: &str) -> Result<Option<Object>, Failure>
+fn loaded<F: ReadableFiles>(alloc: Global, files: &F, file: &str) -> Result<Option<Object>, Failure>
     ensures ok { IfOk result (IsSpelledIn (F.disk files.now) file.now) }
     ensures err { IfErr result (λ e. (e ≡ Failure.NoMemory) ⊎ TextFails (F.disk files.now) file.now e ⊎
         IsMisspelledIn (F.disk files.now) file.now e) }
@@ -181,11 +177,11 @@ fn answered(
 
 /// Makes the call of a safe class on the object that is spelled, and a trace of it if one is asked
 /// for.
-fn run_safe<F: Reads>(
+fn run_safe<F: ReadableFiles>(
     alloc: Global,
     files: &F,
     class: VerifiedClass,
-    source: &Source,
+    source: &ClassSource,
     asked: &MethodCall<'_>,
 ) -> Result<RunReport, Failure>
     requires safe { IsSafeIn (F.disk files.now) asked.now.image.now class }
@@ -201,7 +197,11 @@ fn run_safe<F: Reads>(
 }
 
 /// Loads the class and makes the call.
-fn run<F: Reads>(alloc: Global, files: &F, asked: &MethodCall<'_>) -> Result<RunReport, Failed>
+fn run<F: ReadableFiles>(
+    alloc: Global,
+    files: &F,
+    asked: &MethodCall<'_>,
+) -> Result<RunReport, Failed>
     ensures ok { IfOk result (Reports (F.disk files.now) asked.now) }
     ensures err { IfErr result (λ e. RunFails (F.disk files.now) asked.now e.failure) }
 {

@@ -2,12 +2,12 @@ ghost use Rattle.std.specs.Prelude.{◌≡◌, IfOk, Some, option_map, string_by
 ghost use Rattle.std.specs.Option.{option_copied};
 ghost use Rattle.std.specs.Fmt.{DisplaysOnOk};
 ghost use Rattle.class_tool.specs.RunReport.{IsReportOf, holdings_of, object_line, report_lines};
-ghost use Rattle.class_tool.specs.Shown.{or_dash};
+ghost use Rattle.object_texts.specs.Shown.{or_dash};
 
 use crate::log::Logged;
-use crate::shown::shown_text;
 use interp::Outcome;
 use object_store::Object;
+use object_texts::shown_text;
 use std::alloc::{AllocError, Global};
 use std::fmt;
 
@@ -27,7 +27,7 @@ pub struct RunReport {
     pub object: Option<Holdings>,
     /// The lines of all that the object holds then, if they are asked for.
     pub shown: String,
-    /// The object after the call; `None` if it is absent.
+    /// The object after the call; `None` if it is absent, or of a call by an OSD's limits.
     pub(crate) after: Option<Object>,
 }
 

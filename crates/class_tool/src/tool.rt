@@ -2,16 +2,14 @@
 
 ghost use Rattle.std.specs.Prelude.{IfOk, IfErr};
 ghost use Rattle.class_tool.specs.ActionResult.{Settles, Fails};
-ghost use Rattle.class_tool.specs.Files.{storage};
+ghost use Rattle.program_files.specs.Files.{storage};
 
 use crate::action::Action;
 use crate::action_result::ActionResult;
-use crate::assembly::{assemble, disassemble};
-use crate::failed::Failed;
-use crate::files::Files;
-use crate::image::load;
+use crate::large_run::run_large;
 use crate::packing::pack;
 use crate::run::run_and_save;
+use program_files::{Failed, Files, assemble, disassemble, load};
 use std::alloc::Global;
 
 /// Does what is asked for. The answer is true of the files as they were. No file is written but the
@@ -33,6 +31,10 @@ pub fn find<F: Files>(
             Err(failed) => Err(failed),
         },
         Action::Run(asked) => match run_and_save(alloc, files, asked) {
+            Ok(report) => Ok(ActionResult::Ran(report)),
+            Err(failed) => Err(failed),
+        },
+        Action::RunLarge(asked) => match run_large(alloc, files, asked) {
             Ok(report) => Ok(ActionResult::Ran(report)),
             Err(failed) => Err(failed),
         },

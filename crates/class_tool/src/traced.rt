@@ -7,15 +7,14 @@ ghost use Rattle.bpf_decode.specs.Class.{ClassMethod};
 ghost use Rattle.bpf_machine.specs.Safe.{IsCall, IsSafe};
 ghost use Rattle.object_store.specs.Object.{AreBytes, IsObject};
 ghost use Rattle.verifier.specs.Verified.{given_method, method_named};
-ghost use Rattle.class_tool.specs.Image.{class_of};
+ghost use Rattle.program_files.specs.Image.{class_of};
 ghost use Rattle.class_tool.specs.RunReport.{IsTraceText};
 
-use crate::action::MethodCall;
-use crate::failure::Failure;
-use crate::image::Source;
 use bpf_decode::{ClassImage, Method};
 use class_trace::{RunStart, slot_lines, trace, trace_text};
 use object_store::Object;
+use object_texts::MethodCall;
+use program_files::{ClassSource, Failure};
 use std::alloc::{AllocError, Global};
 
 /// The method of a name, if the class has one.
@@ -31,8 +30,8 @@ fn method_in<'a>(class: &'a ClassImage, name: &str) -> Option<&'a Method>
 }
 
 /// The lines of a method's slots in the text of its class; none if it was read from an image.
-fn lines_of(alloc: Global, source: &Source, name: &str) -> Result<Vec<usize>, AllocError> {
-    let Source::Text(class, text) = source else {
+fn lines_of(alloc: Global, source: &ClassSource, name: &str) -> Result<Vec<usize>, AllocError> {
+    let ClassSource::Text(class, text) = source else {
         return Ok(Vec::new(alloc));
     };
     let mut number = 0usize;
@@ -95,7 +94,7 @@ fn text_of(
 /// too long. It fails for want of memory alone.
 pub fn traced_call(
     alloc: Global,
-    source: &Source,
+    source: &ClassSource,
     name: &str,
     start: &RunStart<'_>,
 ) -> Result<String, Failure>
@@ -120,7 +119,7 @@ pub fn traced_call(
 /// refused; else none.
 pub(crate) fn traced(
     alloc: Global,
-    source: &Source,
+    source: &ClassSource,
     asked: &MethodCall<'_>,
     object: Option<&Object>,
     input: &[u8],

@@ -1,7 +1,8 @@
 //! The lines of a class's text at which the instructions of a method stand.
 
-use asm_lines::{AsmFault, Draft, Statement, statements};
+use asm_lines::{AsmFault, Draft, Statement};
 use bpf_decode::width;
+use loop_asm::other_statements;
 use std::alloc::{AllocError, Global};
 
 /// How many slots an instruction takes; a jump, which may have a label, takes one.
@@ -15,7 +16,7 @@ fn draft_slots(draft: &Result<Draft, AsmFault>) -> usize {
 /// For each slot of the method of a number, from 0, the line of the instruction to which it
 /// belongs, from 1, in the text of its class. Refused: no memory.
 pub fn slot_lines(alloc: Global, text: &str, method: usize) -> Result<Vec<usize>, AllocError> {
-    let all = statements(alloc, text)?;
+    let all = other_statements(alloc, text)?;
     let mut lines = Vec::new(alloc);
     let mut methods = 0usize;
     for (above, line) in all.iter().enumerate() {

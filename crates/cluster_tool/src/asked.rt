@@ -15,5 +15,7 @@ pub struct Clustering<'a> {
     pub tenants: Vec<TenantClass<'a>>,
     /// True if the line of each call shows what it asked: the group of its object, and its request.
     pub is_shown: bool,
+    /// True if a refused line and a failure are explained.
+    pub is_explained: bool,
     ghost room: { length tenants.items ≤ TENANT_LIMIT },
 }

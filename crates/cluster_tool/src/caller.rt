@@ -4,7 +4,7 @@ ghost use Rattle.cluster_tool.specs.Callers.{HasCalled, MadeCall};
 use crate::figures::{Figures, now};
 use cluster_file::{PlannedCall, PlannedStep};
 use osd::ClusterName;
-use rados_client::{ClassId, ExecError, Reply, Session};
+use rados_client::{ClassId, ExecError, ExecReply, Session};
 use std::alloc::{AllocError, Global};
 use std::marker::Model;
 use std::sync::Wait;
@@ -15,7 +15,7 @@ use std::time::Clock;
 #[derive(Drop)]
 pub(crate) struct Caller<'a, N: ClusterName, R> {
     session: Session<'a, N, R>,
-    ends: Vec<Result<Reply, ExecError>>,
+    ends: Vec<Result<ExecReply, ExecError>>,
     lost: bool,
 }
 
@@ -98,8 +98,13 @@ impl<'a, N: ClusterName, R: Wait + Clock> Caller<'a, N, R> {
 }
 
 impl<N: ClusterName, R> Caller<'_, N, R> {
+    /// The end of its call of that number, from 0, if it was kept.
+    pub fn end(&self, place: usize) -> Option<&Result<ExecReply, ExecError>> {
+        self.ends.get(place)
+    }
+
     /// The ends of its calls. It fails if memory was refused to keep one of them.
-    pub fn into_ends(self) -> Result<Vec<Result<Reply, ExecError>>, AllocError>
+    pub fn into_ends(self) -> Result<Vec<Result<ExecReply, ExecError>>, AllocError>
         ensures { IfOk result (λ v. (v.items ≡ self.entry.ends) × (self.entry.lost ≡ false)) }
     {
         let Caller {

@@ -3,11 +3,11 @@ ghost use denote.Param.Send.{IsSend, IsSync};
 ghost use denote.Ref.{NamedLft};
 ghost use Rattle.cluster_tool.specs.contracts.caller.Caller as caller;
 ghost use Rattle.cluster_tool.specs.contracts.figures.Figures as figures;
-ghost use Rattle.rados_client.specs.contracts.reply.Reply as reply;
+ghost use Rattle.rados_client.specs.contracts.exec_reply.ExecReply as reply;
 
 use crate::figures::Figures;
 use osd::ClusterName;
-use rados_client::{ExecError, Reply, session_crosses};
+use rados_client::{ExecError, ExecReply, session_crosses};
 
 /// A client may go from one thread to another, if threads may share the cluster's names and its
 /// runtime.
@@ -18,14 +18,14 @@ pub(crate) fn caller_crosses<N: ClusterName + Send + Sync, R: Sync>()
 {
     session_crosses::<N, R>();
     reply_crosses();
-    can_send::<Vec<Result<Reply, ExecError>>>();
+    can_send::<Vec<Result<ExecReply, ExecError>>>();
 }
 
 /// A reply may go to another thread.
 fn reply_crosses()
     ensures { IsSend reply.the_row }
 {
-    can_send::<Reply>();
+    can_send::<ExecReply>();
 }
 
 /// Threads may share figures.

@@ -12,7 +12,7 @@ use cluster_file::{Plan, PlannedStep};
 use map_book::MapError;
 use osd::{ClusterName, ClusterParts, NoMemory, Running, running_crosses};
 use pg_log::ClassTable;
-use rados_client::{ExecError, Reply, Session};
+use rados_client::{ExecError, ExecReply, Session};
 use std::alloc::{AllocError, Global};
 use std::io;
 use std::sync::Wait;
@@ -106,6 +106,7 @@ fn play_and_finish<N: ClusterName + Send + Sync, R: Threads + Wait + Clock + Syn
 {
     let played = play_plan(alloc, running, plan, meter);
     meter.figures().note_whole(running.runtime());
+    meter.end();
     running.finish();
     played
 }
@@ -169,7 +170,7 @@ fn count_calls(steps: &[PlannedStep]) -> u64 {
 }
 
 /// Makes the calls of these steps, each client in a thread of its own.
-fn call_all<'a, N: ClusterName + Send + Sync, R: Threads + Wait + Clock + Sync>(
+fn call_each<'a, N: ClusterName + Send + Sync, R: Threads + Wait + Clock + Sync>(
     alloc: Global,
     running: &'a Running<N, R>,
     figures: &Figures,
@@ -195,6 +196,20 @@ fn call_all<'a, N: ClusterName + Send + Sync, R: Threads + Wait + Clock + Sync>(
     );
 }
 
+/// Makes the calls of these steps, each client in a thread of its own, and tells of them.
+fn call_all<'a, N: ClusterName + Send + Sync, R: Threads + Wait + Clock + Sync, E: io::Write>(
+    alloc: Global,
+    running: &'a Running<N, R>,
+    meter: &mut Meter<'_, E>,
+    steps: &[PlannedStep],
+    callers: &mut Vec<Caller<'a, N, R>>,
+)
+    ensures { AllCalled N.classes steps.now callers.old.items callers.new.items }
+{
+    call_each(alloc, running, meter.figures(), steps, callers);
+    meter.tell_calls(alloc, steps, callers);
+}
+
 /// Makes the calls of a plan, and each of its maps once all calls above have ended, up to the first
 /// map that is refused. Between parts of the calls the meter looks at the clock.
 fn play_steps<'a, N: ClusterName + Send + Sync, R: Threads + Wait + Clock + Sync, E: io::Write>(
@@ -208,15 +223,14 @@ fn play_steps<'a, N: ClusterName + Send + Sync, R: Threads + Wait + Clock + Sync
     ensures made { IfNone result (AreMapsMade N.config steps.now) }
     ensures some { IfSome result (λ r. IsMapRefused N.config steps.now r.0 r.1) }
 {
-    let figures = meter.figures();
     let end = steps.len();
     let mut from = 0;
     meter.begin(running.runtime(), count_calls(steps));
     for at in 0..end {
         match &steps[at] {
             PlannedStep::Map(line, nodes) => {
-                call_all(alloc, running, figures, &steps[from..at], callers);
-                figures.note_map(running.runtime());
+                call_all(alloc, running, meter, &steps[from..at], callers);
+                meter.figures().note_map(running.runtime());
                 if let Err(why) = running.new_map(nodes.items()) {
                     return Some((*line, why));
                 }
@@ -224,14 +238,14 @@ fn play_steps<'a, N: ClusterName + Send + Sync, R: Threads + Wait + Clock + Sync
             }
             PlannedStep::Call(_) => {
                 if meter.is_due(at - from) {
-                    call_all(alloc, running, figures, &steps[from..at], callers);
+                    call_all(alloc, running, meter, &steps[from..at], callers);
                     meter.look(running.runtime());
                     from = at;
                 }
             }
         }
     }
-    call_all(alloc, running, figures, &steps[from..end], callers);
+    call_all(alloc, running, meter, &steps[from..end], callers);
     None
 }
 
@@ -246,7 +260,7 @@ fn note_nudges<N: ClusterName, R: Wait>(callers: &[Caller<'_, N, R>], figures: &
 fn all_ends<N: ClusterName, R>(
     alloc: Global,
     callers: Vec<Caller<'_, N, R>>,
-) -> Result<Vec<Vec<Result<Reply, ExecError>>>, AllocError>
+) -> Result<Vec<Vec<Result<ExecReply, ExecError>>>, AllocError>
     ensures ends { IfOk result (λ v. map (λ e. e.items) v.items ≡ map (λ c. c.ends) callers.entry.items) }
     ensures kept { IfOk result (λ _. All (λ c. c.lost ≡ false) callers.entry.items) }
 {

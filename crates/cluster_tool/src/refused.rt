@@ -3,10 +3,10 @@ ghost use Rattle.std.specs.Prelude.{◌≡◌, map};
 ghost use Rattle.std.specs.List.{list_any};
 ghost use Rattle.cluster_tool.specs.Answers.{any_refused, is_refused};
 
-use rados_client::{ExecError, Reply};
+use rados_client::{ExecError, ExecReply};
 
 /// True if a call was refused.
-fn is_refused(end: &Result<Reply, ExecError>) -> bool
+fn is_refused(end: &Result<ExecReply, ExecError>) -> bool
     ensures { result ≡ is_refused end.now }
 {
     match end {
@@ -16,7 +16,7 @@ fn is_refused(end: &Result<Reply, ExecError>) -> bool
 }
 
 /// True if a call of a client was refused.
-fn has_refused(ends: &[Result<Reply, ExecError>]) -> bool
+fn has_refused(ends: &[Result<ExecReply, ExecError>]) -> bool
     ensures { result ≡ list_any is_refused ends.now }
 {
     for end in ends {
@@ -28,7 +28,7 @@ fn has_refused(ends: &[Result<Reply, ExecError>]) -> bool
 }
 
 /// True if a call of some client was refused.
-pub(crate) fn any_refused(ends: &[Vec<Result<Reply, ExecError>>]) -> bool
+pub(crate) fn any_refused(ends: &[Vec<Result<ExecReply, ExecError>>]) -> bool
     ensures { result ≡ any_refused (map (λ v. v.items) ends.now) }
 {
     for calls in ends {

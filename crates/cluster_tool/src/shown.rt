@@ -3,14 +3,14 @@ ghost use Rattle.std.specs.Prelude.{◌≡◌, ◌++◌, ◌+◌, IfOk, IfSome, 
 ghost use Rattle.osd.specs.Limits.{is_within_limits};
 ghost use Rattle.placement.specs.Placement.{is_group_count};
 ghost use Rattle.cluster_file.specs.Plan.{calls_of};
-ghost use Rattle.cluster_file.specs.Text.{all_lines, asked_if, call_lines, end_text};
+ghost use Rattle.cluster_file.specs.Text.{all_lines, asked_if, call_line, call_lines, end_text};
 ghost use Rattle.std.proofs.Props.{props};
 ghost use Rattle.cluster_tool.specs.Answers.{shown};
 ghost use Rattle.cluster_tool.specs.Clustering.{groups_if};
 
 use cluster_file::{PlannedCall, PlannedStep, push_asked, push_head, push_refused, push_replied};
 use osd::Config;
-use rados_client::{ExecError, Reply};
+use rados_client::{ExecError, ExecReply};
 use std::alloc::{AllocError, Global};
 
 /// The number of a cluster's groups, if the lines of calls are to show what was asked.
@@ -26,7 +26,7 @@ pub(crate) fn groups_if(is_shown: bool, config: &Config) -> Option<u64>
 fn push_end(
     alloc: Global,
     text: &mut String,
-    end: &Result<Reply, ExecError>,
+    end: &Result<ExecReply, ExecError>,
 ) -> Result<(), AllocError>
     ensures { OnOk result (string_bytes text.new ≡ string_bytes text.old ++ end_text (shown end.now)) }
 {
@@ -60,7 +60,7 @@ fn calls_of<'a>(
 struct Client<'a> {
     number: usize,
     calls: &'a [&'a PlannedCall],
-    ends: &'a [Result<Reply, ExecError>],
+    ends: &'a [Result<ExecReply, ExecError>],
 }
 
 /// The form of lines: the memory for them, and the number of groups if they show what was asked.
@@ -87,7 +87,7 @@ impl Form {
         &self,
         text: &mut String,
         call: &PlannedCall,
-        end: &Result<Reply, ExecError>,
+        end: &Result<ExecReply, ExecError>,
     ) -> Result<(), AllocError>
         ensures { OnOk result (string_bytes text.new ≡ string_bytes text.old ++
             (asked_if self.now.groups call.now ++ end_text (shown end.now))) }
@@ -138,7 +138,7 @@ impl Form {
         text: &mut String,
         number: usize,
         steps: &[PlannedStep],
-        ends: &[Result<Reply, ExecError>],
+        ends: &[Result<ExecReply, ExecError>],
     ) -> Result<(), AllocError>
         ensures { OnOk result (string_bytes text.new ≡ string_bytes text.old ++
             call_lines self.now.groups number 0 (calls_of number steps.now) (map shown ends.now)) }
@@ -153,13 +153,32 @@ impl Form {
     }
 }
 
+/// The line of a call, by its client and its number among that client's; if the number of groups is
+/// given, with what was asked.
+pub(crate) fn line_of(
+    alloc: Global,
+    groups: Option<u64>,
+    head: (usize, usize),
+    call: &PlannedCall,
+    end: &Result<ExecReply, ExecError>,
+) -> Result<String, AllocError>
+    requires { IfSome groups (λ n. IsTrue (is_group_count n)) }
+    ensures { IfOk result (λ t. string_bytes t ≡ call_line groups head.0 head.1 call.now (shown end.now)) }
+{
+    let form = Form { alloc, groups };
+    let mut text = String::new(alloc);
+    push_head(&mut text, head.0, head.1)?;
+    form.push_call(&mut text, call, end)?;
+    Ok(text)
+}
+
 /// The lines of all calls of these steps, by client from 1 on; if the number of groups is given,
 /// with what was asked.
 pub(crate) fn lines_of(
     alloc: Global,
     groups: Option<u64>,
     steps: &[PlannedStep],
-    ends: &[Vec<Result<Reply, ExecError>>],
+    ends: &[Vec<Result<ExecReply, ExecError>>],
 ) -> Result<String, AllocError>
     requires { IfSome groups (λ n. IsTrue (is_group_count n)) }
     ensures { IfOk result (λ t. string_bytes t ≡

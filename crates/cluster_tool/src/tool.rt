@@ -5,7 +5,7 @@ ghost use Rattle.placement.specs.Placement.{is_group_count};
 ghost use Rattle.cluster_file.specs.Plan.{plan_of};
 ghost use Rattle.cluster_file.specs.Text.{all_lines, refused_line};
 ghost use Rattle.cluster_tool.specs.Answers.{any_refused, shown};
-ghost use Rattle.cluster_tool.specs.Clustering.{Clusters, ClusteringFails, IsPrintoutOf, Prints, end_by};
+ghost use Rattle.cluster_tool.specs.Clustering.{Clusters, ClusteringFails, IsPrintoutOf, Prints, Says, end_by};
 
 use crate::asked::Clustering;
 use crate::config::config_of;
@@ -15,11 +15,12 @@ use crate::played::Played;
 use crate::playing::play;
 use crate::refused::any_refused;
 use crate::shown::{groups_if, lines_of};
-use class_tool::{Failure, Output, Reads, read_text};
+use cluster_advice::why;
 use cluster_file::{Plan, PlannedStep, Reading, bad_line, read_plan, refused_line};
 use osd::ClusterParts;
 use pg_log::ClassTable;
-use rados_client::{ConfigError, ExecError, Reply};
+use program_files::{Failure, Output, ReadableFiles, read_text};
+use rados_client::{ConfigError, ExecError, ExecReply};
 use std::alloc::{AllocError, Global};
 use std::fmt::Display;
 use std::io;
@@ -46,12 +47,11 @@ pub enum ClusteringEnd {
     Unprinted,
 }
 
-/// The manner in which a file is played: the meter that measures it, and whether the line of each
-/// call shows what was asked.
-#[derive(Drop)]
-struct Extras<'a, 'b, E> {
-    meter: &'a mut Meter<'b, E>,
-    is_shown: bool,
+/// What is asked for, and the text of its file.
+#[derive(Clone, Copy)]
+struct Script<'a, 'b> {
+    asked: &'a Clustering<'b>,
+    text: &'a str,
 }
 
 /// The text that is printed of a file, and its end.
@@ -71,7 +71,7 @@ struct Printout {
 /// starts threads and waits for them: nothing is said of when it ends. What the run took is added
 /// to the meter's figures.
 pub fn cluster<
-    F: Reads,
+    F: ReadableFiles,
     O: Output,
     R: AllocGlobal + Threads + Wait + Clock + Sync + Drop,
     E: io::Write,
@@ -92,11 +92,11 @@ pub fn cluster<
     let names = class_names(alloc, &asked.tenants)?;
     let text = read_text(alloc, files, asked.file)?;
     let figures = meter.figures();
-    let extras = Extras {
-        meter,
-        is_shown: asked.is_shown,
+    let script = Script {
+        asked,
+        text: text.as_str(),
     };
-    match settle(rt, table, &names, &text, extras) {
+    match settle(rt, table, &names, &script, meter) {
         Ok(printout) => Ok(print(printout, figures, out)),
         Err(_) => Ok(ClusteringEnd::NoMemory),
     }
@@ -133,29 +133,53 @@ fn settle<R: AllocGlobal + Threads + Wait + Clock + Sync + Drop, E: io::Write>(
     rt: R,
     table: ClassTable,
     names: &[&str],
-    text: &str,
-    extras: Extras<'_, '_, E>,
+    script: &Script<'_, '_>,
+    meter: &mut Meter<'_, E>,
 ) -> Result<Printout, AllocError>
-    ensures { IfOk result (λ o. IsPrintoutOf extras.entry.is_shown table (plan_of (map (λ n. n.now) names.now) text.now)
-        (string_bytes o.text) o.ending) }
+    ensures { IfOk result (λ o. IsPrintoutOf script.now.asked.now table
+        (plan_of (map (λ n. n.now) names.now) script.now.text.now) (string_bytes o.text) o.ending) }
 {
     let alloc = rt.alloc();
-    match read_plan(alloc, names, text)? {
-        Reading::Plan(plan) => settle_plan(rt, table, &plan, extras),
+    match read_plan(alloc, names, script.text)? {
+        Reading::Plan(plan) => settle_plan(rt, table, &plan, script, meter),
         Reading::Bad(line) => Ok(Printout {
-            text: bad_line(alloc, line)?,
+            text: noted(alloc, script, line, bad_line(alloc, line)?)?,
             ending: ClusteringEnd::Bad,
         }),
     }
 }
 
+/// What says that a line is malformed or refused, and the note on it, if it is asked for.
+fn noted(
+    alloc: Global,
+    script: &Script<'_, '_>,
+    line: usize,
+    said: String,
+) -> Result<String, AllocError>
+    ensures { IfOk result (λ t. Says script.now.asked.now line (string_bytes said) (string_bytes t)) }
+{
+    if script.asked.is_explained {
+        let note = why(alloc, script.asked.file, script.text, line)?;
+        let mut text = said;
+        text.push_str(&note)?;
+        return Ok(text);
+    }
+    Ok(said)
+}
+
 /// A cluster or a map that is refused, at that line.
-fn refused<E: Display + Drop>(alloc: Global, line: usize, why: E) -> Result<Printout, AllocError>
+fn refused<E: Display + Drop>(
+    alloc: Global,
+    script: &Script<'_, '_>,
+    line: usize,
+    why: E,
+) -> Result<Printout, AllocError>
     ensures ending { IfOk result (λ o. o.ending ≡ ClusteringEnd.Refused) }
-    ensures text { IfOk result (λ o. IfSome (E.output why) (λ reason. string_bytes o.text ≡ refused_line line reason)) }
+    ensures text { IfOk result (λ o. IfSome (E.output why)
+        (λ reason. Says script.now.asked.now line (refused_line line reason) (string_bytes o.text))) }
 {
     Ok(Printout {
-        text: refused_line(alloc, line, why)?,
+        text: noted(alloc, script, line, refused_line(alloc, line, why)?)?,
         ending: ClusteringEnd::Refused,
     })
 }
@@ -165,7 +189,7 @@ fn made(
     alloc: Global,
     groups: Option<u64>,
     steps: &[PlannedStep],
-    ends: &[Vec<Result<Reply, ExecError>>],
+    ends: &[Vec<Result<ExecReply, ExecError>>],
 ) -> Result<Printout, AllocError>
     requires { IfSome groups (λ n. IsTrue (is_group_count n)) }
     ensures text { IfOk result (λ o. string_bytes o.text ≡
@@ -186,23 +210,25 @@ fn settle_plan<R: AllocGlobal + Threads + Wait + Clock + Sync + Drop, E: io::Wri
     rt: R,
     table: ClassTable,
     plan: &Plan,
-    extras: Extras<'_, '_, E>,
+    script: &Script<'_, '_>,
+    meter: &mut Meter<'_, E>,
 ) -> Result<Printout, AllocError>
-    ensures { IfOk result (λ o. IsPrintoutOf extras.entry.is_shown table (Ok plan.now) (string_bytes o.text) o.ending) }
+    ensures { IfOk result (λ o. IsPrintoutOf script.now.asked.now table (Ok plan.now) (string_bytes o.text) o.ending) }
 {
     let alloc = rt.alloc();
     let Some(config) = config_of(plan.numbers()) else {
-        return refused(alloc, 1, ConfigError::Limit);
+        return refused(alloc, script, 1, ConfigError::Limit);
     };
-    let groups = groups_if(extras.is_shown, &config);
+    let groups = groups_if(script.asked.is_shown, &config);
+    meter.show(groups);
     let Ok(parts) = ClusterParts::new(alloc, config) else {
-        return refused(alloc, 1, ConfigError::NoMemory);
+        return refused(alloc, script, 1, ConfigError::NoMemory);
     };
     // The call picks the cluster's names: parts and classes are there already.
-    match play::<Brand, R, E>(rt, parts, table, plan, extras.meter) {
+    match play::<Brand, R, E>(rt, parts, table, plan, meter) {
         Ok(Played::Done(ends)) => made(alloc, groups, plan.steps(), &ends),
-        Ok(Played::MapRefused(line, why)) => refused(alloc, line, why),
+        Ok(Played::MapRefused(line, why)) => refused(alloc, script, line, why),
         Ok(Played::NoMemory) => Err(AllocError),
-        Err(_) => refused(alloc, 1, ConfigError::NoMemory),
+        Err(_) => refused(alloc, script, 1, ConfigError::NoMemory),
     }
 }

@@ -2,9 +2,9 @@
 use Rattle.std.proofs.Common.{◌≡◌, ◌+◌, ◌<◌, ℕ, zero, suc, List, [], ◌∷◌, ◌++◌, ◌∙◌, Option, inl, inr, ap, arith, append_assoc, get_or, length, subst, sym, take}
 use Rattle.std.proofs.lemmas.List.{take_more}
 use Rattle.bpf_decode.specs.Class.{ClassMethod}
-use Rattle.class_tool.specs.Files.{Disk}
-use Rattle.class_tool.specs.Image.{IsSafeIn, LoadFails}
-use Rattle.class_tool.specs.declared.failure.Failure.{Failure}
+use Rattle.program_files.specs.Files.{Disk}
+use Rattle.program_files.specs.Image.{IsSafeIn, LoadFails}
+use Rattle.program_files.specs.declared.failure.Failure.{Failure}
 use Rattle.pg_log.specs.Log.{Classes}
 use Rattle.tenant_classes.specs.Classes.{AreIn, GrewByTenants, TenantsFail}
 use Rattle.tenant_classes.specs.declared.tenant_class.TenantClass.{TenantClass}

@@ -6,10 +6,10 @@ use Rattle.builtin_classes.specs.declared.failure.BuiltInFailure.{BuiltInFailure
 use Rattle.builtin_classes.specs.declared.failure.BuiltInFailure.TheVariants as built_in
 use Rattle.builtin_classes.specs.declared.lock.TheConstants.{LOCK}
 use Rattle.builtin_classes.specs.declared.obj.TheConstants.{OBJ}
-use Rattle.class_tool.specs.Files.{Disk}
-use Rattle.class_tool.specs.Image.{IsSafeIn, LoadFails}
-use Rattle.class_tool.specs.declared.failure.Failure.{Failure}
-use Rattle.class_tool.specs.declared.failure.Failure.TheVariants.{NoMemory, Text, Verdict}
+use Rattle.program_files.specs.Files.{Disk}
+use Rattle.program_files.specs.Image.{IsSafeIn, LoadFails}
+use Rattle.program_files.specs.declared.failure.Failure.{Failure}
+use Rattle.program_files.specs.declared.failure.Failure.TheVariants.{NoMemory, Text, Verdict}
 use Rattle.pg_log.specs.Log.{Classes}
 use Rattle.tenant_classes.specs.declared.tenant_class.TenantClass.{TenantClass}
 

@@ -9,8 +9,8 @@ ghost use Rattle.tenant_classes.specs.Classes.{failure_of, names_of};
 
 use crate::tenant_class::{TENANT_LIMIT, TenantClass};
 use builtin_classes::{BuiltInFailure, load_lock, load_obj};
-use class_tool::{Failure, Reads, load};
 use interp::ClassTable;
+use program_files::{Failure, ReadableFiles, load};
 use std::alloc::{AllocError, Global};
 use verifier::VerifiedClass;
 
@@ -56,7 +56,7 @@ fn built_in(alloc: Global) -> Result<ClassTable, Failure>
 }
 
 /// Adds the tenants' classes, in their order. The first that can't be loaded says why.
-fn add_tenants<F: Reads>(
+fn add_tenants<F: ReadableFiles>(
     alloc: Global,
     files: &F,
     tenants: &[TenantClass<'_>],
@@ -76,7 +76,7 @@ fn add_tenants<F: Reads>(
 /// The built-in classes, `lock` 0 and `obj` 1, and the tenants' after them in their order. A
 /// failure is the first in this order: a built-in class can't be had, which memory alone is known
 /// to cause; a tenant's class can't be loaded, the first one in their order.
-pub fn classes<F: Reads>(
+pub fn classes<F: ReadableFiles>(
     alloc: Global,
     files: &F,
     tenants: &[TenantClass<'_>],

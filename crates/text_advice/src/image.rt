@@ -28,9 +28,11 @@ fn sentence(error: DecodeError) -> &'static str {
         DecodeError::Order => "  methods stand in the order of their names, each once\n",
         DecodeError::Flags => "  flags are 1 (r), 2 (w) or 3 (rw)\n",
         DecodeError::Limit =>
-            "  a class has 1 to 32 methods, of 1 to 4096 slots; IN and OUT are at most 4096, by rule set 3 65535\n",
+            "  1 to 32 methods of 1 to 4096 slots; IN, OUT to 4096, by rule set 3 65535; 64 heads, budget to 1048576\n",
         DecodeError::Trailing => "  bytes follow the last method\n",
         DecodeError::NoMemory => "",
+        DecodeError::Head(_) =>
+            "  heads rise by slot, each at an instruction; places rise, 0 to 9 and 11 to 74, of kinds 0 to 6\n",
     }
 }
 
@@ -58,13 +60,38 @@ fn code_of(image: &[u8], method: usize) -> Option<usize> {
     method.checked_add(name)?.checked_add(8)
 }
 
-/// The place behind the method at a place. By rule set 3 the number of its heads is its last field.
+/// The place behind the head at a place.
+fn behind_head(image: &[u8], at: usize) -> Option<usize> {
+    let places = *image.get(at.checked_add(2)?)?;
+    let mut end = at.checked_add(3)?;
+    for _ in 0..places {
+        let kind = *image.get(end.checked_add(1)?)?;
+        // The kinds from 2 on have two bounds of eight bytes.
+        let length = if kind < 2 { 2 } else { 18 };
+        end = end.checked_add(length)?;
+    }
+    Some(end)
+}
+
+/// The place behind the loops at a place: their number, and if there are some a budget and the
+/// heads.
+fn behind_loops(image: &[u8], at: usize) -> Option<usize> {
+    let heads = number_at(image, at)?;
+    let length = if heads == 0 { 2 } else { 6 };
+    let mut end = at.checked_add(length)?;
+    for _ in 0..heads {
+        end = behind_head(image, end)?;
+    }
+    Some(end)
+}
+
+/// The place behind the method at a place. By rule set 3 its loops are its last field.
 fn behind(image: &[u8], method: usize) -> Option<usize> {
     let code = code_of(image, method)?;
     let slots = number_at(image, code.checked_sub(2)?)?;
     let end = code.checked_add(slots.checked_mul(8)?)?;
     match image {
-        [_, _, _, b'3', ..] => end.checked_add(2),
+        [_, _, _, b'3', ..] => behind_loops(image, end),
         _ => Some(end),
     }
 }
@@ -169,6 +196,9 @@ fn push_size(out: &mut String, image: &[u8]) -> Result<(), AllocError> {
 
 /// Adds where an image is wrong: its bytes, the method's fields, or its slot.
 fn push_where(out: &mut String, error: &ImageError, image: &[u8]) -> Result<(), AllocError> {
+    if let DecodeError::Head(slot) = error.error {
+        return write!(out, "  method {}, the head at slot {slot}\n", error.methods);
+    }
     match (place_of(image, error.methods), error.error.slot()) {
         (Some(at), Some(slot)) => push_slot(out, error, slot, image, at),
         (Some(at), None) => {

@@ -101,9 +101,13 @@ fn cut<'a>(
     None
 }
 
-/// An assignment, as `r0=1`.
-fn assignment(line: &str) -> Option<Meant<'_>> {
-    let (word, left, right) = cut(&ASSIGNMENTS, line)?;
+/// Two operands with a sign of a table between them, and a third one after them.
+fn with_sign<'a>(
+    rows: &[(&'static str, &'static str)],
+    text: &'a str,
+    third: Piece<'a>,
+) -> Option<Meant<'a>> {
+    let (word, left, right) = cut(rows, text)?;
     let (first, end) = piece_of(left)?;
     let (second, _) = piece_of(right)?;
     Some(Meant {
@@ -111,8 +115,13 @@ fn assignment(line: &str) -> Option<Meant<'_>> {
         end,
         first,
         second,
-        third: Piece::Nothing,
+        third,
     })
+}
+
+/// An assignment, as `r0=1`.
+fn assignment(line: &str) -> Option<Meant<'_>> {
+    with_sign(&ASSIGNMENTS, line, Piece::Nothing)
 }
 
 /// A load, as `r0=*(u32*)(r1+4)`.
@@ -160,16 +169,7 @@ fn jump(line: &str) -> Option<Meant<'_>> {
         });
     }
     let (condition, target) = line.strip_prefix("if")?.split_once("goto")?;
-    let (word, left, right) = cut(&COMPARISONS, condition)?;
-    let (first, end) = piece_of(left)?;
-    let (second, _) = piece_of(right)?;
-    Some(Meant {
-        word,
-        end,
-        first,
-        second,
-        third: Piece::Word(target),
-    })
+    with_sign(&COMPARISONS, condition, Piece::Word(target))
 }
 
 /// What a line without blanks means.

@@ -2,7 +2,8 @@
 //! written in its place; of bytes that are no image, which byte is wrong. Of a note it is promised
 //! that it is text, and that only memory can be wanting. What a note takes for a right register or
 //! number is what the grammar takes (`register`, `plain`, `signed`). That notes are right is tested,
-//! by texts that are mended as they say.
+//! by texts that are mended as they say. `word_distance` picks the word that a wrong one is nearest
+//! to, here and in the notes of `sim`.
 #![tactic(auto)]
 
 mod calls;
@@ -22,5 +23,6 @@ mod word;
 
 pub use calls::call_of;
 pub use image::{PackedMethod, image_text, packed_text};
+pub use nearest::word_distance;
 pub use source::source_text;
 pub use told::{fault_text, faults_text};

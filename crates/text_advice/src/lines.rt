@@ -2,14 +2,15 @@
 
 use crate::nearest::nearer;
 use crate::source::{draft_slots, slots_of};
-use asm_lines::{AsmFault, Draft, Header, Statement, Target, statements};
+use asm_lines::{AsmFault, Draft, Header, Statement, Target};
 use bpf_decode::{METHOD_LIMIT, RuleSet, SLOT_LIMIT, capacity_limit};
+use loop_asm::other_statements;
 use std::alloc::{AllocError, Global};
 
 /// A label: how many methods begin above it, its name, and the index of its line.
 type Label<'a> = (usize, &'a [u8], usize);
 
-/// The lines of a text, what each says, and the labels in order.
+/// The lines of a text, what each says besides loops, and the labels in order.
 #[derive(Drop)]
 pub(crate) struct Lines<'a> {
     pub(crate) texts: Vec<&'a str>,
@@ -41,6 +42,8 @@ pub(crate) enum Place<'a> {
     Itself,
     /// The text has no instruction.
     BareText,
+    /// It says loops.
+    Loops,
     BeforeMethod,
     /// A `.rules` below other lines.
     RulesBelow,
@@ -180,7 +183,7 @@ impl<'a> Lines<'a> {
     /// The lines of a text.
     pub(crate) fn read(alloc: Global, text: &'a str) -> Result<Lines<'a>, AllocError> {
         let texts = text.split('\n').collect(alloc)?;
-        let statements = statements(alloc, text)?;
+        let statements = other_statements(alloc, text)?;
         let labels = labels_of(alloc, &statements)?;
         Ok(Lines {
             texts,

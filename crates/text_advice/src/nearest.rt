@@ -43,7 +43,7 @@ fn are_swapped(one: &[u8], other: &[u8]) -> bool {
 /// How far a word is from a known one: the bytes of both between their common beginning and end.
 /// 1 if these are two that are swapped; none if they are over two in one of them, or less than half
 /// of the known word is common.
-fn word_distance(word: &[u8], known: &[u8]) -> Option<usize> {
+pub fn word_distance(word: &[u8], known: &[u8]) -> Option<usize> {
     let beginning = common_beginning(word, known);
     let (word_rest, known_rest) = (after(word, beginning), after(known, beginning));
     let end = common_end(word_rest, known_rest);

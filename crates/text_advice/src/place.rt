@@ -10,6 +10,8 @@ use std::alloc::AllocError;
 fn sentence(place: Place<'_>) -> &'static str {
     match place {
         Place::BareText => "  no line has an instruction: a method ends with `exit`\n",
+        Place::Loops =>
+            "  `.budget 4096` stands right below `.method` where heads are, `.head r4 0 16` above an instruction\n",
         Place::BeforeMethod => "  it stands before the first `.method`: write `.method name rw 8 8` above it\n",
         Place::RulesBelow => "  `.rules` stands once, above all lines but comments and empty ones\n",
         Place::BareMethod => "  no instruction stands below it: a method ends with `exit`\n",

@@ -1,8 +1,9 @@
 //! Lines of a class's text.
 
-use asm_lines::{AsmFault, Draft, Statement, statements};
+use asm_lines::{AsmFault, Draft, Statement};
 use bpf_decode::width;
 use escaped_text::push_escaped;
+use loop_asm::other_statements;
 use std::alloc::{AllocError, Global};
 
 /// How many slots an instruction takes.
@@ -59,7 +60,7 @@ pub fn source_text(
     method: usize,
     slot: usize,
 ) -> Result<String, AllocError> {
-    let line = line_of_slot(&statements(alloc, text)?, method, slot);
+    let line = line_of_slot(&other_statements(alloc, text)?, method, slot);
     let mut out = String::new(alloc);
     push_line(&mut out, line, nth_line(alloc, text, line)?)?;
     Ok(out)

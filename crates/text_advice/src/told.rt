@@ -60,8 +60,9 @@ impl<'a, 'b> Told<'a, 'b> {
         if !self.lines.has_instruction() {
             return Some((self.error.fault, Place::BareText));
         }
-        match self.lines.fault_at(above, index, line) {
-            Some((fault, place)) if fault == self.error.fault => Some((fault, place)),
+        match (self.lines.fault_at(above, index, line), line) {
+            (Some((fault, place)), _) if fault == self.error.fault => Some((fault, place)),
+            (_, Statement::Empty) => Some((self.error.fault, Place::Loops)),
             _ => Some((self.error.fault, Place::Itself)),
         }
     }

@@ -187,14 +187,14 @@ fn push_nearest(
 
 /// Adds what is wrong with a line whose first word is none.
 fn push_unknown(
+    alloc: Global,
     out: &mut String,
     code: &str,
-    word: &str,
-    rest: &str,
-    tight: &str,
     is_gone_to: bool,
 ) -> Result<(), AllocError> {
-    if push_instead(out, word, tight)? {
+    let (word, rest) = cut_word(code);
+    let tight = joined(alloc, code, "")?;
+    if push_instead(out, word, &tight)? {
         return Ok(());
     }
     match code.split_once(':') {
@@ -224,9 +224,6 @@ pub(crate) fn push_words(
             push_operands(out, form, word, &rest)
         }
         Some(form) => push_operands(out, form, word, rest),
-        None => {
-            let tight = joined(alloc, code, "")?;
-            push_unknown(out, code, word, rest, &tight, is_gone_to)
-        }
+        None => push_unknown(alloc, out, code, is_gone_to),
     }
 }

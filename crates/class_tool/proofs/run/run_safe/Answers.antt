@@ -12,7 +12,7 @@ returns-clause-ok g c =
     let report = c.in_ok-report.report in
     let e = c.with_trace.ensures in
     let same : c.with_trace.result ≡ record report { traced = c.with_trace.result.traced } = e ∙ ap (λ t. record report { traced = t }) (sym (ap (λ (r : RunReport). r.traced) e)) in
-    reported (g.F.Reads.disk c.args.files.now) c.args.asked.now c.args.class c.in_ok-input.input.items c.in_ok-object.object report c.with_trace.result same
+    reported (g.F.ReadableFiles.disk c.args.files.now) c.args.asked.now c.args.class c.in_ok-input.input.items c.in_ok-object.object report c.with_trace.result same
     c.requires.safe c.in_ok-input.ensures.ok c.in_ok-object.ensures.ok
     (λ m named short.
     let is_traced = c.args.asked.now.is_traced in

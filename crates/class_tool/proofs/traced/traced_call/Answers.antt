@@ -2,7 +2,7 @@ use Rattle.std.proofs.Common.{sym, subst, ◌∙◌, ap}
 use Rattle.bpf_decode.specs.Class.{Class}
 use Rattle.bpf_machine.specs.Safe.{IsSafe}
 use Rattle.verifier.specs.Verified.{method_named}
-use Rattle.class_tool.specs.Image.{class_of}
+use Rattle.program_files.specs.Image.{class_of}
 use Rattle.class_tool.proofs.Called.{method_named-is}
 use Rattle.class_tool.proofs.traced.traced_call.Goals as goal
 

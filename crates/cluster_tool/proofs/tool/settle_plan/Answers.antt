@@ -25,7 +25,7 @@ returns-in-Ok-MapRefused g c =
     let played : Plays c.args.table c.in-Ok.parts.config plan.steps c.in-Ok-MapRefused.field-0 = c.in-Ok-MapRefused.ensures in
     let refused : IsMapRefused c.in-Ok.parts.config plan.steps c.in-Ok-MapRefused.line c.in-Ok-MapRefused.why =
     subst (λ (p : Played). Plays c.args.table c.in-Ok.parts.config plan.steps p) c.in-Ok-MapRefused.field-0-is played in
-    map_refused c.args.extras.is_shown c.args.table plan c.in-Ok.parts.config c.in-Ok-MapRefused.line c.in-Ok-MapRefused.why c.refused-in-Ok-MapRefused.result is refused
+    map_refused c.args.script.now.asked.now c.args.table plan c.in-Ok.parts.config c.in-Ok-MapRefused.line c.in-Ok-MapRefused.why c.refused-in-Ok-MapRefused.result is refused
     c.refused-in-Ok-MapRefused.ensures.ending c.refused-in-Ok-MapRefused.ensures.text
 
 pub returns-in-Ok-Done : goal.returns-in-Ok-Done
@@ -38,5 +38,5 @@ returns-in-Ok-Done g c =
     subst (λ (p : Played). Plays c.args.table c.in-Ok.parts.config plan.steps p) c.in-Ok-Done.field-0-is played in
     let done : Plays c.args.table c.in-Some.config plan.steps (Done c.in-Ok-Done.ends) =
     subst (λ (x : Config). Plays c.args.table x plan.steps (Done c.in-Ok-Done.ends)) c.in-Ok.ensures there in
-    all_made c.args.extras.is_shown c.args.table plan c.in-Some.config (map (λ v. v.items) c.in-Ok-Done.ends.items) c.made.result asked
+    all_made c.args.script.now.asked.now c.args.table plan c.in-Some.config (map (λ v. v.items) c.in-Ok-Done.ends.items) c.made.result asked
     done (search rules) (rw c.deref.ensures.value at c.made.ensures.ending)

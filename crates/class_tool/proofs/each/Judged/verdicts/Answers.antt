@@ -1,6 +1,6 @@
 use Rattle.std.proofs.Common.{rules, arith, string_bytes}
 use Rattle.std.proofs.lemmas.Grind.{common_steps}
-use Rattle.class_tool.specs.Image.{class_of}
+use Rattle.program_files.specs.Image.{class_of}
 use Rattle.class_tool.proofs.Notes.{all_before, one_before}
 use Rattle.class_tool.proofs.each.Judged.verdicts.Goals as goal
 

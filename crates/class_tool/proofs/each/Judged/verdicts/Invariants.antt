@@ -3,7 +3,7 @@ use Rattle.std.specs.Prelude.{◌&&◌, string_bytes}
 use Rattle.std.specs.List.{AllByRecursion}
 use Rattle.bpf_decode.specs.Class.{IsMethod}
 use Rattle.class_tool.specs.Each.{are_accepted}
-use Rattle.class_tool.specs.Image.{class_of}
+use Rattle.program_files.specs.Image.{class_of}
 use Rattle.class_tool.proofs.Notes.{Before}
 use Rattle.class_tool.proofs.each.Judged.verdicts.Given as goal
 

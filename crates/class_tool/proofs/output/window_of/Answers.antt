@@ -1,5 +1,0 @@
-use Rattle.class_tool.proofs.Printed.{known_seen}
-use Rattle.class_tool.proofs.output.window_of.Goals as goal
-
-pub returns : goal.returns
-returns g c = known_seen 1024 c.args.skip c.after-window.result c.write.new.self (g.D.Display.output c.args.text.now) c.after-window.ensures.shown c.after-window.ensures.skip c.in_ok-write.ensures.writes

@@ -1,0 +1,2 @@
+-- A reader must believe Why.
+pub mod Why

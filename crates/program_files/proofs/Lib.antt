@@ -1,0 +1,4 @@
+pub mod Longer
+mod Printed
+mod Refused
+mod Windows
