@@ -1,0 +1,21 @@
+//! Classes whose methods may loop, for the program `radoscls`. `verify_files_by_loops` judges files
+//! by the heads that their methods declare: each file, in the order given, and a file is accepted only
+//! if each of its methods is safe, to its exit or by its budget. `write_heads` finds heads for the
+//! loops of a file's class, and writes the image of the same class with them; nothing rests on what is
+//! found, since the verdict checks it. No other file changes, and on a failure none.
+#![tactic(auto)]
+
+mod asked;
+mod heads;
+mod load;
+mod loop_report;
+mod loop_reports;
+mod no_heads;
+mod note;
+mod write_heads_error;
+
+pub use asked::{HeadsAsked, LoopsAsked};
+pub use heads::write_heads;
+pub use loop_reports::{LoopReports, verify_files_by_loops};
+pub use no_heads::NoHeads;
+pub use write_heads_error::WriteHeadsError;

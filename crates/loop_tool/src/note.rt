@@ -1,0 +1,62 @@
+//! What stands below the line of a failure.
+
+ghost use Rattle.std.specs.Prelude.{string_bytes};
+ghost use Rattle.class_tool.specs.Note.{IsNote};
+
+use bpf_decode::ClassImage;
+use class_tool::Explain;
+use program_files::{About, Failed, Failure, Files};
+use std::alloc::{AllocError, Global};
+use verifier::{Refusal, Rule};
+
+/// The note of a jump back in a method that declares no loops.
+const NO_HEAD: &str = "  no head is declared at its target: radoscls heads IN OUT finds heads\n";
+
+/// True if the refused instruction jumps back, and its method declares no loops.
+fn wants_heads(class: &ClassImage, refusal: &Refusal) -> bool {
+    match class.methods().get(refusal.method) {
+        Some(method) => refusal.rule == Rule::Backward && method.loops().is_none(),
+        None => false,
+    }
+}
+
+/// The note of a class that is refused by its loops.
+fn refusal_note(
+    alloc: Global,
+    class: &ClassImage,
+    refusal: &Refusal,
+) -> Result<String, AllocError> {
+    if wants_heads(class, refusal) {
+        String::from_str(alloc, NO_HEAD)
+    } else {
+        Ok(String::new(alloc))
+    }
+}
+
+/// The note of a failure: what `verify` says of it, but for a verdict.
+fn any_note<F: Files>(alloc: Global, files: &F, failed: &Failed) -> Result<String, AllocError> {
+    match (failed.failure, &failed.about) {
+        (Failure::Verdict(refusal), About::Class(source)) => {
+            refusal_note(alloc, source.class(), &refusal)
+        }
+        _ => failed.note(alloc, files.fault(alloc)),
+    }
+}
+
+/// The note below a failure's line, if it is asked for; none if memory for it is refused.
+pub(crate) fn note_of<F: Files>(
+    alloc: Global,
+    files: &F,
+    failed: &Failed,
+    is_explained: bool,
+) -> String
+    ensures { IsNote is_explained (string_bytes result) }
+{
+    if !is_explained {
+        return String::new(alloc);
+    }
+    match any_note(alloc, files, failed) {
+        Ok(note) => note,
+        Err(_) => String::new(alloc),
+    }
+}
