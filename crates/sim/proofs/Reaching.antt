@@ -4,7 +4,7 @@ use Rattle.std.specs.Io.KnownBytes.{Appends}
 use Rattle.std.proofs.lemmas.List.{take-append-le, take_min}
 use Rattle.std.proofs.Math.Seq.{take-append-add}
 use Rattle.std.specs.Prelude.{OnErr, OnOk, IsErr, IsOk, Result, Ok, Err, is_err}
-use Rattle.class_tool.specs.Output.{Begins}
+use Rattle.program_files.specs.Output.{Begins}
 use Rattle.pg_log.specs.Log.{Classes}
 use Rattle.sim_world.specs.Lines.{line_of}
 use Rattle.sim_world.specs.Texts.{is_bad, taken_text}

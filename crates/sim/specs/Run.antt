@@ -11,7 +11,7 @@ use Rattle.group_world.specs.World.{IsUncut, brought}
 use Rattle.group_world.specs.declared.message.Packet.{Packet}
 use Rattle.sim.specs.declared.file.SimulationEnd.{SimulationEnd}
 use Rattle.sim.specs.declared.file.SimulationEnd.TheVariants.{Done, Bad, NoMemory, Unprinted}
-use Rattle.class_tool.specs.Output.{Begins}
+use Rattle.program_files.specs.Output.{Begins}
 use Rattle.verifier.specs.Verified.{IsVerifiedClass}
 use Rattle.sim.specs.Replies.{ReplyHasRun}
 use Rattle.sim_world.specs.Lines.{line_of}

@@ -1,12 +1,12 @@
 -- The text that a simulation prints, and why it didn't begin.
 use Rattle.std.specs.Prelude.{◌≡◌, ◌⊎◌, ℕ, List, ◌++◌, Option, Bool, true, false}
 use Rattle.std.specs.List.{AllByRecursion}
-use Rattle.class_tool.specs.Assembly.{TextFails}
-use Rattle.class_tool.specs.Files.{Disk, Holds}
-use Rattle.class_tool.specs.declared.failure.Failure.{Failure}
+use Rattle.program_files.specs.Assembly.{TextFails}
+use Rattle.program_files.specs.Files.{Disk, Holds}
+use Rattle.program_files.specs.declared.failure.Failure.{Failure}
 use Rattle.pg_log.specs.Log.{Classes}
 use Rattle.sim_world.specs.Lines.{lines_of}
-use Rattle.class_tool.specs.Output.{Begins}
+use Rattle.program_files.specs.Output.{Begins}
 use Rattle.sim.specs.Run.{EndsBy, Grew, IsAgreedRun, Printed, bad_line, run_lines}
 pub use Rattle.sim.specs.declared.file.SimulationEnd.{SimulationEnd}
 pub use Rattle.sim.specs.declared.file.SimulationEnd.TheVariants.{Done, Bad, NoMemory, Unprinted}

@@ -8,7 +8,7 @@ ghost use Rattle.sim.specs.Simulating.{IsDrawn, Plays};
 use crate::drawing::trace;
 use crate::file::{SimulationEnd, run};
 use crate::setup::Setup;
-use class_tool::Output;
+use program_files::Output;
 
 /// Draws the run of a text, and prints the drawing once all lines are done or one is bad.
 fn draw<O: Output>(setup: &Setup<'_>, text: &str, note: &mut String, out: &mut O) -> SimulationEnd

@@ -9,7 +9,7 @@ use crate::laws::worlds_are_known;
 use crate::play::play;
 use crate::setup::Setup;
 use crate::verified::are_verified;
-use class_tool::{Failure, Output, Reads, read_text};
+use program_files::{Failure, Output, ReadableFiles, read_text};
 use std::alloc::Global;
 use tenant_classes::{class_names, classes};
 
@@ -23,7 +23,7 @@ use tenant_classes::{class_names, classes};
 /// A failure says why no line was done, the first reason in this order: a built-in class can't be
 /// had, which memory alone is known to cause; a tenant's class can't be loaded, the first one
 /// in their order; the file can't be read or is no text. Nothing was printed then.
-pub fn simulate<F: Reads, O: Output>(
+pub fn simulate<F: ReadableFiles, O: Output>(
     alloc: Global,
     files: &F,
     simulation: &Simulation<'_>,

@@ -14,7 +14,6 @@ mod laws;
 mod line;
 mod message_text;
 mod numbers;
-mod parts;
 mod request;
 mod same;
 mod sent;
@@ -22,6 +21,7 @@ mod taken;
 mod taken_text;
 mod text;
 mod world;
+mod world_parts;
 
 pub use counted::numbered;
 pub use file_words::{Nodes, lines};

@@ -4,8 +4,8 @@ ghost use Rattle.sim_world.specs.Step.{beginning};
 
 use crate::kept::KeptMessage;
 use crate::line::Line;
-use crate::parts::Parts;
 use crate::taken::Taken;
+use crate::world_parts::Parts;
 use group_world::{agreement, nothing_is_cut};
 use peering::GroupNode;
 use pg_log::{ClassTable, Classes};

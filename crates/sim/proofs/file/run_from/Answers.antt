@@ -1,6 +1,6 @@
 use Rattle.std.proofs.Common.{◌+◌, ℕ, List, arith, refl, subst}
 use Rattle.std.specs.Io.KnownBytes.{Appends}
-use Rattle.class_tool.specs.Output.{Begins}
+use Rattle.program_files.specs.Output.{Begins}
 use Rattle.sim.proofs.Reaching.{all_done, bad_end, broken_if, broken_off, err_if, next_line, ok_if, printed_if, starts, stops}
 use Rattle.sim.proofs.file.run_from.Goals as goal
 

@@ -1,3 +1,4 @@
+//! The parts of a played world, and what a line does to them.
 ghost use Rattle.std.specs.Prelude.{◌≡◌, ◌&&◌, not, length, IfOk, IsTrue, IsFalse, option_copied, slice_get};
 ghost use Rattle.std.specs.Prelude.{string_bytes};
 ghost use Rattle.group_world.specs.Monitor.{map_refusal};
