@@ -1,7 +1,7 @@
 # Completions of radoscls for bash, made by tools/manual.py from the help of the program.
 _radoscls() {
     # of NAME=FILE, bash gives FILE as the word to complete
-    local word=${2-${COMP_WORDS[COMP_CWORD]}} words="verify run test asm pack dis sim cluster help"
+    local word=${2-${COMP_WORDS[COMP_CWORD]}} words="verify run test asm pack dis heads sim cluster help"
     COMPREPLY=()
     if [ "$COMP_CWORD" = 1 ]; then
         mapfile -t COMPREPLY < <(compgen -W "$words --help --version" -- "$word")
@@ -12,18 +12,19 @@ _radoscls() {
             mapfile -t COMPREPLY < <(compgen -W "$words" -- "$word")
             return
             ;;
-        verify) words="--all --explain --help" ;;
-        run) words="--caller --input --input-text --input-u64 --object --xattr --key --load --save --show --trace --explain --help" ;;
+        verify) words="--all --loops --json --explain --help" ;;
+        run) words="--caller --input --input-text --input-u64 --object --xattr --key --limits --load --save --show --trace --json --explain --help" ;;
         test) words="--trace --explain --help" ;;
-        asm) words="--explain --help" ;;
+        asm) words="--all --explain --help" ;;
         pack) words="--rules --explain --help" ;;
         dis) words="--slots --explain --help" ;;
+        heads) words="--budget --help" ;;
         sim) words="--class --trace --explain --help" ;;
-        cluster) words="--class --show --stats --strict --help" ;;
+        cluster) words="--class --show --stats --strict --explain --follow --help" ;;
         *) return ;;
     esac
     case ${COMP_WORDS[COMP_CWORD - 1]} in
-        --caller | --rules) return ;;
+        --caller | --rules | --budget) return ;;
     esac
     case $word in
         -*) mapfile -t COMPREPLY < <(compgen -W "$words" -- "$word") ;;

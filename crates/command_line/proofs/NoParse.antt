@@ -1,5 +1,5 @@
 -- What a parse gives.
-use Rattle.std.proofs.Common.{◌≡◌, ◌≢◌, ◌∙◌, [], inl, inr, sym, subst, List, Some}
+use Rattle.std.proofs.Common.{◌≡◌, inl, inr, subst, List}
 use Rattle.clap.specs.Words.{HasKind, IsAmong, Kinds, Text, fault_of, kind_of}
 use Rattle.clap.specs.declared.error.Error.{Error}
 use Rattle.clap.specs.declared.error.kind.ErrorKind.TheVariants.{OutOfMemory}

@@ -1,10 +1,10 @@
--- The command line: `verify IN [--all] [--explain]`, `run IN METHOD [--caller N] [--input HEX]
--- [--input-text TEXT] [--input-u64 N,..] [--object HEX] [--xattr NAME=HEX ..] [--key KEY=HEX ..]
--- [--load FILE] [--save FILE] [--show] [--trace] [--explain]`, `test IN FILE [--trace] [--explain]`,
--- `asm IN OUT [--explain]`, `pack OUT METHOD .. [--rules N] [--explain]`, `dis IN [--slots]
--- [--explain]`, `sim FILE [--class NAME=IMAGE ..] [--trace] [--explain]`, and `cluster FILE [--class
--- NAME=IMAGE ..] [--show] [--stats] [--strict]`.
-use Rattle.std.specs.Prelude.{[], ◌∷◌, Option, Some, true, codes}
+-- The command line: `verify IN .. [--all] [--loops] [--json] [--explain]`, `run IN METHOD [--caller N]
+-- [--input HEX] [--input-text TEXT] [--input-u64 N,..] [--object HEX] [--xattr NAME=HEX ..] [--key KEY=HEX ..]
+-- [--limits LIMITS] [--load FILE] [--save FILE] [--show] [--trace] [--json] [--explain]`, `test IN FILE [--trace]
+-- [--explain]`, `asm IN OUT [--all] [--explain]`, `pack OUT METHOD .. [--rules N] [--explain]`, `dis IN [--slots]
+-- [--explain]`, `heads IN OUT [--budget N]`, `sim FILE [--class NAME=IMAGE ..] [--trace] [--explain]`, and
+-- `cluster FILE [--class NAME=IMAGE ..] [--show] [--stats] [--strict] [--explain] [--follow]`.
+use Rattle.std.specs.Prelude.{[], ◌∷◌, Some, true, codes}
 use Rattle.clap.specs.Lexer.{usize_max}
 use Rattle.clap.specs.Words.{App, Rule, Text, new_app, new_rule, with_rule, with_subcommand}
 use Rattle.clap.specs.declared.builder.action.ArgAction.TheVariants as argument
@@ -12,6 +12,11 @@ use Rattle.clap.specs.declared.builder.action.ArgAction.TheVariants as argument
 -- an argument that has to be there, by its place
 abbrev pub required_rule : Text → Rule
 required_rule id = record (new_rule id) { required = true }
+
+-- an argument that has to be there, by its place, once or more often
+abbrev pub many_rule : Text → Rule
+many_rule id =
+    record (required_rule id) { range = Some (record { start_inclusive = 1; end_inclusive = usize_max }) }
 
 -- an option with one value and a default
 abbrev pub option_rule : Text → Text → Rule
@@ -37,11 +42,19 @@ caller_rule = option_rule (codes "caller") (codes "1")
 abbrev pub explain_rule : Rule
 explain_rule = flag_rule (codes "explain")
 
--- `verify`, which tells whether a class is safe
+-- the flag that has what is printed in JSON
+abbrev pub json_rule : Rule
+json_rule = flag_rule (codes "json")
+
+-- the flag that has loops judged by the heads that methods declare
+abbrev pub loops_rule : Rule
+loops_rule = flag_rule (codes "loops")
+
+-- `verify`, which tells whether classes are safe
 abbrev pub verify_line : App
 verify_line =
-    with_rule (with_rule (with_rule (new_app (codes "verify")) (required_rule (codes "IN"))) (flag_rule (codes "all")))
-    explain_rule
+    with_rule (with_rule (with_rule (with_rule (with_rule (new_app (codes "verify")) (many_rule (codes "IN")))
+    (flag_rule (codes "all"))) loops_rule) json_rule) explain_rule
 
 -- a call of a method
 abbrev pub plain_call_line : App
@@ -58,11 +71,15 @@ abbrev pub object_line : App
 object_line = with_rule (with_rule (with_rule call_line (value_rule (codes "object"))) (each_rule (codes "xattr")))
     (each_rule (codes "key"))
 
+-- by limits
+abbrev pub limits_line : App
+limits_line = with_rule object_line (option_rule (codes "limits") (codes "profile"))
+
 -- or a file, and into a file
 abbrev pub run_line : App
 run_line =
-    with_rule (with_rule (with_rule (with_rule (with_rule object_line (value_rule (codes "load")))
-    (value_rule (codes "save"))) (flag_rule (codes "show"))) (flag_rule (codes "trace"))) explain_rule
+    with_rule (with_rule (with_rule (with_rule (with_rule (with_rule limits_line (value_rule (codes "load")))
+    (value_rule (codes "save"))) (flag_rule (codes "show"))) (flag_rule (codes "trace"))) json_rule) explain_rule
 
 -- `test`, which runs the tests of a class
 abbrev pub test_line : App
@@ -72,13 +89,12 @@ test_line =
 
 -- `asm`, which makes an image of a text
 abbrev pub asm_line : App
-asm_line = with_rule (with_rule (with_rule (new_app (codes "asm")) (required_rule (codes "IN")))
-    (required_rule (codes "OUT"))) explain_rule
+asm_line = with_rule (with_rule (with_rule (with_rule (new_app (codes "asm")) (required_rule (codes "IN")))
+    (required_rule (codes "OUT"))) (flag_rule (codes "all"))) explain_rule
 
 -- the methods that are packed, one or more
 abbrev pub methods_rule : Rule
-methods_rule =
-    record (required_rule (codes "METHOD")) { range = Some (record { start_inclusive = 1; end_inclusive = usize_max }) }
+methods_rule = many_rule (codes "METHOD")
 
 -- the rule set of a packed class
 abbrev pub rules_rule : Rule
@@ -94,6 +110,15 @@ pack_line =
 abbrev pub dis_line : App
 dis_line = with_rule (with_rule (with_rule (new_app (codes "dis")) (required_rule (codes "IN")))
     (flag_rule (codes "slots"))) explain_rule
+
+-- what a call of a method that gets heads may take
+abbrev pub budget_rule : Rule
+budget_rule = option_rule (codes "budget") (codes "131072")
+
+-- `heads`, which makes an image with heads of loops
+abbrev pub heads_line : App
+heads_line = with_rule (with_rule (with_rule (new_app (codes "heads")) (required_rule (codes "IN")))
+    (required_rule (codes "OUT"))) budget_rule
 
 -- the option of a tenant's class, which may stand more than once
 abbrev pub class_rule : Rule
@@ -116,11 +141,16 @@ stats_rule = flag_rule (codes "stats")
 abbrev pub strict_rule : Rule
 strict_rule = flag_rule (codes "strict")
 
+-- the flag that has each call's line written while the run goes on
+abbrev pub follow_rule : Rule
+follow_rule = flag_rule (codes "follow")
+
 -- `cluster`, which plays a file of calls and maps
 abbrev pub cluster_line : App
 cluster_line =
-    with_rule (with_rule (with_rule (with_rule (with_rule (new_app (codes "cluster")) (required_rule (codes "FILE")))
-    class_rule) (flag_rule (codes "show"))) stats_rule) strict_rule
+    with_rule (with_rule (with_rule (with_rule (with_rule (with_rule (with_rule (new_app (codes "cluster"))
+    (required_rule (codes "FILE"))) class_rule) (flag_rule (codes "show"))) stats_rule) strict_rule) explain_rule)
+    follow_rule
 
 -- the program's name, which wants a subcommand
 abbrev pub plain_line : App
@@ -141,9 +171,13 @@ image_line = with_subcommand (with_subcommand (with_subcommand plain_line verify
 abbrev pub class_line : App
 class_line = with_subcommand (with_subcommand (with_subcommand image_line asm_line.top) pack_line.top) dis_line.top
 
+-- with that which finds heads too
+abbrev pub loop_line : App
+loop_line = with_subcommand class_line heads_line.top
+
 -- with that of a group too
 abbrev pub group_line : App
-group_line = with_subcommand class_line sim_line.top
+group_line = with_subcommand loop_line sim_line.top
 
 -- the whole of it
 abbrev pub command_line : App

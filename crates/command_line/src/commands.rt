@@ -3,12 +3,14 @@ ghost use Rattle.std.specs.Prelude.{◌≡◌, IfOk, false};
 ghost use Rattle.clap.specs.declared.builder.command.Command.TheViews.{out-Command};
 ghost use Rattle.clap.specs.Words.{app_of, rule_of};
 ghost use Rattle.command_line.specs.CommandLine.{asm_line, call_line, class_rule, cluster_line, command_line, dis_line};
-ghost use Rattle.command_line.specs.CommandLine.{explain_rule, image_line, methods_rule, object_line, pack_line};
+ghost use Rattle.command_line.specs.CommandLine.{explain_rule, heads_line, image_line, json_rule, limits_line};
+ghost use Rattle.command_line.specs.CommandLine.{methods_rule, object_line, pack_line};
 ghost use Rattle.command_line.specs.CommandLine.{plain_call_line, plain_line, run_line, sim_line, test_line};
 ghost use Rattle.command_line.specs.CommandLine.{verify_line};
 
 use crate::forms::{
-    Heading, each, file_command, flag, option, required, value, with_arg, with_subcommand,
+    Heading, each, file_command, files_command, flag, many, option, required, value, with_arg,
+    with_subcommand,
 };
 use crate::help;
 use clap::{Arg, Command};
@@ -23,6 +25,14 @@ fn explain_flag<'a>(alloc: Global) -> Arg<'a>
     flag(alloc, "explain", help)
 }
 
+/// The flag that has what is printed in JSON.
+fn json_flag<'a>(alloc: Global) -> Arg<'a>
+    ensures rule { rule_of result ≡ json_rule }
+    ensures local { result.global ≡ false }
+{
+    flag(alloc, "json", "Prints JSON, an object a line")
+}
+
 fn verify_command<'a>(alloc: Global) -> Result<Command<'a>, AllocError>
     ensures line { IfOk result (λ c. app_of c ≡ verify_line) }
     ensures local { IfOk result (λ c. (out-Command c).has_globals ≡ false) }
@@ -32,14 +42,12 @@ fn verify_command<'a>(alloc: Global) -> Result<Command<'a>, AllocError>
         about: "Tells whether the methods of a class are safe",
         examples: help::VERIFY,
     };
-    let of_image = file_command(
-        alloc,
-        heading,
-        "IN",
-        "The file of the class: its image or text",
-    );
+    let help = "The files of classes, images or texts, each judged";
+    let of_images = files_command(alloc, heading, "IN", help);
     let all = flag(alloc, "all", help::ALL);
-    with_arg(with_arg(of_image, all), explain_flag(alloc))
+    let loops = flag(alloc, "loops", help::LOOPS);
+    let of_verdicts = with_arg(with_arg(of_images, all), loops);
+    with_arg(with_arg(of_verdicts, json_flag(alloc)), explain_flag(alloc))
 }
 
 /// The subcommand of a call, without its input and the object.
@@ -92,11 +100,21 @@ fn object_command<'a>(alloc: Global) -> Result<Command<'a>, AllocError>
     with_arg(with_arg(with_arg(of_call, object), xattr), key)
 }
 
+/// The subcommand of a call, by limits.
+fn limits_command<'a>(alloc: Global) -> Result<Command<'a>, AllocError>
+    ensures line { IfOk result (λ c. app_of c ≡ limits_line) }
+    ensures local { IfOk result (λ c. (out-Command c).has_globals ≡ false) }
+{
+    let of_object = object_command(alloc);
+    let limits = option(alloc, "limits", "LIMITS", "profile", help::LIMITS);
+    with_arg(of_object, limits)
+}
+
 fn run_command<'a>(alloc: Global) -> Result<Command<'a>, AllocError>
     ensures line { IfOk result (λ c. app_of c ≡ run_line) }
     ensures local { IfOk result (λ c. (out-Command c).has_globals ≡ false) }
 {
-    let of_object = object_command(alloc);
+    let of_object = limits_command(alloc);
     let load = value(alloc, "load", "FILE", help::LOAD);
     let save = value(alloc, "save", "FILE", help::SAVE);
     let show = flag(alloc, "show", "Prints all that the object holds afterwards");
@@ -106,10 +124,8 @@ fn run_command<'a>(alloc: Global) -> Result<Command<'a>, AllocError>
         "Prints first each executed instruction, and what it changed",
     );
     let of_files = with_arg(with_arg(of_object, load), save);
-    with_arg(
-        with_arg(with_arg(of_files, show), trace),
-        explain_flag(alloc),
-    )
+    let of_lines = with_arg(with_arg(of_files, show), trace);
+    with_arg(with_arg(of_lines, json_flag(alloc)), explain_flag(alloc))
 }
 
 fn test_command<'a>(alloc: Global) -> Result<Command<'a>, AllocError>
@@ -143,7 +159,8 @@ fn asm_command<'a>(alloc: Global) -> Result<Command<'a>, AllocError>
     };
     let of_text = file_command(alloc, heading, "IN", "The file of the text");
     let image = required(alloc, "OUT", "The file of the image");
-    with_arg(with_arg(of_text, image), explain_flag(alloc))
+    let all = flag(alloc, "all", help::ALL_LINES);
+    with_arg(with_arg(with_arg(of_text, image), all), explain_flag(alloc))
 }
 
 /// The methods that are packed, one or more.
@@ -152,7 +169,7 @@ fn methods_argument<'a>(alloc: Global) -> Arg<'a>
     ensures local { result.global ≡ false }
 {
     let help = "A method: NAME:FLAGS:IN:OUT:FILE, with FLAGS r, w or rw, and its raw code in FILE";
-    required(alloc, "METHOD", help).num_args(1..)
+    many(alloc, "METHOD", help)
 }
 
 fn pack_command<'a>(alloc: Global) -> Result<Command<'a>, AllocError>
@@ -188,6 +205,26 @@ fn dis_command<'a>(alloc: Global) -> Result<Command<'a>, AllocError>
     );
     let slots = flag(alloc, "slots", "Ends each instruction's line with its slot");
     with_arg(with_arg(of_image, slots), explain_flag(alloc))
+}
+
+fn heads_command<'a>(alloc: Global) -> Result<Command<'a>, AllocError>
+    ensures line { IfOk result (λ c. app_of c ≡ heads_line) }
+    ensures local { IfOk result (λ c. (out-Command c).has_globals ≡ false) }
+{
+    let heading = Heading {
+        name: "heads",
+        about: "Writes the image of a class with the heads of its loops",
+        examples: help::HEADS,
+    };
+    let of_image = file_command(
+        alloc,
+        heading,
+        "IN",
+        "The file of the class: its image or text",
+    );
+    let image = required(alloc, "OUT", "The file of the image");
+    let budget = option(alloc, "budget", "N", "131072", help::BUDGET);
+    with_arg(with_arg(of_image, image), budget)
 }
 
 /// The option of a tenant's class, which may be given more than once.
@@ -229,7 +266,9 @@ fn cluster_command<'a>(alloc: Global) -> Result<Command<'a>, AllocError>
     let stats = flag(alloc, "stats", "Writes what the run took to standard error");
     let strict = flag(alloc, "strict", "Ends with 1 if a call is refused");
     let of_classes = with_arg(with_arg(of_calls, class_option(alloc)), show);
-    with_arg(with_arg(of_classes, stats), strict)
+    let of_figures = with_arg(with_arg(of_classes, stats), strict);
+    let follow = flag(alloc, "follow", help::FOLLOW);
+    with_arg(with_arg(of_figures, explain_flag(alloc)), follow)
 }
 
 /// The command without its subcommands. Words have to name one of them.
@@ -265,7 +304,8 @@ pub(crate) fn root_command<'a>(alloc: Global) -> Result<Command<'a>, AllocError>
         pack_command(alloc),
     );
     let of_texts = with_subcommand(of_code, dis_command(alloc));
-    let of_groups = with_subcommand(of_texts, sim_command(alloc));
+    let of_loops = with_subcommand(of_texts, heads_command(alloc));
+    let of_groups = with_subcommand(of_loops, sim_command(alloc));
     with_subcommand(of_groups, cluster_command(alloc))
 }
 
@@ -279,6 +319,7 @@ pub(crate) fn command_named<'a>(alloc: Global, name: &str) -> Result<Command<'a>
         "asm"     => asm_command(alloc),
         "pack"    => pack_command(alloc),
         "dis"     => dis_command(alloc),
+        "heads"   => heads_command(alloc),
         "sim"     => sim_command(alloc),
         "cluster" => cluster_command(alloc),
         _         => root_command(alloc),

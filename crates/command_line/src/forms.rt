@@ -3,7 +3,8 @@ ghost use Rattle.std.specs.Prelude.{◌≡◌, IfOk, Ok, false};
 ghost use Rattle.clap.specs.declared.builder.command.Command.{Command as ACommand};
 ghost use Rattle.clap.specs.declared.builder.command.Command.TheViews.{out-Command};
 ghost use Rattle.clap.specs.Words.{AddsArg, AddsSubcommand, app_of, new_app, rule_of, with_rule};
-ghost use Rattle.command_line.specs.CommandLine.{each_rule, flag_rule, option_rule, required_rule, value_rule};
+ghost use Rattle.command_line.specs.CommandLine.{each_rule, flag_rule, many_rule, option_rule};
+ghost use Rattle.command_line.specs.CommandLine.{required_rule, value_rule};
 
 use clap::{Arg, ArgAction, Command};
 use std::alloc::{AllocError, Global};
@@ -14,6 +15,14 @@ pub(crate) fn required<'a>(alloc: Global, id: &'a str, help: &'a str) -> Arg<'a>
     ensures local { result.global ≡ false }
 {
     Arg::new(alloc, id).required(true).help(help)
+}
+
+/// An argument that has to be there, by its place, once or more often.
+pub(crate) fn many<'a>(alloc: Global, id: &'a str, help: &'a str) -> Arg<'a>
+    ensures rule { rule_of result ≡ many_rule id.entry.now }
+    ensures local { result.global ≡ false }
+{
+    required(alloc, id, help).num_args(1..)
 }
 
 /// An option with one value.
@@ -88,6 +97,22 @@ pub(crate) fn file_command<'a>(
         .about(heading.about)
         .after_help(heading.examples)
         .arg(required(alloc, id, help))
+}
+
+/// A subcommand that takes files, one or more, by their place.
+pub(crate) fn files_command<'a>(
+    alloc: Global,
+    heading: Heading<'a>,
+    id: &'a str,
+    help: &'a str,
+) -> Result<Command<'a>, AllocError>
+    ensures line { IfOk result (λ c. app_of c ≡ with_rule (new_app heading.entry.name.now) (many_rule id.entry.now)) }
+    ensures local { IfOk result (λ c. (out-Command c).has_globals ≡ false) }
+{
+    Command::new(alloc, heading.name)
+        .about(heading.about)
+        .after_help(heading.examples)
+        .arg(many(alloc, id, help))
 }
 
 /// A command with one more argument, if there is the command.

@@ -3,7 +3,10 @@
 pub(crate) const VERIFY: &str = "Examples:
   radoscls verify count.img
   radoscls verify count.img --explain
-  radoscls verify count.img --all";
+  radoscls verify count.img --all
+  radoscls verify count.img hello.txt
+  radoscls verify count.img hello.txt --json
+  radoscls verify loops/sum.txt --loops";
 
 pub(crate) const RUN: &str = "Examples:
   radoscls run keep.img keep --input 726f6f74
@@ -12,14 +15,17 @@ pub(crate) const RUN: &str = "Examples:
   radoscls run count.img count --object @count.txt --show
   radoscls run hello.txt hello --trace
   radoscls run count.img count --save kept.txt
-  radoscls run count.img count --load kept.txt --save kept.txt";
+  radoscls run count.img count --load kept.txt --save kept.txt
+  radoscls run count.img count --limits ceph
+  radoscls run count.img count --json";
 
 pub(crate) const TEST: &str = "Examples:
   radoscls test count.img count.test
   radoscls test count.txt count.test --trace";
 
-pub(crate) const ASM: &str = "Example:
-  radoscls asm count.txt count.img";
+pub(crate) const ASM: &str = "Examples:
+  radoscls asm count.txt count.img
+  radoscls asm count.txt count.img --all";
 
 pub(crate) const PACK: &str = "Examples:
   radoscls pack sum.img sum:r:16:8:sum.bin
@@ -28,6 +34,10 @@ pub(crate) const PACK: &str = "Examples:
 pub(crate) const DIS: &str = "Examples:
   radoscls dis count.img
   radoscls dis count.img --slots";
+
+pub(crate) const HEADS: &str = "Examples:
+  radoscls heads loops/sum.txt loop.img
+  radoscls heads loops/sum.txt loop.img --budget 4096";
 
 pub(crate) const SIM: &str = "Examples:
   radoscls sim survive.sim
@@ -40,12 +50,26 @@ pub(crate) const CLUSTER: &str = "Examples:
 /// For the help of `verify`.
 pub(crate) const ALL: &str = "Prints each method's verdict, and not the first refusal alone";
 
+/// For the help of `verify`.
+pub(crate) const LOOPS: &str = "Judges loops by the heads that methods declare";
+
+/// For the help of `heads`.
+pub(crate) const BUDGET: &str =
+    "What the instructions of a call may take, 1 to 1048576: a helper's call 64, each other one 1";
+
+/// For the help of `asm`.
+pub(crate) const ALL_LINES: &str = "Prints each wrong line of the text, and not the first alone";
+
 /// For the help of `run`.
 pub(crate) const INPUT_TEXT: &str = "The input: the bytes of a text, in place of --input";
 
 /// For the help of `run`.
 pub(crate) const INPUT_U64: &str =
     "The input: numbers of 64 bits, 8 bytes each, the lowest first, in place of --input";
+
+/// For the help of `run`.
+pub(crate) const LIMITS: &str =
+    "What the object may hold: 'profile', or 'ceph' for 134217728 bytes, and any number of xattrs and keys";
 
 /// For the help of `run`.
 pub(crate) const LOAD: &str =
@@ -65,6 +89,10 @@ pub(crate) const TEST_FILE: &str =
 /// For the help of `test`.
 pub(crate) const TEST_TRACE: &str =
     "Prints below a call that answers otherwise each instruction that it executed, as run --trace does";
+
+/// For the help of `cluster`.
+pub(crate) const FOLLOW: &str =
+    "Writes the lines of calls to standard error too, while the run goes on";
 
 /// A file of calls and maps, for the help of `cluster`.
 pub(crate) const CLUSTER_FILE: &str =

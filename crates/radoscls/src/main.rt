@@ -20,8 +20,8 @@
 //! - `radoscls cluster FILE [--class NAME=IMAGE ..] [--stats]`: how each call of the clients in the
 //!   file FILE ends on a cluster in threads, and what that took.
 //!
-//! With `--explain` all but `cluster` say more of a failure, below its line. `-` as a file
-//! that is read is standard input, which one argument at most may name.
+//! With `--explain` each says more of a failure, below its line. `-` as a file that is read is
+//! standard input, which one argument at most may name.
 //!
 //! It ends with 0 if that was done and printed, with 1 if it was refused or could not be
 //! printed, and with 2 if the words ask for none of that, or for help.

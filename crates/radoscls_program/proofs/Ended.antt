@@ -2,18 +2,17 @@
 use Rattle.std.proofs.Common.{◌≡◌, ◌≢◌, ◌∙◌, inl, inr, refl, sym, ap, arith, Bool, true, false, List, ℕ, Option, Result, Ok, Err, IfOk, IfErr}
 use Rattle.command_line.specs.Parsed.{IsMemory, Text}
 use Rattle.command_line.specs.declared.unparsed.Unparsed.{Unparsed}
-use Rattle.class_tool.specs.Files.{Disk, Storage}
+use Rattle.program_files.specs.Files.{Disk, Storage}
 use Rattle.radoscls_program.specs.Clustered.{ClusterEnds}
 use Rattle.radoscls_program.specs.declared.task.ClusterTask.{ClusterTask}
 use Rattle.class_tool.specs.declared.action.Action.{Action}
-use Rattle.class_tool.specs.declared.action.Action.TheVariants.{Run}
 use Rattle.class_tool.specs.declared.action_result.ActionResult.{ActionResult}
-use Rattle.class_tool.specs.declared.failed.Failed.{Failed}
-use Rattle.class_tool.specs.declared.failure.Failure.TheVariants.{NoMemory}
+use Rattle.program_files.specs.declared.failed.Failed.{Failed}
+use Rattle.program_files.specs.declared.failure.Failure.TheVariants.{NoMemory}
 use Rattle.pg_log.specs.Log.{Classes}
 use Rattle.sim.specs.Simulating.{Plays}
 use Rattle.sim.specs.declared.file.SimulationEnd.TheVariants as ending
-use Rattle.radoscls_program.specs.Program.{Ends, Found, IsDone, IsNamed, IsRefused, IsUnstarted, Responds, Starts, TaskEnds}
+use Rattle.radoscls_program.specs.Program.{Ends, Found, IsDone, IsNamed, IsRefused, IsUnstarted, Responds, Starts, TaskEnds, run_by}
 use Rattle.radoscls_program.specs.Asked.{AreFor, AreForNone}
 use Rattle.radoscls_program.specs.Status.{code_of}
 use Rattle.radoscls_program.specs.Streams.{IsPrinted, Stream, failure_line}
@@ -21,18 +20,19 @@ use Rattle.radoscls_program.specs.declared.status.ExitStatus.{ExitStatus}
 use Rattle.radoscls_program.specs.declared.status.ExitStatus.TheVariants.{Done, Refused, Usage}
 use Rattle.radoscls_program.specs.declared.task.Task.{Task}
 use Rattle.radoscls_program.specs.declared.task.Task.TheVariants as task
+use Rattle.radoscls_program.specs.declared.task.Telling.{Telling}
 
 -- the end, if the words name an action
-class_ended : (before after : Storage) (old new : Stream) (words : List Text) (a : Action) (e : Bool) (found : Result ActionResult Failed) (status : ExitStatus)
+class_ended : (before after : Storage) (old new : Stream) (words : List Text) (a : Action) (e : Telling) (found : Result ActionResult Failed) (status : ExitStatus)
     → IsNamed before.disk words a e → Found before after a found → Responds old new found e status → Ends before after old new words status
 class_ended before after old new words a e (Ok answer) Done named found took =
-    inl (record { action = a; is_explained = e; named = named; answer = answer; settles = found; printed = took })
+    inl (record { action = a; telling = e; named = named; answer = answer; settles = found; printed = took })
 class_ended before after old new words a e (Ok answer) Refused named found failed =
-    inr (inl (record { action = a; is_explained = e; named = named; answer = answer; settles = found; unprinted = failed }))
+    inr (inl (record { action = a; telling = e; named = named; answer = answer; settles = found; unprinted = failed }))
 class_ended before after old new words a e (Ok answer) Usage named found none = absurd none
 class_ended before after old new words a e (Err failed) Done named found none = absurd none
 class_ended before after old new words a e (Err failed) Refused named found printed =
-    inl (record { action = a; is_explained = e; named = named; failure = failed.failure; fails = found; told = printed })
+    inl (record { action = a; telling = e; named = named; failure = failed.failure; fails = found; told = printed })
 class_ended before after old new words a e (Err failed) Usage named found none = absurd none
 
 -- the end, if the words name the task
@@ -46,15 +46,30 @@ ended before after old new words (task.Each image e) Refused named judged =
     inr (inr (inr (inr (inr (inr (inl (record { image = image.now; is_explained = e; named = (image, named, refl); left = judged.0; ended = judged.1 })))))))
 ended before after old new words (task.Each image e) Usage named judged = absurd judged.1
 ended before after old new words (task.Run call e) status named (inl on) =
-    class_ended before after old new words (Run on.filled) e on.acts.found status
+    class_ended before after old new words (run_by call.is_large on.filled) e on.acts.found status
     (inr (record { call = call; named = named; filled = on.filled; values = on.values; same = refl })) on.acts.true_of on.acts.responds
 ended before after old new words (task.Run call e) Done named (inr un) = absurd (let bad : Done ≡ Refused = un.0 in cc)
 ended before after old new words (task.Run call e) Refused named (inr un) =
-    inr (inr (inr (inr (inr (inl (record { call = call; is_explained = e; named = named; unfilled = un.1 }))))))
+    inr (inr (inr (inr (inr (inl (record { call = call; telling = e; named = named; unfilled = un.1 }))))))
 ended before after old new words (task.Run call e) Usage named (inr un) = absurd (let bad : Usage ≡ Refused = un.0 in cc)
-ended before after old new words (task.Test asked e) Done named tested = inr (inr (inr (inr (record { asked = asked; is_explained = e; named = named; left = tested.0; ended = tested.1 }))))
+ended before after old new words (task.Files asked) Done named judged =
+    inr (inr (inr (inr (inr (inl (record { asked = asked; named = named; left = judged.0; ended = judged.1 }))))))
+ended before after old new words (task.Files asked) Refused named judged =
+    inr (inr (inr (inr (inr (inr (inr (inr (inl (record { asked = asked; named = named; left = judged.0; ended = judged.1 })))))))))
+ended before after old new words (task.Files asked) Usage named judged = absurd judged.1
+ended before after old new words (task.Loops asked) Done named judged =
+    inr (inr (inr (inr (inr (inr (inl (record { asked = asked; named = named; left = judged.0; ended = judged.1 })))))))
+ended before after old new words (task.Loops asked) Refused named judged =
+    inr (inr (inr (inr (inr (inr (inr (inr (inr (inl (record { asked = asked; named = named; left = judged.0; ended = judged.1 }))))))))))
+ended before after old new words (task.Loops asked) Usage named judged = absurd judged.1
+ended before after old new words (task.Heads asked) Done named found =
+    inr (inr (inr (inr (inr (inr (inr (record { asked = asked; named = named; ended = found })))))))
+ended before after old new words (task.Heads asked) Refused named found =
+    inr (inr (inr (inr (inr (inr (inr (inr (inr (inr (record { asked = asked; named = named; ended = found }))))))))))
+ended before after old new words (task.Heads asked) Usage named found = absurd found
+ended before after old new words (task.Test asked e) Done named tested = inr (inr (inr (inr (inl (record { asked = asked; is_explained = e; named = named; left = tested.0; ended = tested.1 })))))
 ended before after old new words (task.Test asked e) Refused named tested =
-    inr (inr (inr (inr (inr (inr (inr (record { asked = asked; is_explained = e; named = named; left = tested.0; ended = tested.1 })))))))
+    inr (inr (inr (inr (inr (inr (inr (inl (record { asked = asked; is_explained = e; named = named; left = tested.0; ended = tested.1 }))))))))
 ended before after old new words (task.Test asked e) Usage named tested = absurd tested.1
 ended before after old new words (task.Sim s) Done named played = inr (inl (record { simulation = s; named = named; left = played.0; ended = played.1 }))
 ended before after old new words (task.Sim s) Refused named played = inr (inr (inr (inl (record { simulation = s; named = named; left = played.0; ended = played.1 }))))
@@ -104,7 +119,11 @@ done_well before after old new words (inl answered) = answered.printed.well
 done_well before after old new words (inr (inl played)) = let p = played.ended in plays_well played.simulation.is_drawn p.classes _ p.text _ _ _ _ p.played
 done_well before after old new words (inr (inr (inl ran))) = ran_well before.disk old new ran.asked ran.ended
 done_well before after old new words (inr (inr (inr (inl each)))) = each.ended.printed.well
-done_well before after old new words (inr (inr (inr (inr tests)))) = tests.ended.shown.1.well
+done_well before after old new words (inr (inr (inr (inr (inl tests))))) = tests.ended.shown.1.well
+done_well before after old new words (inr (inr (inr (inr (inr (inl files)))))) = files.ended.shown.1.well
+done_well before after old new words (inr (inr (inr (inr (inr (inr (inl loops))))))) = loops.ended.shown.1.well
+done_well before after old new words (inr (inr (inr (inr (inr (inr (inr heads))))))) =
+    ap (λ (s : Stream). s.failed) heads.ended.1
 
 -- if a write fails, the status is 1
 pub failed_by : (before after : Storage) (old new : Stream) (words : List Text) (status : ExitStatus) (n : ℕ)

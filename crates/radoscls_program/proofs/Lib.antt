@@ -1,6 +1,7 @@
 mod Ended
 mod Entering
 mod Filling
+mod LoopEnds
 mod Playing
 mod Raws
 mod Tenants

@@ -1,8 +1,8 @@
 -- The end of `sim`.
 use Rattle.std.proofs.Common.{◌≡◌, inl, inr, ℕ, List, Option, subst, sym}
-use Rattle.class_tool.specs.Files.{Disk}
+use Rattle.program_files.specs.Files.{Disk}
 use Rattle.class_tool.specs.Note.{IsNote}
-use Rattle.class_tool.specs.declared.failure.Failure.{Failure}
+use Rattle.program_files.specs.declared.failure.Failure.{Failure}
 use Rattle.sim.specs.Simulating.{SimulationFails}
 use Rattle.sim.specs.declared.asked.Simulation.{Simulation}
 use Rattle.sim.specs.declared.file.SimulationEnd.TheVariants as ending

@@ -1,7 +1,7 @@
 -- The end of `test`.
 use Rattle.std.proofs.Common.{inl, Bool, List, ℕ, Option}
 use Rattle.class_tests.specs.declared.tests.TestEnd.{TestEnd}
-use Rattle.class_tool.specs.Files.{Disk}
+use Rattle.program_files.specs.Files.{Disk}
 use Rattle.radoscls_program.specs.Streams.{Stream}
 use Rattle.radoscls_program.specs.Tested.{EndIsShown, IsTested, TestEnds}
 use Rattle.radoscls_program.specs.declared.status.ExitStatus.{ExitStatus}

@@ -1,16 +1,22 @@
 -- The arguments of each subcommand.
-use Rattle.std.specs.Prelude.{◌≡◌, ◌==◌, ◌&&◌, ◌||◌, not, Bool, true, false, [], Option, Some, None, is_none}
+use Rattle.std.specs.Prelude.{◌≡◌, ◌==◌, ◌&&◌, ◌||◌, not, ℕ, Bool, true, false, [], Option, Some, None, is_none}
 use Rattle.std.specs.Prelude.{if◌then◌else◌}
-use Rattle.std.specs.Prelude.{length, option_and_then, option_map, codes}
+use Rattle.std.specs.Prelude.{length, map, nat_le, nat_lt, option_and_then, option_map, codes}
 use Rattle.std.specs.Str.{bytes_eq}
 use Rattle.bpf_decode.specs.declared.rule_set.RuleSet.{RuleSet}
 use Rattle.bpf_decode.specs.declared.rule_set.RuleSet.TheVariants.{One, Two, Three}
+use Rattle.class_reports.specs.declared.asked.FilesAsked.{FilesAsked}
+use Rattle.class_reports.specs.declared.asked.ReportForm.{ReportForm}
+use Rattle.class_reports.specs.declared.asked.ReportForm.TheVariants as form
 use Rattle.class_tool.specs.declared.action.Action.{Action}
-use Rattle.class_tool.specs.declared.action.Action.TheVariants.{Verify, Run, Assemble, Pack, Disassemble}
+use Rattle.class_tool.specs.declared.action.Action.TheVariants.{Verify, Run, RunLarge, Assemble, Pack, Disassemble}
 use Rattle.class_tool.specs.declared.action.Packing.{Packing}
 use Rattle.cluster_tool.specs.declared.asked.Clustering.{Clustering}
 use Rattle.command_line.specs.Parsed.{Parsed, Text, all_in, is_set_in, one_in}
-use Rattle.file_words.specs.Words.{id_in}
+use Rattle.file_words.specs.Words.{id_in, number_in}
+use Rattle.loop_heads.specs.declared.limits.TheConstants.{BUDGET_LIMIT}
+use Rattle.loop_tool.specs.declared.asked.HeadsAsked.{HeadsAsked}
+use Rattle.loop_tool.specs.declared.asked.LoopsAsked.{LoopsAsked}
 use Rattle.sim.specs.declared.asked.Simulation.{Simulation}
 use Rattle.radoscls_program.specs.Entries.{AreEntries}
 use Rattle.radoscls_program.specs.Inputs.{UsesInputWell}
@@ -23,6 +29,7 @@ use Rattle.radoscls_program.specs.declared.task.GivenInput.{GivenInput}
 use Rattle.radoscls_program.specs.declared.task.GivenInput.TheVariants.{Value, Bytes}
 use Rattle.radoscls_program.specs.declared.task.Task.{Task}
 use Rattle.radoscls_program.specs.declared.task.Task.TheVariants as task
+use Rattle.radoscls_program.specs.declared.task.Telling.{Telling}
 use Rattle.radoscls_program.specs.declared.task.Testing.{Testing}
 
 -- the rule set that a text names
@@ -31,6 +38,11 @@ rules_named text =
     if bytes_eq text (codes "1") then Some One else
     if bytes_eq text (codes "2") then Some Two else
     if bytes_eq text (codes "3") then Some Three else None
+
+-- the budget that a text spells, 1 to 1048576
+abbrev pub budget_in : Text → Option ℕ
+budget_in text =
+    option_and_then (λ n. if nat_le 1 n && nat_le n BUDGET_LIMIT then Some n else None) (number_in text)
 
 -- `pack` takes the file OUT of the image, the rule set --rules, and a method of each METHOD.
 pub record TakesPacking (p : Parsed) (asked : Packing) : Type 0 where
@@ -90,7 +102,23 @@ is_another (Some saved) (Some class) = not (bytes_eq saved class)
 abbrev pub saves_apart : Parsed → Bool
 saves_apart p = is_another (one_in p (codes "save")) (one_in p (codes "IN"))
 
--- `run` takes that, an input, the object's data --object, an xattr of each --xattr and a key of each --key,
+-- whether the limits that a text names are an OSD's
+abbrev pub limits_named : Text → Option Bool
+limits_named text =
+    if bytes_eq text (codes "profile") then Some false else
+    if bytes_eq text (codes "ceph") then Some true else None
+
+-- those of --limits; a call by an OSD's has no trace
+abbrev pub untraced : Bool → Bool → Option Bool
+untraced true true = None
+untraced true false = Some true
+untraced false traced = Some false
+
+abbrev pub takes_limits : Parsed → Option Bool
+takes_limits p = option_and_then (λ large. untraced large (is_set_in p (codes "trace")))
+    (option_and_then limits_named (one_in p (codes "limits")))
+
+-- `run` takes that, an input, limits, the object's data --object, an xattr of each --xattr and a key of each --key,
 -- the files --load and --save, and whether --show and --trace are there. A file may hold a value.
 pub record TakesCall (p : Parsed) (call : GivenCall) : Type 0 where
   pub plain : TakesPlain p (plain_of call)
@@ -104,18 +132,73 @@ pub record TakesCall (p : Parsed) (call : GivenCall) : Type 0 where
   pub apart : saves_apart p ≡ true
   pub shown : call.is_shown ≡ is_set_in p (codes "show")
   pub traced : call.is_traced ≡ is_set_in p (codes "trace")
+  pub limits : takes_limits p ≡ Some call.is_large
+
+-- With --json neither --all nor --explain is there.
+abbrev pub json_is_alone : Parsed → Bool
+json_is_alone p = not (is_set_in p (codes "json") && (is_set_in p (codes "all") || is_set_in p (codes "explain")))
+
+-- `verify` is asked of several files, or of one in JSON
+abbrev pub are_files : Parsed → Bool
+are_files p = is_set_in p (codes "json") || nat_lt 1 (length (all_in p (codes "IN")))
+
+-- how it tells the verdicts on them
+abbrev pub form_of : Parsed → ReportForm
+form_of p =
+    if is_set_in p (codes "json") then form.Json else if is_set_in p (codes "all") then form.Each else form.Class
+
+-- With --loops neither --all nor --json is there.
+abbrev pub loops_are_alone : Parsed → Bool
+loops_are_alone p = not (is_set_in p (codes "loops") && (is_set_in p (codes "all") || is_set_in p (codes "json")))
+
+-- It takes each file IN, and whether --explain is there.
+pub record TakesFiles (p : Parsed) (asked : FilesAsked) : Type 0 where
+  pub unlooped : is_set_in p (codes "loops") ≡ false
+  pub several : are_files p ≡ true
+  pub files : map (λ n. n.now) asked.files.items ≡ all_in p (codes "IN")
+  pub form : asked.form ≡ form_of p
+  pub explained : asked.is_explained ≡ is_set_in p (codes "explain")
+
+-- With --loops it takes the same.
+pub record TakesLoops (p : Parsed) (asked : LoopsAsked) : Type 0 where
+  pub looped : is_set_in p (codes "loops") ≡ true
+  pub files : map (λ n. n.now) asked.files.items ≡ all_in p (codes "IN")
+  pub explained : asked.is_explained ≡ is_set_in p (codes "explain")
+
+-- `verify` of one file takes it, by IN
+pub record TakesOne (p : Parsed) (file : Text) (is_all : Bool) : Type 0 where
+  pub unlooped : is_set_in p (codes "loops") ≡ false
+  pub one : are_files p ≡ false
+  pub image : one_in p (codes "IN") ≡ Some file
+  pub all : is_set_in p (codes "all") ≡ is_all
+
+-- how a result is told: with --explain a failure is explained, with --all of a text each wrong line is
+-- told, and --json has it in JSON
+abbrev pub telling_of : Parsed → Telling
+telling_of p =
+    record {
+      notes = record { is_explained = is_set_in p (codes "explain"); is_each_line = is_set_in p (codes "all") };
+      is_json = is_set_in p (codes "json");
+    }
 
 -- The arguments of each action but a call: to tell whether a class is safe, the file IN, without
 -- --all; to assemble a text, the file IN and the file OUT of the image; to pack raw code, those of
 -- `pack`; to give the text of a class, the file IN, with slots if --slots is there.
 abbrev pub TakesAction : Parsed → Action → Type 0
-TakesAction p (Verify image) = (one_in p (codes "IN") ≡ Some image.now) × (is_set_in p (codes "all") ≡ false)
+TakesAction p (Verify image) = TakesOne p image.now false
 TakesAction p (Run call) = ⊥
+TakesAction p (RunLarge call) = ⊥
 TakesAction p (Assemble text image) =
     (one_in p (codes "IN") ≡ Some text.now) × (one_in p (codes "OUT") ≡ Some image.now)
 TakesAction p (Pack asked) = TakesPacking p asked
 TakesAction p (Disassemble image has_slots) =
     (one_in p (codes "IN") ≡ Some image.now) × (has_slots ≡ is_set_in p (codes "slots"))
+
+-- `heads` takes the file IN of the class, the file OUT of the image, and the budget --budget.
+pub record TakesHeads (p : Parsed) (asked : HeadsAsked) : Type 0 where
+  pub class : one_in p (codes "IN") ≡ Some asked.class.now
+  pub image : one_in p (codes "OUT") ≡ Some asked.image.now
+  pub budget : option_and_then budget_in (one_in p (codes "budget")) ≡ Some asked.budget
 
 -- `sim` takes the file of events FILE, a tenant's class of each --class, and whether --trace and
 -- --explain are there.
@@ -126,15 +209,12 @@ pub record TakesSim (p : Parsed) (s : Simulation) : Type 0 where
   pub explained : s.is_explained ≡ is_set_in p (codes "explain")
 
 -- `cluster` takes the file of calls and maps FILE, a tenant's class of each --class, and whether
--- --show is there.
+-- --show and --explain are there.
 pub record TakesCluster (p : Parsed) (c : Clustering) : Type 0 where
   pub file : one_in p (codes "FILE") ≡ Some c.file.now
   pub tenants : SpellsTenants (all_in p (codes "class")) c.tenants.items
   pub shown : c.is_shown ≡ is_set_in p (codes "show")
-
--- `verify --all` takes the file IN of the class.
-abbrev pub TakesEach : Parsed → Text → Type 0
-TakesEach p image = (one_in p (codes "IN") ≡ Some image) × (is_set_in p (codes "all") ≡ true)
+  pub explained : c.is_explained ≡ is_set_in p (codes "explain")
 
 -- `test` takes the file IN of the class and the file FILE of its tests, and whether --trace is there.
 pub record TakesTest (p : Parsed) (asked : Testing) : Type 0 where
@@ -142,31 +222,42 @@ pub record TakesTest (p : Parsed) (asked : Testing) : Type 0 where
   pub file : one_in p (codes "FILE") ≡ Some asked.file.now
   pub traced : asked.is_traced ≡ is_set_in p (codes "trace")
 
--- a task is one of these; --explain has a failure explained, --stats has a run measured, and with
--- --strict a refused call changes the status
+-- a task is one of these; --explain has a failure explained, --stats has a run measured, --follow has
+-- it followed, and with --strict a refused call changes the status
 abbrev pub TakesTask : Parsed → Task → Type 0
-TakesTask p (task.Class action is_explained) = TakesAction p action × (is_explained ≡ is_set_in p (codes "explain"))
-TakesTask p (task.Each image is_explained) = TakesEach p image.now × (is_explained ≡ is_set_in p (codes "explain"))
-TakesTask p (task.Run call is_explained) = TakesCall p call × (is_explained ≡ is_set_in p (codes "explain"))
+TakesTask p (task.Class action telling) = TakesAction p action × (telling ≡ telling_of p)
+TakesTask p (task.Files asked) =
+    TakesFiles p asked × (json_is_alone p ≡ true) × (is_none (one_in p (codes "IN")) ≡ false)
+TakesTask p (task.Each image is_explained) =
+    TakesOne p image.now true × (is_explained ≡ is_set_in p (codes "explain"))
+TakesTask p (task.Loops asked) =
+    TakesLoops p asked × (json_is_alone p ≡ true) × (loops_are_alone p ≡ true)
+    × (is_none (one_in p (codes "IN")) ≡ false)
+TakesTask p (task.Heads asked) = TakesHeads p asked
+TakesTask p (task.Run call telling) = TakesCall p call × (telling ≡ telling_of p) × (json_is_alone p ≡ true)
 TakesTask p (task.Test asked is_explained) = TakesTest p asked × (is_explained ≡ is_set_in p (codes "explain"))
 TakesTask p (task.Sim s) = TakesSim p s
 TakesTask p (task.Cluster c) =
     TakesCluster p c.clustering × (c.is_measured ≡ is_set_in p (codes "stats"))
-    × (c.is_strict ≡ is_set_in p (codes "strict"))
+    × (c.is_strict ≡ is_set_in p (codes "strict")) × (c.is_followed ≡ is_set_in p (codes "follow"))
 
 -- the subcommand of a task
 abbrev pub subcommand_for : Action → Text
 subcommand_for (Verify image) = codes "verify"
 subcommand_for (Run call) = codes "run"
+subcommand_for (RunLarge call) = codes "run"
 subcommand_for (Assemble text image) = codes "asm"
 subcommand_for (Pack asked) = codes "pack"
 subcommand_for (Disassemble image has_slots) = codes "dis"
 
 -- the subcommand that each task is asked for by
 abbrev pub name_for : Task → Text
-name_for (task.Class action is_explained) = subcommand_for action
+name_for (task.Class action telling) = subcommand_for action
+name_for (task.Files asked) = codes "verify"
 name_for (task.Each image is_explained) = codes "verify"
-name_for (task.Run call is_explained) = codes "run"
+name_for (task.Loops asked) = codes "verify"
+name_for (task.Heads asked) = codes "heads"
+name_for (task.Run call telling) = codes "run"
 name_for (task.Test asked is_explained) = codes "test"
 name_for (task.Sim s) = codes "sim"
 name_for (task.Cluster c) = codes "cluster"

@@ -1,13 +1,13 @@
 -- The run of a file of calls and maps on a cluster, and the text that it printed.
 use Rattle.std.specs.Prelude.{◌≡◌, ◌⊎◌, Bool, true, false, Option}
-use Rattle.class_tool.specs.Files.{Disk}
-use Rattle.class_tool.specs.declared.failure.Failure.{Failure}
-use Rattle.class_tool.specs.declared.failure.Failure.TheVariants.{NoMemory}
+use Rattle.program_files.specs.Files.{Disk}
+use Rattle.program_files.specs.declared.failure.Failure.{Failure}
+use Rattle.program_files.specs.declared.failure.Failure.TheVariants.{NoMemory}
 use Rattle.cluster_tool.specs.Clustering.{Clusters, ClusteringFails}
 use Rattle.cluster_tool.specs.declared.tool.ClusteringEnd.{ClusteringEnd}
 use Rattle.cluster_tool.specs.declared.tool.ClusteringEnd.TheVariants as ending
 use Rattle.cluster_tool.specs.declared.asked.Clustering.{Clustering}
-use Rattle.radoscls_program.specs.Streams.{Stream, IsPrinted, failure_line}
+use Rattle.radoscls_program.specs.Streams.{Stream, IsPrinted, IsTold, failure_line}
 use Rattle.radoscls_program.specs.declared.task.ClusterTask.{ClusterTask}
 use Rattle.radoscls_program.specs.declared.status.ExitStatus.{ExitStatus}
 use Rattle.radoscls_program.specs.declared.status.ExitStatus.TheVariants.{Done, Refused, Usage}
@@ -21,10 +21,10 @@ abbrev pub IsCut : Option Disk → Stream → Stream → Clustering → Type 0
 IsCut disk old new c =
     (middle : Stream) × Ran disk old middle c ending.NoMemory × IsPrinted middle new (failure_line NoMemory)
 
--- nothing was done, and one line says why
+-- nothing was done, and one line says why; with --explain a note follows
 abbrev pub IsBarred : Option Disk → Stream → Stream → Clustering → Type 0
 IsBarred disk old new c =
-    (failure : Failure) × ClusteringFails disk c failure × IsPrinted old new (failure_line failure)
+    (failure : Failure) × ClusteringFails disk c failure × IsTold old new failure c.is_explained
 
 -- each call was made, and some were refused: with --strict that is no success
 abbrev pub HasRefused : Option Disk → Stream → Stream → ClusterTask → Bool → Type 0

@@ -2,17 +2,17 @@
 use Rattle.std.specs.Prelude.{◌≡◌, ⊤, List, [], ◌∷◌, true}
 use Rattle.std.specs.List.{list_any}
 use Rattle.command_line.specs.Parsed.{Text}
-use Rattle.class_tool.specs.declared.action.NamedValue.{NamedValue}
+use Rattle.object_texts.specs.declared.method_call.SpelledEntry.{SpelledEntry}
 use Rattle.radoscls_program.specs.Tenants.{image_in, is_equals, name_in}
 
 -- a text spells that entry: the name is before the first `=`, and the value after it
-pub record IsEntry (text : Text) (e : NamedValue) : Type 0 where
+pub record IsEntry (text : Text) (e : SpelledEntry) : Type 0 where
   pub ends : list_any is_equals text ≡ true
   pub name : e.name.now ≡ name_in text
   pub value : e.value.now ≡ image_in text
 
 -- the texts spell those entries, in their order
-abbrev pub AreEntries : List Text → List NamedValue → Type 0
+abbrev pub AreEntries : List Text → List SpelledEntry → Type 0
 AreEntries [] [] = ⊤
 AreEntries [] (e ∷ es) = ⊥
 AreEntries (text ∷ texts) [] = ⊥

@@ -42,11 +42,11 @@ call_values p =
 abbrev pub value_file : Text → List Text
 value_file text = named (file_of text)
 
--- the files that a command line has read, each as often as it names it: IN, FILE, those of
+-- the files that a command line has read, each as often as it names it: each IN, FILE, those of
 -- --class, raw code, those of values, and that of --load
 abbrev pub files_read : Parsed → List Text
 files_read p =
-    named (one_in p (codes "IN")) ++ named (one_in p (codes "FILE")) ++ map image_in (all_in p (codes "class")) ++
+    all_in p (codes "IN") ++ named (one_in p (codes "FILE")) ++ map image_in (all_in p (codes "class")) ++
     code_files p
     ++ flat_map value_file (call_values p) ++ named (one_in p (codes "load"))
 

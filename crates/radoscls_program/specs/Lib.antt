@@ -1,20 +1,22 @@
 -- A reader must believe Program (how the program ends, and what it prints and writes), and what it
 -- cites: Asked and Arguments (what words ask for; `command_line` says how they are read), Inputs
 -- (how standard input is used), Entries, Tenants and Raw (how words spell xattrs and keys, tenants'
--- classes and methods), Judged, Tested, Playing and Clustered (how `verify --all`, `test`, `sim` and
--- `cluster` end), Status and Streams (the number of an exit status, and what is known of standard
--- output).
+-- classes and methods), Shown, Judged, Looped, Tested, Playing and Clustered (how an action,
+-- `verify --all`, `verify` of files and by loops, `heads`, `test`, `sim` and `cluster` end), Status and
+-- Streams (the number of an exit status, and what is known of standard output).
 pub mod Arguments
 pub mod Asked
 pub mod Clustered
 pub mod Entries
 pub mod Inputs
 pub mod Judged
+pub mod Looped
 pub mod Tenants
 pub mod Values
 pub mod Playing
 pub mod Program
 pub mod Raw
+pub mod Shown
 pub mod Status
 pub mod Streams
 pub mod Tested

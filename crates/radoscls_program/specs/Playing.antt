@@ -1,9 +1,9 @@
 -- The run of a file of events, and the text that it printed.
 use Rattle.std.specs.Prelude.{◌⊎◌, ℕ, List, Option}
-use Rattle.class_tool.specs.Files.{Disk}
+use Rattle.program_files.specs.Files.{Disk}
 use Rattle.class_tool.specs.Note.{IsNote}
-use Rattle.class_tool.specs.declared.failure.Failure.{Failure}
-use Rattle.class_tool.specs.declared.failure.Failure.TheVariants.{NoMemory}
+use Rattle.program_files.specs.declared.failure.Failure.{Failure}
+use Rattle.program_files.specs.declared.failure.Failure.TheVariants.{NoMemory}
 use Rattle.sim.specs.Simulating.{Simulates, SimulationFails}
 use Rattle.sim.specs.declared.file.SimulationEnd.{SimulationEnd}
 use Rattle.sim.specs.declared.file.SimulationEnd.TheVariants as ending

@@ -1,10 +1,10 @@
 -- Standard output.
 use Rattle.std.specs.Prelude.{◌≡◌, ◌⊎◌, ◌++◌, ℕ, List, Option, Bool, true, codes}
 use Rattle.std.specs.Io.KnownBytes.{Appends}
-use Rattle.class_tool.specs.Failure.{failure_text}
+use Rattle.program_files.specs.Failure.{failure_text}
 use Rattle.class_tool.specs.Note.{IsNote}
-use Rattle.class_tool.specs.Output.{Begins}
-use Rattle.class_tool.specs.declared.failure.Failure.{Failure}
+use Rattle.program_files.specs.Output.{Begins}
+use Rattle.program_files.specs.declared.failure.Failure.{Failure}
 
 -- The text that was printed on it, and whether a write or a flush of it failed.
 pub record Stream : Type 0 where

@@ -6,12 +6,12 @@ use Rattle.class_tests.specs.Text.{IsEndText}
 use Rattle.class_tests.specs.declared.case.Case.{Case}
 use Rattle.class_tests.specs.declared.tests.TestEnd.{TestEnd}
 use Rattle.class_tests.specs.declared.tests.TestEnd.TheVariants.{AllHold, DiffersAt, BadAt}
-use Rattle.class_tool.specs.Assembly.{TextFails}
-use Rattle.class_tool.specs.Files.{Disk, Holds}
-use Rattle.class_tool.specs.Image.{IsSafeIn, LoadFails}
+use Rattle.program_files.specs.Assembly.{TextFails}
+use Rattle.program_files.specs.Files.{Disk, Holds}
+use Rattle.program_files.specs.Image.{IsSafeIn, LoadFails}
 use Rattle.class_tool.specs.RunReport.{IsTraceText}
-use Rattle.class_tool.specs.declared.failure.Failure.{Failure}
-use Rattle.class_tool.specs.declared.failure.Failure.TheVariants.{NoMemory}
+use Rattle.program_files.specs.declared.failure.Failure.{Failure}
+use Rattle.program_files.specs.declared.failure.Failure.TheVariants.{NoMemory}
 use Rattle.verifier.specs.Verified.{method_named}
 use Rattle.radoscls_program.specs.Streams.{IsTold, Lost, Stream, Took}
 use Rattle.radoscls_program.specs.declared.status.ExitStatus.{ExitStatus}

@@ -4,11 +4,11 @@ use Rattle.std.specs.Prelude.{◌≡◌, ◌⊎◌, ◌++◌, ⊤, ℕ, Bool, tr
 use Rattle.std.specs.Prelude.{string_bytes, map}
 use Rattle.std.specs.Borrow.{Bor}
 use Rattle.hex.specs.Hex.{encode_lower}
-use Rattle.class_tool.specs.Files.{Disk, IsBeginning, IsUnreadable}
-use Rattle.class_tool.specs.declared.action.MethodCall.{MethodCall}
-use Rattle.class_tool.specs.declared.action.NamedValue.{NamedValue}
-use Rattle.class_tool.specs.declared.failure.Failure.{Failure}
-use Rattle.class_tool.specs.declared.failure.Failure.TheVariants.{CannotRead, NoMemory}
+use Rattle.program_files.specs.Files.{Disk, IsBeginning, IsUnreadable}
+use Rattle.object_texts.specs.declared.method_call.MethodCall.{MethodCall}
+use Rattle.object_texts.specs.declared.method_call.SpelledEntry.{SpelledEntry}
+use Rattle.program_files.specs.declared.failure.Failure.{Failure}
+use Rattle.program_files.specs.declared.failure.Failure.TheVariants.{CannotRead, NoMemory}
 use Rattle.command_line.specs.Parsed.{Text}
 use Rattle.radoscls_program.specs.Inputs.{file_of, is_input}
 use Rattle.radoscls_program.specs.declared.task.GivenCall.{GivenCall}
@@ -17,22 +17,27 @@ use Rattle.radoscls_program.specs.declared.task.GivenInput.TheVariants.{Value, B
 use Rattle.radoscls_program.specs.declared.values.FilledCall.{FilledCall}
 use Rattle.radoscls_program.specs.declared.values.FilledEntry.{FilledEntry}
 
--- the digits are those of the file's bytes; of a longer file, those of the first 65,537 bytes,
--- which are more than any value may have
-pub record IsFileValue (disk : Option Disk) (file digits : Text) : Type 0 where
+-- the digits are those of the file's bytes; of a longer file, those of the first ones, more than any
+-- value may have
+pub record IsFileValue (disk : Option Disk) (most : ℕ) (file digits : Text) : Type 0 where
   pub bytes : List ℕ
-  pub begun : IsBeginning disk file 65537 bytes
+  pub begun : IsBeginning disk file most bytes
   pub spelled : digits ≡ encode_lower bytes
 
 -- of a text: `-` has no digits, `@` names a file, any other is the digits
-abbrev pub IsValueBy : Bool → Option Text → Option Disk → Text → Text → Type 0
-IsValueBy true file disk text digits = digits ≡ []
-IsValueBy false (Some file) disk text digits = IsFileValue disk file digits
-IsValueBy false None disk text digits = digits ≡ text
+abbrev pub IsValueBy : Bool → Option Text → Option Disk → ℕ → Text → Text → Type 0
+IsValueBy true file disk most text digits = digits ≡ []
+IsValueBy false (Some file) disk most text digits = IsFileValue disk most file digits
+IsValueBy false None disk most text digits = digits ≡ text
 
 -- the digits of a value
-abbrev pub IsValue : Option Disk → Text → Text → Type 0
-IsValue disk text digits = IsValueBy (is_input text) (file_of text) disk text digits
+abbrev pub IsValue : Option Disk → ℕ → Text → Text → Type 0
+IsValue disk most text digits = IsValueBy (is_input text) (file_of text) disk most text digits
+
+-- more bytes than data may have, by an OSD's limits or not
+abbrev pub data_read : Bool → ℕ
+data_read true = 134217729
+data_read false = 65537
 
 -- the file of a value can't be read
 pub record IsUnreadIn (disk : Option Disk) (text : Text) : Type 0 where
@@ -46,7 +51,7 @@ ValueFails disk text failure = (failure ≡ NoMemory) ⊎ ((failure ≡ CannotRe
 
 -- the digits of an input: those of a value, or of its bytes
 abbrev pub IsInput : Option Disk → GivenInput → Text → Type 0
-IsInput disk (Value text) digits = IsValue disk text.now digits
+IsInput disk (Value text) digits = IsValue disk 65537 text.now digits
 IsInput disk (Bytes bytes) digits = digits ≡ encode_lower bytes
 
 -- why there are none
@@ -55,7 +60,7 @@ InputFails disk (Value text) failure = ValueFails disk text.now failure
 InputFails disk (Bytes bytes) failure = failure ≡ NoMemory
 
 -- a name and its value, as the words have them and with the digits read:
-abbrev pub entry_texts : NamedValue → Text × Text
+abbrev pub entry_texts : SpelledEntry → Text × Text
 entry_texts e = (e.name.now, e.value.now)
 
 abbrev pub filled_texts : FilledEntry → Text × Text
@@ -66,7 +71,7 @@ abbrev pub AreValues : Option Disk → List (Text × Text) → List (Text × Tex
 AreValues disk [] [] = ⊤
 AreValues disk [] (f ∷ fs) = ⊥
 AreValues disk (e ∷ es) [] = ⊥
-AreValues disk (e ∷ es) (f ∷ fs) = (f.0 ≡ e.0) × IsValue disk e.1 f.1 × AreValues disk es fs
+AreValues disk (e ∷ es) (f ∷ fs) = (f.0 ≡ e.0) × IsValue disk 65537 e.1 f.1 × AreValues disk es fs
 
 -- the file of one of the values can't be read
 pub record HasUnread (disk : Option Disk) (es : List (Text × Text)) : Type 0 where
@@ -81,11 +86,11 @@ abbrev pub EntriesFail : Option Disk → List (Text × Text) → Failure → Typ
 EntriesFail disk es failure = (failure ≡ NoMemory) ⊎ ((failure ≡ CannotRead) × HasUnread disk es)
 
 -- a value that may be missing
-abbrev pub IsMaybeValue : Option Disk → Option Text → Option Text → Type 0
-IsMaybeValue disk None None = ⊤
-IsMaybeValue disk None (Some digits) = ⊥
-IsMaybeValue disk (Some text) None = ⊥
-IsMaybeValue disk (Some text) (Some digits) = IsValue disk text digits
+abbrev pub IsMaybeValue : Option Disk → ℕ → Option Text → Option Text → Type 0
+IsMaybeValue disk most None None = ⊤
+IsMaybeValue disk most None (Some digits) = ⊥
+IsMaybeValue disk most (Some text) None = ⊥
+IsMaybeValue disk most (Some text) (Some digits) = IsValue disk most text digits
 
 -- of a value that may be missing
 abbrev pub MaybeFails : Option Disk → Option Text → Failure → Type 0
@@ -99,7 +104,7 @@ text_in text = option_map (λ t. t.now) text
 -- the values of a call in hexadecimal
 pub record HasValues (disk : Option Disk) (call : GivenCall) (filled : FilledCall) : Type 0 where
   pub input : IsInput disk call.input (string_bytes filled.input)
-  pub data_text : IsMaybeValue disk (text_in call.data) (option_map string_bytes filled.data)
+  pub data_text : IsMaybeValue disk (data_read call.is_large) (text_in call.data) (option_map string_bytes filled.data)
   pub xattrs : AreValues disk (map entry_texts call.xattrs.items) (map filled_texts filled.xattrs.items)
   pub keys : AreValues disk (map entry_texts call.keys.items) (map filled_texts filled.keys.items)
 
@@ -109,7 +114,7 @@ pub record IsFilled (disk : Option Disk) (call : GivenCall) (filled : MethodCall
   pub method : filled.method.now ≡ call.method.now
   pub input : IsInput disk call.input filled.input.now
   pub caller : filled.caller ≡ call.caller
-  pub data_text : IsMaybeValue disk (text_in call.data) (text_in filled.data)
+  pub data_text : IsMaybeValue disk (data_read call.is_large) (text_in call.data) (text_in filled.data)
   pub xattrs : AreValues disk (map entry_texts call.xattrs.items) (map entry_texts filled.xattrs.items)
   pub keys : AreValues disk (map entry_texts call.keys.items) (map entry_texts filled.keys.items)
   pub load : text_in filled.load ≡ text_in call.load

@@ -4,31 +4,35 @@ ghost use Rattle.std.specs.Prelude.{option_and_then, true};
 ghost use Rattle.command_line.specs.Parsed.{all_in, one_in, parsed_of};
 ghost use Rattle.file_words.specs.Words.{id_in};
 ghost use Rattle.tenant_classes.specs.declared.tenant_class.TheConstants.{TENANT_LIMIT};
-ghost use Rattle.class_tool.specs.declared.action.NamedValue.{NamedValue as ANamedValue};
+ghost use Rattle.object_texts.specs.declared.method_call.SpelledEntry.{SpelledEntry as ASpelledEntry};
 ghost use Rattle.class_tool.specs.declared.action.Packing.{Packing as APacking};
 ghost use Rattle.cluster_tool.specs.declared.asked.Clustering.{Clustering as AClustering};
+ghost use Rattle.loop_tool.specs.declared.asked.HeadsAsked.{HeadsAsked as AHeadsAsked};
 ghost use Rattle.sim.specs.declared.asked.Simulation.{Simulation as ASimulation};
 ghost use Rattle.radoscls_program.specs.declared.actions.Plain.{Plain as APlain};
 ghost use Rattle.radoscls_program.specs.declared.task.GivenCall.{GivenCall as AGivenCall};
 ghost use Rattle.radoscls_program.specs.declared.task.GivenInput.{GivenInput as AnInput};
 ghost use Rattle.radoscls_program.specs.Arguments.{TakesCall, TakesCluster, TakesInput, TakesPacking, TakesPlain};
-ghost use Rattle.radoscls_program.specs.Arguments.{TakesSim};
-ghost use Rattle.radoscls_program.specs.Arguments.{IsOfKind, loads_alone, rules_named, saves_apart};
+ghost use Rattle.radoscls_program.specs.Arguments.{TakesHeads, TakesSim, budget_in};
+ghost use Rattle.radoscls_program.specs.Arguments.{IsOfKind, limits_named, loads_alone, rules_named, saves_apart};
+ghost use Rattle.radoscls_program.specs.Arguments.{takes_limits};
 ghost use Rattle.class_tests.specs.Spelled.{of_kind};
 ghost use Rattle.radoscls_program.specs.Entries.{AreEntries};
 ghost use Rattle.radoscls_program.specs.Tenants.{SpellsTenants, are_tenants};
 
 use crate::entry::entries;
 use crate::mistake::{Mistake, Wanted};
-use crate::number::caller_in;
+use crate::number::{budget_in, caller_in};
 use crate::raw_method::raw_methods;
 use crate::task::{GivenCall, GivenInput};
 use crate::tenant_class::tenants_in;
 use bpf_decode::RuleSet;
 use class_tests::of_kind;
-use class_tool::{NamedValue, Packing};
+use class_tool::Packing;
 use cluster_tool::Clustering;
 use command_line::ParsedWords;
+use loop_tool::HeadsAsked;
+use object_texts::SpelledEntry;
 use pg_log::ClientId;
 use sim::Simulation;
 use std::alloc::{AllocError, Global};
@@ -122,9 +126,9 @@ fn entries_of<'a>(
     words: &ParsedWords<'a>,
     id: &str,
     wanted: Wanted,
-) -> Result<Vec<NamedValue<'a>>, Mistake<'a>>
+) -> Result<Vec<SpelledEntry<'a>>, Mistake<'a>>
     ensures some { IfOk result (λ es. AreEntries (all_in (parsed_of words.now) id.now) es.items) }
-    ensures none { IfErr result (λ m. m ≢ Mistake.NoMemory → (es : List ANamedValue) →
+    ensures none { IfErr result (λ m. m ≢ Mistake.NoMemory → (es : List ASpelledEntry) →
         AreEntries (all_in (parsed_of words.now) id.now) es → ⊥) }
 {
     let texts = words.all(alloc, id)?;
@@ -170,6 +174,34 @@ fn check_saved<'a>(words: &ParsedWords<'a>, image: &str) -> Result<(), Mistake<'
     Ok(())
 }
 
+/// True if the limits that a text names are an OSD's.
+fn limits_named(text: &str) -> Option<bool>
+    ensures { result ≡ limits_named text.now }
+{
+    if text == "profile" {
+        return Some(false);
+    }
+    if text == "ceph" {
+        return Some(true);
+    }
+    None
+}
+
+/// True if the limits that `--limits` names are an OSD's. Such a call has no trace.
+fn is_large<'a>(words: &ParsedWords<'a>) -> Result<bool, Mistake<'a>>
+    ensures some { IfOk result (λ large. takes_limits (parsed_of words.now) ≡ Some large) }
+    ensures none { IfErr result (λ _. takes_limits (parsed_of words.now) ≡ None) }
+{
+    let text = wanted(words, "limits")?;
+    let Some(is_large) = limits_named(text) else {
+        return Err(Mistake::Value(Wanted::Limits, text));
+    };
+    if is_large && words.is_set("trace") {
+        return Err(Mistake::LargeTraced);
+    }
+    Ok(is_large)
+}
+
 /// The call that `run` asks for.
 pub(crate) fn call_of<'a>(
     alloc: Global,
@@ -185,6 +217,7 @@ pub(crate) fn call_of<'a>(
     };
     check_object(alloc, words)?;
     check_saved(words, plain.image)?;
+    let is_large = is_large(words)?;
     let input = input_of(alloc, words)?;
     let xattrs = entries_of(alloc, words, "xattr", Wanted::Xattr)?;
     let keys = entries_of(alloc, words, "key", Wanted::Key)?;
@@ -200,6 +233,7 @@ pub(crate) fn call_of<'a>(
         save: words.one("save"),
         is_shown: words.is_set("show"),
         is_traced: words.is_set("trace"),
+        is_large,
     })
 }
 
@@ -253,6 +287,32 @@ pub(crate) fn packing_of<'a>(
     })
 }
 
+/// The budget of `--budget`.
+fn budget_of<'a>(words: &ParsedWords<'a>) -> Result<u32, Mistake<'a>>
+    ensures some { IfOk result (λ budget. option_and_then budget_in (one_in (parsed_of words.now) (codes "budget")) ≡
+        Some budget) }
+    ensures none { IfErr result (λ _. option_and_then budget_in (one_in (parsed_of words.now) (codes "budget")) ≡
+        None) }
+{
+    let text = wanted(words, "budget")?;
+    match budget_in(text) {
+        Some(budget) => Ok(budget),
+        None => Err(Mistake::Value(Wanted::Budget, text)),
+    }
+}
+
+/// The image with heads that `heads` asks for.
+pub(crate) fn heads_of<'a>(words: &ParsedWords<'a>) -> Result<HeadsAsked<'a>, Mistake<'a>>
+    ensures some { IfOk result (TakesHeads (parsed_of words.now)) }
+    ensures none { IfErr result (λ _. (asked : AHeadsAsked) → TakesHeads (parsed_of words.now) asked → ⊥) }
+{
+    Ok(HeadsAsked {
+        class: wanted(words, "IN")?,
+        image: wanted(words, "OUT")?,
+        budget: budget_of(words)?,
+    })
+}
+
 /// The tenants' classes of `--class`.
 fn tenants_of<'a>(
     alloc: Global,
@@ -301,5 +361,6 @@ pub(crate) fn clustering_of<'a>(
         file,
         tenants,
         is_shown: words.is_set("show"),
+        is_explained: words.is_set("explain"),
     })
 }

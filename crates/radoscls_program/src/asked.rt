@@ -1,31 +1,129 @@
 //! Finds the task that words ask for.
-ghost use Rattle.std.specs.Prelude.{◌≡◌, ◌≢◌, IfErr, IfOk, codes, map};
-ghost use Rattle.command_line.specs.Parsed.{IsMemory, parsed_of};
-ghost use Rattle.radoscls_program.specs.Arguments.{Asks, Names};
+ghost use Rattle.std.specs.Prelude.{◌≡◌, ◌≢◌, IfErr, IfNone, IfOk, IfSome, codes, false, map, true};
+ghost use Rattle.command_line.specs.Parsed.{IsMemory, is_set_in, parsed_of};
+ghost use Rattle.radoscls_program.specs.Arguments.{Asks, Names, TakesFiles, are_files, form_of, json_is_alone};
+ghost use Rattle.radoscls_program.specs.Arguments.{TakesLoops, loops_are_alone, telling_of};
 ghost use Rattle.radoscls_program.specs.Asked.{AreFor, AreForNone};
 ghost use Rattle.radoscls_program.specs.declared.task.Task.{Task as ATask};
 
-use crate::actions::{call_of, clustering_of, packing_of, simulation_of, wanted};
+use crate::actions::{call_of, clustering_of, heads_of, packing_of, simulation_of, wanted};
 use crate::inputs::check_inputs;
 use crate::mistake::Mistake;
-use crate::task::{ClusterTask, Task, Testing};
+use crate::task::{ClusterTask, Task, Telling, Testing};
+use class_reports::{FilesAsked, Notes, ReportForm};
 use class_tool::Action;
 use command_line::{ParsedWords, Unparsed, misused, parse};
+use loop_tool::LoopsAsked;
 use std::alloc::{AllocError, Global};
 use std::convert::AsStr;
 
+/// How a result is told.
+fn telling_of(words: &ParsedWords<'_>) -> Telling
+    ensures { result ≡ telling_of (parsed_of words.now) }
+{
+    Telling {
+        notes: Notes {
+            is_explained: words.is_set("explain"),
+            is_each_line: words.is_set("all"),
+        },
+        is_json: words.is_set("json"),
+    }
+}
+
+/// Refuses words that ask for JSON, and for more than that tells.
+fn check_json<'a>(words: &ParsedWords<'a>) -> Result<(), Mistake<'a>>
+    ensures ok { IfOk result (λ _. json_is_alone (parsed_of words.now) ≡ true) }
+    ensures err { IfErr result (λ _. json_is_alone (parsed_of words.now) ≡ false) }
+{
+    if words.is_set("json") && (words.is_set("all") || words.is_set("explain")) {
+        Err(Mistake::JsonOfMore)
+    } else {
+        Ok(())
+    }
+}
+
+/// Refuses words that ask for loops, and for more than that tells.
+fn check_loops<'a>(words: &ParsedWords<'a>) -> Result<(), Mistake<'a>>
+    ensures ok { IfOk result (λ _. loops_are_alone (parsed_of words.now) ≡ true) }
+    ensures err { IfErr result (λ _. loops_are_alone (parsed_of words.now) ≡ false) }
+{
+    if words.is_set("loops") && (words.is_set("all") || words.is_set("json")) {
+        Err(Mistake::LoopsOfMore)
+    } else {
+        Ok(())
+    }
+}
+
+/// The files that `verify` is asked of by heads, if it is.
+fn loops_of<'a>(
+    alloc: Global,
+    words: &ParsedWords<'a>,
+) -> Result<Option<LoopsAsked<'a>>, AllocError>
+    ensures some { IfOk result (λ found. IfSome found (TakesLoops (parsed_of words.now))) }
+    ensures none { IfOk result (λ found. IfNone found (is_set_in (parsed_of words.now) (codes "loops") ≡ false)) }
+{
+    if !words.is_set("loops") {
+        return Ok(None);
+    }
+    let files = words.all(alloc, "IN")?;
+    Ok(Some(LoopsAsked {
+        files,
+        is_explained: words.is_set("explain"),
+    }))
+}
+
+/// How the verdicts on files are told.
+fn form_of(words: &ParsedWords<'_>) -> ReportForm
+    ensures { result ≡ form_of (parsed_of words.now) }
+{
+    if words.is_set("json") {
+        ReportForm::Json
+    } else if words.is_set("all") {
+        ReportForm::Each
+    } else {
+        ReportForm::Class
+    }
+}
+
+/// The files that `verify` is asked of, if they are several, or one is told in JSON.
+fn files_of<'a>(
+    alloc: Global,
+    words: &ParsedWords<'a>,
+) -> Result<Option<FilesAsked<'a>>, AllocError>
+    requires { is_set_in (parsed_of words.now) (codes "loops") ≡ false }
+    ensures some { IfOk result (λ found. IfSome found (TakesFiles (parsed_of words.now))) }
+    ensures none { IfOk result (λ found. IfNone found (are_files (parsed_of words.now) ≡ false)) }
+{
+    let files = words.all(alloc, "IN")?;
+    if !(words.is_set("json") || files.len() > 1) {
+        return Ok(None);
+    }
+    Ok(Some(FilesAsked {
+        files,
+        form: form_of(words),
+        is_explained: words.is_set("explain"),
+    }))
+}
+
 /// `verify`.
-fn verify_task<'a>(words: &ParsedWords<'a>) -> Result<Task<'a>, Mistake<'a>>
+fn verify_task<'a>(alloc: Global, words: &ParsedWords<'a>) -> Result<Task<'a>, Mistake<'a>>
     requires { (parsed_of words.now).name ≡ codes "verify" }
     ensures named { IfOk result (Names (parsed_of words.now)) }
     ensures unnamed { IfErr result (λ m. m ≢ Mistake.NoMemory → (task : ATask) → Names (parsed_of words.now) task → ⊥) }
 {
     let image = wanted(words, "IN")?;
-    let is_explained = words.is_set("explain");
-    if words.is_set("all") {
-        return Ok(Task::Each(image, is_explained));
+    check_json(words)?;
+    check_loops(words)?;
+    if let Some(asked) = loops_of(alloc, words)? {
+        return Ok(Task::Loops(asked));
     }
-    Ok(Task::Class(Action::Verify { image }, is_explained))
+    if let Some(files) = files_of(alloc, words)? {
+        return Ok(Task::Files(files));
+    }
+    if words.is_set("all") {
+        return Ok(Task::Each(image, words.is_set("explain")));
+    }
+    Ok(Task::Class(Action::Verify { image }, telling_of(words)))
 }
 
 /// `run`.
@@ -34,8 +132,9 @@ fn run_task<'a>(alloc: Global, words: &ParsedWords<'a>) -> Result<Task<'a>, Mist
     ensures named { IfOk result (Names (parsed_of words.now)) }
     ensures unnamed { IfErr result (λ m. m ≢ Mistake.NoMemory → (task : ATask) → Names (parsed_of words.now) task → ⊥) }
 {
+    check_json(words)?;
     let call = call_of(alloc, words)?;
-    Ok(Task::Run(call, words.is_set("explain")))
+    Ok(Task::Run(call, telling_of(words)))
 }
 
 /// `test`.
@@ -63,7 +162,7 @@ fn asm_task<'a>(words: &ParsedWords<'a>) -> Result<Task<'a>, Mistake<'a>>
 {
     let text = wanted(words, "IN")?;
     let image = wanted(words, "OUT")?;
-    Ok(Task::Class(Action::Assemble { text, image }, words.is_set("explain")))
+    Ok(Task::Class(Action::Assemble { text, image }, telling_of(words)))
 }
 
 /// `pack`.
@@ -73,7 +172,7 @@ fn pack_task<'a>(alloc: Global, words: &ParsedWords<'a>) -> Result<Task<'a>, Mis
     ensures unnamed { IfErr result (λ m. m ≢ Mistake.NoMemory → (task : ATask) → Names (parsed_of words.now) task → ⊥) }
 {
     let packing = packing_of(alloc, words)?;
-    Ok(Task::Class(Action::Pack(packing), words.is_set("explain")))
+    Ok(Task::Class(Action::Pack(packing), telling_of(words)))
 }
 
 /// `dis`.
@@ -84,10 +183,16 @@ fn dis_task<'a>(words: &ParsedWords<'a>) -> Result<Task<'a>, Mistake<'a>>
 {
     let image = wanted(words, "IN")?;
     let has_slots = words.is_set("slots");
-    Ok(Task::Class(
-        Action::Disassemble { image, has_slots },
-        words.is_set("explain"),
-    ))
+    Ok(Task::Class(Action::Disassemble { image, has_slots }, telling_of(words)))
+}
+
+/// `heads`.
+fn heads_task<'a>(words: &ParsedWords<'a>) -> Result<Task<'a>, Mistake<'a>>
+    requires { (parsed_of words.now).name ≡ codes "heads" }
+    ensures named { IfOk result (Names (parsed_of words.now)) }
+    ensures unnamed { IfErr result (λ m. m ≢ Mistake.NoMemory → (task : ATask) → Names (parsed_of words.now) task → ⊥) }
+{
+    Ok(Task::Heads(heads_of(words)?))
 }
 
 /// `sim`.
@@ -110,6 +215,7 @@ fn cluster_task<'a>(alloc: Global, words: &ParsedWords<'a>) -> Result<Task<'a>, 
         clustering,
         is_measured: words.is_set("stats"),
         is_strict: words.is_set("strict"),
+        is_followed: words.is_set("follow"),
     }))
 }
 
@@ -120,12 +226,13 @@ fn task_of<'a>(alloc: Global, words: &ParsedWords<'a>) -> Result<Task<'a>, Mista
     ensures unnamed { IfErr result (λ m. m ≢ Mistake.NoMemory → (task : ATask) → Names (parsed_of words.now) task → ⊥) }
 {
     match words.name() {
-        "verify"  => verify_task(words),
+        "verify"  => verify_task(alloc, words),
         "run"     => run_task(alloc, words),
         "test"    => test_task(words),
         "asm"     => asm_task(words),
         "pack"    => pack_task(alloc, words),
         "dis"     => dis_task(words),
+        "heads"   => heads_task(words),
         "sim"     => sim_task(alloc, words),
         "cluster" => cluster_task(alloc, words),
         _         => Err(Mistake::Incomplete),

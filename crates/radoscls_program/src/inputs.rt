@@ -89,11 +89,12 @@ fn code_files<'a>(alloc: Global, words: &ParsedWords<'a>) -> Result<Vec<&'a str>
 fn files_read<'a>(alloc: Global, words: &ParsedWords<'a>) -> Result<Vec<&'a str>, AllocError>
     ensures { IfOk result (λ names. map (λ n. n.now) names.items ≡ files_read (parsed_of words.now)) }
 {
+    let classes_read = words.all(alloc, "IN")?;
     let codes = code_files(alloc, words)?;
     let values = call_values(alloc, words)?;
     let classes = words.all(alloc, "class")?;
     let mut names = Vec::new(alloc);
-    push_named(&mut names, words.one("IN"))?;
+    names.extend_from_slice(&classes_read)?;
     push_named(&mut names, words.one("FILE"))?;
     push_images(&mut names, &classes)?;
     names.extend_from_slice(&codes)?;

@@ -15,6 +15,12 @@ pub(crate) enum Mistake<'a> {
     ObjectTwice,
     /// A call has more than one input.
     TwoInputs,
+    /// A call by an OSD's limits has no trace.
+    LargeTraced,
+    /// JSON has neither each method's verdict nor explanations.
+    JsonOfMore,
+    /// Verdicts by heads are told neither of each method nor in JSON.
+    LoopsOfMore,
 }
 
 /// The form that an argument wants of its text.
@@ -23,7 +29,9 @@ pub(crate) enum Wanted {
     Caller,
     InputText,
     InputU64,
+    Limits,
     Rules,
+    Budget,
     Xattr,
     Key,
     Method,
@@ -45,7 +53,9 @@ impl Wanted {
             Wanted::InputText    => ("--input-text <TEXT>", "a text"),
             Wanted::InputU64     =>
                 ("--input-u64 <N,..>", "numbers from 0 to 18446744073709551615, with ',' between them"),
+            Wanted::Limits       => ("--limits <LIMITS>", "profile or ceph"),
             Wanted::Rules        => ("--rules <N>", "1, 2 or 3"),
+            Wanted::Budget       => ("--budget <N>", "a number from 1 to 1048576, without a sign or a leading zero"),
             Wanted::Xattr        => ("--xattr <NAME=HEX>", "a name, '=' and the value"),
             Wanted::Key          => ("--key <KEY=HEX>", "a key, '=' and the value"),
             Wanted::Method       => ("<METHOD>...", "NAME:FLAGS:IN:OUT:FILE, FLAGS r, w or rw, IN and OUT 0 to 65535"),
@@ -85,6 +95,24 @@ impl Mistake<'_> {
                     alloc,
                     "the arguments '--input <HEX>', '--input-text <TEXT>' and '--input-u64 <N,..>' cannot be used \
                     with one another",
+                )
+            }
+            Mistake::LargeTraced => {
+                String::from_str(
+                    alloc,
+                    "the argument '--trace' cannot be used with '--limits ceph'",
+                )
+            }
+            Mistake::JsonOfMore => {
+                String::from_str(
+                    alloc,
+                    "the argument '--json' cannot be used with '--all' or '--explain'",
+                )
+            }
+            Mistake::LoopsOfMore => {
+                String::from_str(
+                    alloc,
+                    "the argument '--loops' cannot be used with '--all' or '--json'",
                 )
             }
             Mistake::Value(wanted, text) => {

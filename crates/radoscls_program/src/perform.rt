@@ -1,26 +1,33 @@
 //! From words to what they ask for, done and printed, and the status that a run ends with.
 
-ghost use Rattle.std.specs.Prelude.{◌≡◌, ◌≢◌, true, false, map};
+ghost use Rattle.std.specs.Prelude.{◌≡◌, ◌≢◌, IfErr, IfOk, true, false, map};
 ghost use Rattle.command_line.specs.Parsed.{IsMemory};
 ghost use Rattle.radoscls_program.specs.Clustered.{ClusterEnds};
 ghost use Rattle.radoscls_program.specs.Playing.{SimEnds};
 ghost use Rattle.radoscls_program.specs.Program.{Acts, CallEnds, Ends, IsDone, IsRefused, IsUsage, Responds, TaskEnds};
-ghost use Rattle.class_tool.specs.Files.{storage};
+ghost use Rattle.class_tool.specs.ActionResult.{Fails, Settles};
+ghost use Rattle.program_files.specs.Files.{storage};
+ghost use Rattle.radoscls_program.specs.Program.{run_by};
 ghost use Rattle.radoscls_program.specs.Status.{code_of};
 ghost use Rattle.radoscls_program.specs.Streams.{stream, IsPrinted, failure_line};
 ghost use Rattle.radoscls_program.specs.declared.status.ExitStatus.{ExitStatus as AStatus};
 
 use crate::asked::asked;
-use crate::judging::judge;
+use crate::error_stream::ErrorStream;
+use crate::judging::{judge, judge_files};
+use crate::looping::{find_heads, judge_loops};
+use crate::showing::show;
 use crate::status::ExitStatus;
-use crate::task::{ClusterTask, GivenCall, Task};
-use crate::telling::{add, asked_note, refuse, tell};
+use crate::task::{ClusterTask, GivenCall, Task, Telling};
+use crate::telling::{add, asked_note, refuse, tell, tell_as};
 use crate::testing::test;
 use crate::threads::play_cluster;
 use crate::values::{call_with, filled};
-use class_tool::{Action, ActionResult, Failed, Failure, Files, Output, Reads, find};
+use class_tool::{Action, ActionResult, find};
 use cluster_tool::{Figures, Meter};
 use command_line::Unparsed;
+use object_texts::MethodCall;
+use program_files::{Failed, Failure, Files, Output, ReadableFiles};
 use sim::{Simulation, SimulationEnd, simulate};
 use std::alloc::Global;
 use std::convert::AsStr;
@@ -34,24 +41,59 @@ fn respond<F: Files, O: Output>(
     alloc: Global,
     files: &F,
     found: &Result<ActionResult, Failed>,
-    is_explained: bool,
+    telling: Telling,
     out: &mut O,
 ) -> ExitStatus
     ensures { Responds (stream O.printed O.failed out.old)
-        (stream O.printed O.failed out.new) found.now is_explained result }
+        (stream O.printed O.failed out.new) found.now telling result }
 {
     match found {
-        Ok(answer) => match out.print(answer) {
-            Ok(()) => ExitStatus::Done,
-            Err(_) => ExitStatus::Refused,
-        },
-        Err(failed) => tell(alloc, files, failed, is_explained, out),
+        Ok(answer) => show(alloc, answer, telling.is_json, out),
+        Err(failed) => tell_as(alloc, files, failed, telling, out),
     }
 }
 
-/// Says that a call's object was saved, though the answer was not printed.
-fn tell_saved<E: io::Write>(action: &Action<'_>, err: &mut E) {
-    if let Action::Run(call) = action {
+/// A failure, which tells each wrong line of a text, if it is asked for.
+fn told_by(failed: Failed, is_each_line: bool) -> Failed
+    ensures { result.failure ≡ failed.failure }
+{
+    if is_each_line {
+        failed.of_each_line()
+    } else {
+        failed
+    }
+}
+
+/// Does what is asked of a class, as `find` does.
+fn find_told<F: Files>(
+    alloc: Global,
+    files: &mut F,
+    action: &Action<'_>,
+    is_each_line: bool,
+) -> Result<ActionResult, Failed>
+    ensures settles { IfOk result (Settles (storage F.disk F.failed F.in_place files.old)
+        (storage F.disk F.failed F.in_place files.new) action.now) }
+    ensures fails { IfErr result (λ e. Fails (storage F.disk F.failed F.in_place files.old)
+        (storage F.disk F.failed F.in_place files.new) action.now e.failure) }
+{
+    match find(alloc, files, action) {
+        Ok(answer) => Ok(answer),
+        Err(failed) => Err(told_by(failed, is_each_line)),
+    }
+}
+
+/// How an action ended.
+#[derive(Clone, Copy)]
+struct ActionEnd {
+    status: ExitStatus,
+    /// True if it was done, and its answer could not be printed.
+    is_unprinted: bool,
+}
+
+/// Says that a call's object was saved, if only the answer was not printed: the same call again
+/// would count twice.
+fn tell_saved<E: io::Write>(end: ActionEnd, call: &GivenCall<'_>, err: &mut E) {
+    if end.is_unprinted {
         if let Some(file) = call.save {
             let _ = writeln!(
                 err,
@@ -61,46 +103,65 @@ fn tell_saved<E: io::Write>(action: &Action<'_>, err: &mut E) {
     }
 }
 
-/// Does what is asked of a class, and prints it. If an answer could not be printed, a line on
-/// `err` says that a call's object was saved: the same call again would count twice.
-fn act<F: Files, O: Output, E: io::Write>(
+/// Does what is asked of a class, and prints it.
+fn act<F: Files, O: Output>(
     alloc: Global,
     files: &mut F,
     action: &Action<'_>,
-    is_explained: bool,
+    telling: Telling,
     out: &mut O,
-    err: &mut E,
-) -> ExitStatus
+) -> ActionEnd
     ensures { Acts (storage F.disk F.failed F.in_place files.old) (storage F.disk F.failed F.in_place files.new)
-        (stream O.printed O.failed out.old) (stream O.printed O.failed out.new) action.now is_explained result }
+        (stream O.printed O.failed out.old) (stream O.printed O.failed out.new) action.now telling result.status }
 {
-    let found = find(alloc, files, action);
-    let status = respond(alloc, files, &found, is_explained, out);
-    if found.is_ok() && status == ExitStatus::Refused {
-        tell_saved(action, err);
+    let found = find_told(alloc, files, action, telling.notes.is_each_line);
+    let status = respond(alloc, files, &found, telling, out);
+    ActionEnd {
+        status,
+        is_unprinted: found.is_ok() && status == ExitStatus::Refused,
     }
-    status
+}
+
+/// The action of a call: by an OSD's limits, or not.
+fn run_by<'a>(is_large: bool, call: MethodCall<'a>) -> Action<'a>
+    ensures { result ≡ run_by is_large call.entry }
+{
+    if is_large {
+        Action::RunLarge(call)
+    } else {
+        Action::Run(call)
+    }
 }
 
 /// Makes a call, after its values' files are read, and prints what it comes to.
-fn act_call<F: Files, O: Output, E: io::Write>(
+fn act_call<F: Files, O: Output>(
     alloc: Global,
     files: &mut F,
     call: &GivenCall<'_>,
-    is_explained: bool,
+    telling: Telling,
     out: &mut O,
-    err: &mut E,
-) -> ExitStatus
+) -> ActionEnd
     ensures { CallEnds (storage F.disk F.failed F.in_place files.old) (storage F.disk F.failed F.in_place files.new)
-        (stream O.printed O.failed out.old) (stream O.printed O.failed out.new) call.now is_explained result }
+        (stream O.printed O.failed out.old) (stream O.printed O.failed out.new) call.now telling result.status }
 {
     let values = match filled(alloc, files, call) {
         Ok(values) => values,
-        Err(failure) => return tell(alloc, files, &Failed::from(failure), is_explained, out),
+        Err(failure) => {
+            return ActionEnd {
+                status: tell_as(alloc, files, &Failed::from(failure), telling, out),
+                is_unprinted: false,
+            };
+        }
     };
     match call_with(alloc, call, &values) {
-        Ok(made) => act(alloc, files, &Action::Run(made), is_explained, out, err),
-        Err(error) => tell(alloc, files, &Failed::from(error), is_explained, out),
+        Ok(made) => {
+            let action = run_by(call.is_large, made);
+            act(alloc, files, &action, telling, out)
+        }
+        Err(error) => ActionEnd {
+            status: tell_as(alloc, files, &Failed::from(error), telling, out),
+            is_unprinted: false,
+        },
     }
 }
 
@@ -126,30 +187,34 @@ fn play<F: Files, O: Output>(
     }
 }
 
-/// Plays a file of calls and maps on a cluster. Its figures are written to `err`, if they are asked
-/// for.
-fn measure<R: AllocGlobal + Threads + Wait + Clock + Sync, F: Reads, O: Output, E: io::Write>(
+/// Plays a file of calls and maps on a cluster. Its figures and its calls' lines are written to
+/// `err`, if they are asked for; if neither is, on a terminal, how far the run is.
+fn measure<R: AllocGlobal + Threads + Wait + Clock + Sync, F: Files, O: Output, E: io::Write>(
     rt: &R,
     files: &F,
     task: &ClusterTask<'_>,
     out: &mut O,
-    err: &mut E,
+    err: &mut ErrorStream<'_, E>,
 ) -> ExitStatus
     ensures { ClusterEnds (F.disk files.now) (stream O.printed O.failed out.old)
         (stream O.printed O.failed out.new) task.now result }
 {
     let figures = Figures::new(rt.alloc());
-    let lines = if task.is_measured {
-        Some(&mut *err)
-    } else {
-        None
-    };
+    let is_shown = task.is_measured || task.is_followed || err.is_terminal;
+    let to = &mut *err.to;
+    let lines = if is_shown { Some(&mut *to) } else { None };
     let mut meter = Meter::new(&figures, lines);
+    if !task.is_measured {
+        meter.tell_in_place();
+    }
+    if task.is_followed {
+        meter.follow();
+    }
     let status = play_cluster(rt, files, task, &mut meter, out);
     // The meter wrote to `err` too.
     drop(meter);
     if task.is_measured && figures.are_made() {
-        let _ = write!(err, "{figures}");
+        let _ = write!(to, "{figures}");
     }
     status
 }
@@ -161,16 +226,23 @@ fn do_task<R: AllocGlobal + Threads + Wait + Clock + Sync, F: Files, O: Output, 
     files: &mut F,
     task: &Task<'_>,
     out: &mut O,
-    err: &mut E,
+    err: &mut ErrorStream<'_, E>,
 ) -> ExitStatus
     ensures { TaskEnds (storage F.disk F.failed F.in_place files.old) (storage F.disk F.failed F.in_place files.new)
         (stream O.printed O.failed out.old) (stream O.printed O.failed out.new) task.now result }
 {
     let alloc = rt.alloc();
     match task {
-        Task::Class(action, is_explained) => act(alloc, files, action, *is_explained, out, err),
+        Task::Class(action, telling) => act(alloc, files, action, *telling, out).status,
+        Task::Files(asked) => judge_files(alloc, files, asked, out),
         Task::Each(image, is_explained) => judge(alloc, files, image, *is_explained, out),
-        Task::Run(call, is_explained) => act_call(alloc, files, call, *is_explained, out, err),
+        Task::Loops(asked) => judge_loops(alloc, files, asked, out),
+        Task::Heads(asked) => find_heads(alloc, files, asked, out),
+        Task::Run(call, telling) => {
+            let end = act_call(alloc, files, call, *telling, out);
+            tell_saved(end, call, &mut *err.to);
+            end.status
+        }
         Task::Test(asked, is_explained) => test(alloc, files, asked, *is_explained, out),
         Task::Sim(simulation) => play(alloc, files, simulation, out),
         Task::Cluster(cluster) => measure(rt, files, cluster, out, err),
@@ -200,7 +272,7 @@ pub(crate) fn perform<
     F: Files,
     O: Output,
     E: io::Write,
->(rt: &R, words: &[S], files: &mut F, out: &mut O, err: &mut E) -> ExitStatus
+>(rt: &R, words: &[S], files: &mut F, out: &mut O, err: &mut ErrorStream<'_, E>) -> ExitStatus
     ensures { Ends (storage F.disk F.failed F.in_place files.old) (storage F.disk F.failed F.in_place files.new)
         (stream O.printed O.failed out.old) (stream O.printed O.failed out.new) (map S.text words.now) result }
 {
@@ -211,7 +283,7 @@ pub(crate) fn perform<
             status
         }
         Err(error) => {
-            let status = explain(&error, out, err);
+            let status = explain(&error, out, &mut *err.to);
             drop(error);
             status
         }
@@ -224,14 +296,16 @@ pub(crate) fn perform<
 /// The answer is what the process ends with: 0 if it was done and printed, 1 if it was
 /// refused, or a write or a flush of `out` failed, and then a beginning of it was printed; 2 after
 /// usage or help, if the words name no task without a fault. No file is written but the one that
-/// `asm` or `pack` names for the image, and that one only if the text or the raw code is right,
-/// and the one that `run --save` names for the object; if that fails, it is as it was. If only
+/// `asm`, `pack` or `heads` names for the image, and that one only if the text or the raw code is
+/// right or all heads are found, and the one that `run --save` names for the object; if that fails,
+/// it is as it was. If only
 /// the answer of a call could not be printed, a line on `err` says that its object was saved.
 /// `sim` prints of each line of its file what it comes to before the next is done; `cluster` prints
 /// its lines once all calls have ended.
 ///
 /// `cluster` starts threads by `rt` and waits for them: nothing is said of when it ends. With
-/// `--stats` what the run took is written to `err`.
+/// `--stats` what the run took is written to `err`, which is taken for no terminal, and with
+/// `--follow` the lines of calls.
 pub fn program<
     S: AsStr,
     R: AllocGlobal + Threads + Wait + Clock + Sync,
@@ -252,5 +326,9 @@ pub fn program<
     // If a write or a flush of `out` fails, the ending is 1.
     ensures failed { O.failed out.old ≡ false → O.failed out.new ≡ true → result ≡ 1 }
 {
-    perform(rt, words, files, out, err).code()
+    let mut err = ErrorStream {
+        to: err,
+        is_terminal: false,
+    };
+    perform(rt, words, files, out, &mut err).code()
 }

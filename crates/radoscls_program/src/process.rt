@@ -4,16 +4,17 @@ ghost use Rattle.std.specs.IoError.{error_kind};
 ghost use Rattle.std.specs.Prelude.{◌≡◌, ◌↔◌, IfOk, IfErr, map, string_bytes};
 ghost use Rattle.std.specs.Process.{exit_status};
 ghost use Rattle.radoscls_program.specs.Program.{Ends, IsUnstarted, Starts};
-ghost use Rattle.class_tool.specs.Files.{Storage, storage, unwritten};
+ghost use Rattle.program_files.specs.Files.{Storage, storage, unwritten};
 ghost use Rattle.radoscls_program.specs.Status.{code_of};
 ghost use Rattle.radoscls_program.specs.Streams.{stream};
 ghost use Rattle.radoscls_program.specs.declared.status.ExitStatus.{ExitStatus as AStatus};
 
+use crate::error_stream::ErrorStream;
 use crate::perform::perform;
 use crate::status::ExitStatus;
 use crate::telling::refuse;
-use class_tool::{Failure, Output, SystemFiles};
-use std::io::{ErrorKind, Input};
+use program_files::{Failure, Output, SystemFiles};
+use std::io::{ErrorKind, Input, IsTerminal};
 use std::process::ExitCode;
 use std::rt::{Env, Files};
 use std::sync::Wait;
@@ -45,11 +46,38 @@ fn unstarted<O: Output, E: io::Write>(error: &io::Error, out: &mut O, err: &mut 
     }
 }
 
+/// Runs the program on those words, or says why there are none.
+fn end_on<
+    R: AllocGlobal + Threads + Wait + Clock + Sync,
+    F: program_files::Files,
+    O: Output,
+    E: io::Write,
+>(
+    rt: &R,
+    words: &io::Result<Vec<String>>,
+    files: &mut F,
+    out: &mut O,
+    err: &mut ErrorStream<'_, E>,
+) -> ExitStatus
+    ensures asked { IfOk words.now
+        (λ all. Ends (storage F.disk F.failed F.in_place files.old) (storage F.disk F.failed F.in_place files.new)
+        (stream O.printed O.failed out.old) (stream O.printed O.failed out.new) (map string_bytes all.items) result) }
+    ensures unread { IfErr words.now
+        (λ _. IsUnstarted (storage F.disk F.failed F.in_place files.old) (storage F.disk F.failed F.in_place files.new)
+        (stream O.printed O.failed out.old) (stream O.printed O.failed out.new) result) }
+    ensures memory { IfErr words.now (λ e. (result ≡ ExitStatus.Refused) ↔ (error_kind e ≡ ErrorKind.OutOfMemory)) }
+{
+    match words {
+        Ok(words) => perform(rt, words, files, out, err),
+        Err(error) => unstarted(error, out, &mut *err.to),
+    }
+}
+
 /// Runs the program on those words, or says why there are none: `program`, on words that may be
 /// missing.
 pub fn end_of<
     R: AllocGlobal + Threads + Wait + Clock + Sync,
-    F: class_tool::Files,
+    F: program_files::Files,
     O: Output,
     E: io::Write,
 >(rt: &R, words: &io::Result<Vec<String>>, files: &mut F, out: &mut O, err: &mut E) -> ExitStatus
@@ -61,26 +89,32 @@ pub fn end_of<
         (stream O.printed O.failed out.old) (stream O.printed O.failed out.new) result) }
     ensures memory { IfErr words.now (λ e. (result ≡ ExitStatus.Refused) ↔ (error_kind e ≡ ErrorKind.OutOfMemory)) }
 {
-    match words {
-        Ok(words) => perform(rt, words, files, out, err),
-        Err(error) => unstarted(error, out, err),
-    }
+    let mut err = ErrorStream {
+        to: err,
+        is_terminal: false,
+    };
+    end_on(rt, words, files, out, &mut err)
 }
 
 /// Runs `end_of` on the process's own words and files, and gives the number of its status:
 /// `program`'s answer, or if the words could not be read 1 for want of memory, of which a line is
-/// printed, and 2 for a word that is no text, which a line on `err` says.
+/// printed, and 2 for a word that is no text, which a line on `err` says. On a terminal, `cluster`
+/// without `--stats` tells there how far it is.
 pub fn start<
     R: Env + Files + AllocGlobal + Input + Threads + Wait + Clock + Sync,
     O: Output,
-    E: io::Write,
+    E: io::Write + IsTerminal,
 >(rt: &R, out: &mut O, err: &mut E) -> ExitCode
     ensures { (status : AStatus) × (exit_status result ≡ code_of status) × (after : Storage) ×
         Starts unwritten after (stream O.printed O.failed out.old) (stream O.printed O.failed out.new) status }
 {
     let mut files = SystemFiles::new(rt);
     let words = words(rt);
-    let status = end_of(rt, &words, &mut files, out, err);
+    let mut err = ErrorStream {
+        is_terminal: err.is_terminal(),
+        to: err,
+    };
+    let status = end_on(rt, &words, &mut files, out, &mut err);
     drop(words);
     ExitCode::from(status.code())
 }

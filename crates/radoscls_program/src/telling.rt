@@ -1,10 +1,15 @@
 //! Prints why something was not done.
 ghost use Rattle.std.specs.Prelude.{◌≡◌, ◌++◌, string_bytes};
+ghost use Rattle.class_reports.specs.Notes.{is_noted};
 ghost use Rattle.class_tool.specs.Note.{IsNote};
 ghost use Rattle.radoscls_program.specs.Streams.{IsPrinted, IsTold, failure_line, stream};
+ghost use Rattle.radoscls_program.specs.Shown.{IsToldAs, IsToldInJson};
 
 use crate::status::ExitStatus;
-use class_tool::{Failed, Failure, Files, Output};
+use crate::task::Telling;
+use class_reports::{Notes, error_line, note_below};
+use class_tool::Explain;
+use program_files::{Failed, Failure, Files, Output};
 use std::alloc::Global;
 
 /// Prints a failure's line.
@@ -51,11 +56,58 @@ pub(crate) fn add<O: Output>(note: &str, out: &mut O) -> ExitStatus
 }
 
 /// Prints a failure's line, and a note.
-fn say<O: Output>(failure: Failure, note: &str, out: &mut O)
+pub(crate) fn say<O: Output>(failure: Failure, note: &str, out: &mut O)
     ensures { IsPrinted (stream O.printed O.failed out.old) (stream O.printed O.failed out.new)
         (failure_line failure ++ note.now) }
 {
     let _ = out.print(format_args!("{failure}\n{note}"));
+}
+
+/// Prints why something was not done, in JSON.
+fn tell_json<O: Output>(alloc: Global, failure: Failure, out: &mut O) -> ExitStatus
+    ensures status { result ≡ ExitStatus.Refused }
+    ensures told { IsToldInJson (stream O.printed O.failed out.old) (stream O.printed O.failed out.new) failure }
+{
+    match error_line(alloc, failure) {
+        Ok(line) => add(&line, out),
+        Err(_) => refuse(Failure::NoMemory, out),
+    }
+}
+
+/// Prints a failure's line, and the note below it that is asked for.
+fn tell_lines<F: Files, O: Output>(
+    alloc: Global,
+    files: &F,
+    failed: &Failed,
+    notes: Notes,
+    out: &mut O,
+) -> ExitStatus
+    ensures status { result ≡ ExitStatus.Refused }
+    ensures told { IsTold (stream O.printed O.failed out.old) (stream O.printed O.failed out.new)
+        failed.now.failure (is_noted notes failed.now.failure) }
+{
+    let note = note_below(alloc, files, failed, notes);
+    say(failed.failure, &note, out);
+    ExitStatus::Refused
+}
+
+/// Prints a failure's line, and the note below it that is asked for, or tells it in JSON.
+pub(crate) fn tell_as<F: Files, O: Output>(
+    alloc: Global,
+    files: &F,
+    failed: &Failed,
+    telling: Telling,
+    out: &mut O,
+) -> ExitStatus
+    ensures status { result ≡ ExitStatus.Refused }
+    ensures told { IsToldAs (stream O.printed O.failed out.old)
+        (stream O.printed O.failed out.new) failed.now.failure telling }
+{
+    if telling.is_json {
+        tell_json(alloc, failed.failure, out)
+    } else {
+        tell_lines(alloc, files, failed, telling.notes, out)
+    }
 }
 
 /// Prints a failure's line, and the note below it, if that is asked for.

@@ -2,7 +2,7 @@
 ghost use Rattle.std.specs.Prelude.{◌≡◌, IfErr, IfOk, List, ℕ, string_bytes};
 ghost use Rattle.std.specs.List.{AllByRecursion};
 ghost use Rattle.bpf_machine.specs.Safe.{IsSafe};
-ghost use Rattle.class_tool.specs.Image.{class_of};
+ghost use Rattle.program_files.specs.Image.{class_of};
 ghost use Rattle.radoscls_program.specs.Streams.{stream};
 ghost use Rattle.radoscls_program.specs.Tested.{AreEndLines, EndIsShown, IsTested, IsTraceBelow, TestEnds};
 ghost use Rattle.radoscls_program.specs.Tested.{TestingFails};
@@ -11,16 +11,16 @@ use crate::status::ExitStatus;
 use crate::task::Testing;
 use crate::telling::tell;
 use class_tests::{TestEnd, call_at, end_text, run_tests};
-use class_tool::{
-    Failed, Failure, Files, Output, Reads, RunStart, Source, load_with_source, read_text,
-    traced_call,
+use class_tool::{RunStart, traced_call};
+use program_files::{
+    ClassSource, Failed, Failure, Files, Output, ReadableFiles, load_with_source, read_text,
 };
 use std::alloc::{AllocError, Global};
 
 /// The trace of the call at which the tests in a text ended, if it is asked for.
 fn trace_below(
     alloc: Global,
-    source: &Source,
+    source: &ClassSource,
     text: &str,
     end: &TestEnd,
     is_traced: bool,
@@ -50,7 +50,7 @@ fn trace_below(
 /// The lines of an end, and below them the trace, if it is asked for.
 fn end_lines(
     alloc: Global,
-    source: &Source,
+    source: &ClassSource,
     text: &str,
     end: &TestEnd,
     is_traced: bool,
@@ -67,7 +67,7 @@ fn end_lines(
 }
 
 /// Runs the tests in a file on the class in another, if that is safe: their end, and its lines.
-fn tested<F: Reads>(
+fn tested<F: ReadableFiles>(
     alloc: Global,
     files: &F,
     asked: &Testing<'_>,

@@ -1,19 +1,31 @@
 //! The values of a call: digits as words have them, no byte for `-`, or after `@` a file's bytes.
 ghost use Rattle.std.specs.Prelude.{◌≡◌, ◌⊎◌, Option, IfErr, IfOk, map, option_map, string_bytes};
-ghost use Rattle.class_tool.specs.Files.{Disk, IsUnreadable};
-ghost use Rattle.class_tool.specs.declared.failure.Failure.TheVariants.{CannotRead, NoMemory};
+ghost use Rattle.program_files.specs.Files.{Disk, IsUnreadable};
+ghost use Rattle.program_files.specs.declared.failure.Failure.TheVariants.{CannotRead, NoMemory};
 ghost use Rattle.radoscls_program.specs.Values.{AreValues, EntriesFail, FillFails, HasValues, IsFileValue, IsFilled};
-ghost use Rattle.radoscls_program.specs.Values.{IsMaybeValue, IsValue, MaybeFails, ValueFails, entry_texts};
+ghost use Rattle.radoscls_program.specs.Values.{IsMaybeValue, IsValue, MaybeFails, ValueFails, data_read};
+ghost use Rattle.radoscls_program.specs.Values.{entry_texts};
 ghost use Rattle.radoscls_program.specs.Values.{InputFails, IsInput, filled_texts};
 ghost use Rattle.radoscls_program.specs.Inputs.{after_at, file_of};
 
 use crate::task::{GivenCall, GivenInput};
-use class_tool::{Failure, MethodCall, NamedValue, Reads};
+use object_texts::{MethodCall, SpelledEntry};
+use program_files::{Failure, ReadableFiles};
 use std::alloc::{AllocError, Global};
 
 /// The most bytes that are read of a value's file: one more than an object may have, so that a
 /// longer file is seen to be too long.
 const VALUE_READ: usize = 65_537;
+
+/// The same of the data of an object by an OSD's limits.
+const LARGE_READ: usize = 134_217_729;
+
+/// The most bytes that are read of the data's file.
+fn data_read(is_large: bool) -> usize
+    ensures { result ≡ data_read is_large }
+{
+    if is_large { LARGE_READ } else { VALUE_READ }
+}
 
 /// The text after the first `@`.
 fn after_at<'a>(text: &'a str) -> &'a str
@@ -36,32 +48,42 @@ pub(crate) fn file_of<'a>(text: &'a str) -> Option<&'a str>
 }
 
 /// The bytes of a file in hexadecimal.
-fn file_digits<F: Reads>(alloc: Global, files: &F, file: &str) -> Result<String, Failure>
-    ensures ok { IfOk result (λ digits. IsFileValue (F.disk files.now) file.now (string_bytes digits)) }
+fn file_digits<F: ReadableFiles>(
+    alloc: Global,
+    files: &F,
+    most: usize,
+    file: &str,
+) -> Result<String, Failure>
+    ensures ok { IfOk result (λ digits. IsFileValue (F.disk files.now) most file.now (string_bytes digits)) }
     ensures err { IfErr result (λ e. (e ≡ NoMemory) ⊎ ((e ≡ CannotRead) × IsUnreadable (F.disk files.now) file.now)) }
 {
-    match files.read_first(alloc, file, VALUE_READ) {
+    match files.read_first(alloc, file, most) {
         Ok(bytes) => Ok(hex::encode(alloc, &bytes)?),
         Err(error) => Err(Failure::of_read(&error)),
     }
 }
 
 /// A value in hexadecimal. Digits are taken as they stand, whether they are any or not.
-fn digits_of<F: Reads>(alloc: Global, files: &F, text: &str) -> Result<String, Failure>
-    ensures ok { IfOk result (λ digits. IsValue (F.disk files.now) text.now (string_bytes digits)) }
+fn digits_of<F: ReadableFiles>(
+    alloc: Global,
+    files: &F,
+    most: usize,
+    text: &str,
+) -> Result<String, Failure>
+    ensures ok { IfOk result (λ digits. IsValue (F.disk files.now) most text.now (string_bytes digits)) }
     ensures err { IfErr result (ValueFails (F.disk files.now) text.now) }
 {
     if text == "-" {
         return Ok(String::new(alloc));
     }
     match file_of(text) {
-        Some(file) => file_digits(alloc, files, file),
+        Some(file) => file_digits(alloc, files, most, file),
         None => Ok(String::from_str(alloc, text)?),
     }
 }
 
 /// An input in hexadecimal.
-fn input_digits<F: Reads>(
+fn input_digits<F: ReadableFiles>(
     alloc: Global,
     files: &F,
     input: &GivenInput<'_>,
@@ -70,7 +92,7 @@ fn input_digits<F: Reads>(
     ensures err { IfErr result (InputFails (F.disk files.now) input.now) }
 {
     match input {
-        GivenInput::Value(text) => digits_of(alloc, files, text),
+        GivenInput::Value(text) => digits_of(alloc, files, VALUE_READ, text),
         GivenInput::Bytes(bytes) => Ok(hex::encode(alloc, bytes.items())?),
     }
 }
@@ -83,25 +105,25 @@ pub(crate) struct FilledEntry {
 }
 
 /// A name and its value.
-fn filled_entry<F: Reads>(
+fn filled_entry<F: ReadableFiles>(
     alloc: Global,
     files: &F,
-    entry: &NamedValue<'_>,
+    entry: &SpelledEntry<'_>,
 ) -> Result<FilledEntry, Failure>
     ensures name { IfOk result (λ f. string_bytes f.name ≡ entry.now.name.now) }
-    ensures value { IfOk result (λ f. IsValue (F.disk files.now) entry.now.value.now (string_bytes f.value)) }
+    ensures value { IfOk result (λ f. IsValue (F.disk files.now) 65537 entry.now.value.now (string_bytes f.value)) }
     ensures err { IfErr result (ValueFails (F.disk files.now) entry.now.value.now) }
 {
-    let value = digits_of(alloc, files, entry.value)?;
+    let value = digits_of(alloc, files, VALUE_READ, entry.value)?;
     let name = String::from_str(alloc, entry.name)?;
     Ok(FilledEntry { name, value })
 }
 
 /// Names and their values, in their order.
-fn filled_entries<F: Reads>(
+fn filled_entries<F: ReadableFiles>(
     alloc: Global,
     files: &F,
-    entries: &[NamedValue<'_>],
+    entries: &[SpelledEntry<'_>],
 ) -> Result<Vec<FilledEntry>, Failure>
     ensures ok { IfOk result
         (λ filled. AreValues (F.disk files.now) (map entry_texts entries.now) (map filled_texts filled.items)) }
@@ -127,24 +149,25 @@ pub(crate) struct FilledCall {
 }
 
 /// A value that may be missing, in hexadecimal.
-fn maybe_digits<F: Reads>(
+fn maybe_digits<F: ReadableFiles>(
     alloc: Global,
     files: &F,
+    most: usize,
     text: Option<&str>,
 ) -> Result<Option<String>, Failure>
-    ensures ok { IfOk result (λ digits. IsMaybeValue (F.disk files.now) (option_map (λ t. t.now) text.entry)
+    ensures ok { IfOk result (λ digits. IsMaybeValue (F.disk files.now) most (option_map (λ t. t.now) text.entry)
         (option_map string_bytes digits)) }
     ensures err { IfErr result (MaybeFails (F.disk files.now) (option_map (λ t. t.now) text.entry)) }
 {
     match text {
-        Some(text) => Ok(Some(digits_of(alloc, files, text)?)),
+        Some(text) => Ok(Some(digits_of(alloc, files, most, text)?)),
         None => Ok(None),
     }
 }
 
 /// A call's values in hexadecimal. The first file that can't be read is refused: the input's, then
 /// the data's, then those of xattrs and of keys, each in order.
-pub(crate) fn filled<F: Reads>(
+pub(crate) fn filled<F: ReadableFiles>(
     alloc: Global,
     files: &F,
     call: &GivenCall<'_>,
@@ -153,7 +176,7 @@ pub(crate) fn filled<F: Reads>(
     ensures err { IfErr result (FillFails (F.disk files.now) call.now) }
 {
     let input = input_digits(alloc, files, &call.input)?;
-    let data = maybe_digits(alloc, files, call.data)?;
+    let data = maybe_digits(alloc, files, data_read(call.is_large), call.data)?;
     let xattrs = filled_entries(alloc, files, &call.xattrs)?;
     let keys = filled_entries(alloc, files, &call.keys)?;
     Ok(FilledCall {
@@ -168,12 +191,12 @@ pub(crate) fn filled<F: Reads>(
 fn entries_of<'b>(
     alloc: Global,
     filled: &'b [FilledEntry],
-) -> Result<Vec<NamedValue<'b>>, AllocError>
+) -> Result<Vec<SpelledEntry<'b>>, AllocError>
     ensures { IfOk result (λ entries. map entry_texts entries.items ≡ map filled_texts filled.entry.now) }
 {
     let mut entries = Vec::new(alloc);
     for one in filled {
-        entries.push(NamedValue {
+        entries.push(SpelledEntry {
             name: one.name.as_str(),
             value: one.value.as_str(),
         })?;

@@ -1,5 +1,5 @@
 use Rattle.std.proofs.Common.{◌≡◌, ◌∙◌, [], ap, map, sym, Bor, List, ℕ}
-use Rattle.clap.specs.Words.{all_of, found_of, rows_of}
+use Rattle.clap.specs.Words.{found_of}
 use Rattle.clap.proofs.WalkLemmas.{raw_values-rows}
 use Rattle.command_line.specs.Parsed.{all_in, parsed_of, texts_of}
 use Rattle.command_line.proofs.parsed.ParsedWords.all.Goals as goal

@@ -1,12 +1,12 @@
 use Rattle.std.proofs.Common.{sym, subst, map, string_bytes, IfOk, IfErr}
-use Rattle.class_tool.specs.Files.{storage}
+use Rattle.program_files.specs.Files.{storage}
 use Rattle.radoscls_program.specs.Program.{Ends, IsUnstarted}
 use Rattle.radoscls_program.specs.Streams.{stream}
-use Rattle.radoscls_program.proofs.process.end_of.Goals as goal
+use Rattle.radoscls_program.proofs.process.end_on.Goals as goal
 
 pub returns-in-Ok-clause-asked : goal.returns-in-Ok-clause-asked
 returns-in-Ok-clause-asked g c =
-    let files = storage g.F.Reads.disk g.F.Files.failed g.F.Files.in_place in
+    let files = storage g.F.ReadableFiles.disk g.F.Files.failed g.F.Files.in_place in
     let out = stream g.O.Output.printed g.O.Output.failed in
     let Ended = Ends (files c.args.files.now) (files c.perform.new.files) (out c.args.out.now) (out c.perform.new.out) in
     let ends = subst (λ ws. Ended (map string_bytes ws) c.perform.result) c.deref.ensures.value c.perform.ensures in
@@ -14,7 +14,7 @@ returns-in-Ok-clause-asked g c =
 
 pub returns-in-Err-clause-unread : goal.returns-in-Err-clause-unread
 returns-in-Err-clause-unread g c =
-    let files = storage g.F.Reads.disk g.F.Files.failed g.F.Files.in_place c.args.files.now in
+    let files = storage g.F.ReadableFiles.disk g.F.Files.failed g.F.Files.in_place c.args.files.now in
     let out = stream g.O.Output.printed g.O.Output.failed in
     let why = c.unstarted.ensures.unstarted files in
     subst (λ r. IfErr r (λ _. IsUnstarted files files (out c.args.out.now) (out c.unstarted.new.out) c.unstarted.result)) (sym c.in-Err.is) why

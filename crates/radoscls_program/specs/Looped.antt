@@ -1,0 +1,57 @@
+-- The end of `verify --loops` and of `heads`, and the text that they printed.
+use Rattle.std.specs.Prelude.{◌≡◌, ◌⊎◌, ◌++◌, ℕ, true, false, List, Option, codes}
+use Rattle.loop_tool.specs.Heads.{HeadsFail, WritesHeads}
+use Rattle.loop_tool.specs.NoHeads.{no_heads_text}
+use Rattle.loop_tool.specs.Reports.{AreLoopReports, all_accepted, reports_in, reports_text}
+use Rattle.loop_tool.specs.declared.asked.HeadsAsked.{HeadsAsked}
+use Rattle.loop_tool.specs.declared.asked.LoopsAsked.{LoopsAsked}
+use Rattle.loop_tool.specs.declared.write_heads_error.WriteHeadsError.{WriteHeadsError}
+use Rattle.loop_tool.specs.declared.write_heads_error.WriteHeadsError.TheVariants.{Failed, NotFound}
+use Rattle.loop_tool.specs.declared.loop_reports.LoopReports.{LoopReports}
+use Rattle.program_files.specs.Failure.{failure_text}
+use Rattle.program_files.specs.Files.{Disk, Storage}
+use Rattle.program_files.specs.declared.failure.Failure.TheVariants.{NoMemory}
+use Rattle.radoscls_program.specs.Streams.{IsPrinted, Lost, Stream, Took, failure_line}
+use Rattle.radoscls_program.specs.declared.status.ExitStatus.{ExitStatus}
+use Rattle.radoscls_program.specs.declared.status.ExitStatus.TheVariants.{Done, Refused, Usage}
+
+-- what is told of files is printed, and the status tells whether each is accepted; or a beginning of
+-- it is printed
+abbrev pub ShowsLoops : Stream → Stream → LoopReports → ExitStatus → Type 0
+ShowsLoops old new reports Done =
+    (all_accepted (reports_in reports) ≡ true) × Took old new (reports_text (reports_in reports))
+ShowsLoops old new reports Refused =
+    ((all_accepted (reports_in reports) ≡ false) × Took old new (reports_text (reports_in reports))) ⊎
+    Lost old new (reports_text (reports_in reports))
+ShowsLoops old new reports Usage = ⊥
+
+-- files were judged by heads, each of them, and what is told of them is printed or not
+pub record AreJudgedByLoops (disk : Option Disk) (old new : Stream) (asked : LoopsAsked)
+    (status : ExitStatus) : Type 0 where
+  pub reports : LoopReports
+  pub are : AreLoopReports disk asked reports
+  pub shown : ShowsLoops old new reports status
+
+-- by the status; or memory was refused, and a line says so
+abbrev pub LoopsEnd : Option Disk → Stream → Stream → LoopsAsked → ExitStatus → Type 0
+LoopsEnd disk old new asked Done = AreJudgedByLoops disk old new asked Done
+LoopsEnd disk old new asked Refused =
+    AreJudgedByLoops disk old new asked Refused ⊎ IsPrinted old new (failure_line NoMemory)
+LoopsEnd disk old new asked Usage = ⊥
+
+-- why no image with heads was written
+abbrev pub headless_text : WriteHeadsError → List ℕ
+headless_text (Failed failed) = failure_text failed.failure
+headless_text (NotFound lacking) = no_heads_text lacking
+
+-- none was written, and a line says why
+pub record IsHeadlessTold (before after : Storage) (old new : Stream) (asked : HeadsAsked) : Type 0 where
+  pub error : WriteHeadsError
+  pub fails : HeadsFail before after asked error
+  pub told : IsPrinted old new (headless_text error ++ codes "\n")
+
+-- the image with heads was written, and nothing printed; or none was
+abbrev pub HeadsEnd : Storage → Storage → Stream → Stream → HeadsAsked → ExitStatus → Type 0
+HeadsEnd before after old new asked Done = WritesHeads before after asked × (new ≡ old)
+HeadsEnd before after old new asked Refused = IsHeadlessTold before after old new asked
+HeadsEnd before after old new asked Usage = ⊥
