@@ -139,17 +139,19 @@ fn sessions_call_under_losses(rt: HostRuntime) {
     are_so(rt, rt.alloc(), &LOSSES);
 }
 
-/// Client 2 takes the lock, and requests of client 3 fill the log without a wait for their answers;
-/// the last one is answered. Then a session calls, and asks again.
+/// Client 2 takes the lock, and requests of client 3 fill the log without a wait for their answers,
+/// but for its last place; the last of them is answered. A session's call gets that place. Then it
+/// calls once more, and asks again.
 #[rattlefmt::skip]
 const FULL_LOG: Row = Row {
     name: "a full log refuses",
     served: &[
-        Step::Open(1), Step::Open(2), Step::Answered(1, 0, 0), Step::Open(3), Step::AskAll(1, 65_534),
-        Step::Answered(65_535, 65_535, -16), Step::Session(0, OfSession::Open(4)),
+        Step::Open(1), Step::Open(2), Step::Answered(1, 0, 0), Step::Open(3), Step::AskAll(1, 65_533),
+        Step::Answered(65_534, 65_534, -16), Step::Session(0, OfSession::Open(4)),
+        Step::Session(0, OfSession::Call(LOCK, Want::At(65_535, -16))),
         Step::Session(0, OfSession::Call(LOCK, Want::Refused(ExecError::LogFull))),
         Step::Session(0, OfSession::Call(Op::Retry, Want::Refused(ExecError::LogFull))),
-        Step::Nodes(OfNodes::FullLog(2, 3)), Step::Mail(2, Mail::Anything),
+        Step::Nodes(OfNodes::FullLog(2, 3, 4)), Step::Mail(2, Mail::Anything),
     ],
     ..CALLED
 };

@@ -157,8 +157,9 @@ impl TestGate {
         let own = number % (1 << 32);
         let digits = self.digits.load(Ordering::SeqCst);
         let digits = digits.wrapping_mul(16).wrapping_add(own);
-        self.digits.store(digits, Ordering::SeqCst);
+        // Before the digits, which are what a step waits for.
         self.last.store(number, Ordering::SeqCst);
+        self.digits.store(digits, Ordering::SeqCst);
         if own == 1 {
             self.first.pass();
         }

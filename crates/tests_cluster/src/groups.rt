@@ -4,9 +4,9 @@
 //! and 2, and keeps that of groups 0 and 3. Object `a` is of group 0, `b` of group 1, and so on.
 
 use crate::fate::Rule;
-use crate::play::ONE;
+use crate::play::{MANY, ONE};
 use crate::row::{ROW, Row, are_so};
-use crate::steps::{OfNodes, OfWorkers, Step, Who};
+use crate::steps::{LOCK, OfNodes, OfSession, OfWorkers, Step, Want, Who};
 use osd::DeliveryMode;
 use rados_client::Config;
 use std::process::Abort;
@@ -28,7 +28,7 @@ const LARGEST: Config = Config {
 };
 
 #[rattlefmt::skip]
-const ROWS: [Row; 5] = [
+const ROWS: [Row; 6] = [
     // a call of each group's object, a map without node 0, and a call of each again: node 0 has
     // what it had then
     Row { name: "each group has its own nodes and maps", config: Config { shards: 2, ..FOUR }, served: &[
@@ -62,10 +62,18 @@ const ROWS: [Row; 5] = [
         Step::Open(1), Step::Open(2), Step::Settle, Step::Workers(OfWorkers::EndMode), Step::Object("cw", 63),
         Step::Nudge(63), Step::Settle, Step::Ask(1, Ok(())), Step::Comes(1, 0, 0),
     ], ..ROW },
+    // the same by a session, whose request is refused until it has nudged
+    Row { name: "a session nudges the last of 64 groups", config: Config { tries: MANY, ..LARGEST },
+        rule: Rule::Mode(DeliveryMode::Drop), before: &[Step::Workers(OfWorkers::BeginMode)], served: &[
+        Step::Open(1), Step::Settle, Step::Workers(OfWorkers::EndMode), Step::Object("cw", 63),
+        Step::Session(0, OfSession::Open(2)), Step::Session(0, OfSession::CallNudging(LOCK, Want::At(0, 0))),
+    ], ..ROW },
+    // a worker that doesn't serve ends at once
     Row { name: "with all workers", config: Config { shards: 64, workers: 16, ..LARGEST },
         workers: &[0, 1, 2, 3, 4, 5, 6, 7, 8, 9, 10, 11, 12, 13, 14, 15], served: &[
         Step::Open(1), Step::Object("cw", 63), Step::Answered(1, 0, 0), Step::Object("a", 12), Step::Answered(2, 0, 0),
         Step::Object("b", 37), Step::Answered(3, 0, 0), Step::Object("c", 50), Step::Answered(4, 0, 0),
+        Step::Workers(OfWorkers::Pause), Step::Workers(OfWorkers::NoneEnded),
     ], ..ROW },
 ];
 

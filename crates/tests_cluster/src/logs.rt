@@ -79,17 +79,22 @@ pub fn is_log<N: ClusterName, R: Wait>(
     }
 }
 
-/// True if node 0's log of group 0 is full: the first client's lock, and requests of the second by
-/// rising numbers, all refused the lock.
-pub fn is_full<N: ClusterName, R: Wait>(running: &Running<N, R>, first: u32, second: u32) -> bool {
+/// True if node 0's log of group 0 is full: the first client's lock, then requests of the second by
+/// rising numbers, and the last client's first request, all refused the lock.
+pub fn is_full<N: ClusterName, R: Wait>(
+    running: &Running<N, R>,
+    first: u32,
+    second: u32,
+    last: u32,
+) -> bool {
     let Ok(log) = running.logged(NodeId::new(0), 0) else {
         return false;
     };
     for (place, entry) in log.iter().enumerate() {
-        let want = if place == 0 {
-            (first, 1, 0)
-        } else {
-            (second, place, -16)
+        let want = match place {
+            0 => (first, 1, 0),
+            65_535 => (last, 1, -16),
+            _ => (second, place, -16),
         };
         if (entry.client, entry.number as usize, entry.code) != want {
             return false;

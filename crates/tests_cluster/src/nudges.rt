@@ -90,7 +90,7 @@ const ROWS: [Row; 7] = [
         Step::Open(1), Step::Open(2), Step::Settle, Step::Workers(OfWorkers::HoldAfter(0)),
         Step::Nodes(OfNodes::Map(&[0], Ok(2))), Step::Workers(OfWorkers::IsHeld),
         Step::Nodes(OfNodes::MapsInTurn(1_100)), Step::Object("b", 1), Step::Nudge(1),
-        Step::Ask(1, Err(AskError::Full)), Step::Workers(OfWorkers::Free), Step::Workers(OfWorkers::Takes(MAPS)),
+        Step::Ask(1, Err(AskError::NoRoom)), Step::Workers(OfWorkers::Free), Step::Workers(OfWorkers::Takes(MAPS)),
         Step::Settle, Step::Workers(OfWorkers::Taken(MAPS)), Step::Done(2, 2), Step::Mail(2, Mail::Refusal),
         Step::Workers(OfWorkers::EndMode), Step::Nudge(1), Step::Settle, Step::Done(2, 3),
         Step::Mail(2, Mail::Reply(3)),

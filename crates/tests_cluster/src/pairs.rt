@@ -49,7 +49,8 @@ const ROWS: [Row; 6] = [
     ], ..BOTH },
     // both requests are queued while a worker is held with a map, which sends nothing, since its
     // node is stopped. The other worker skips the shard, finds nothing else, and waits. Then the
-    // second request comes while the first is held
+    // second request passes while the first is held: which of the two came to the gate first
+    // nothing says, since the shard is free before
     Row { name: "a worker that skipped a shard is woken for it", before: &[Step::Nodes(OfNodes::Stop(Who::Node(0)))],
         served: &[
         Step::Open(1), Step::Open(2),
@@ -58,7 +59,7 @@ const ROWS: [Row; 6] = [
         Step::Workers(OfWorkers::Hold(Held::First)), Step::Workers(OfWorkers::Hold(Held::Other)),
         Step::Nudge(0), Step::Workers(OfWorkers::Holds(Held::Other)), Step::Ask(1, Ok(())), Step::Ask(2, Ok(())),
         Step::Workers(OfWorkers::Pause), Step::Workers(OfWorkers::LetGo(Held::Other)),
-        Step::Workers(OfWorkers::Holds(Held::First)), Step::Workers(OfWorkers::Order(0x12, 2)),
+        Step::Workers(OfWorkers::Holds(Held::First)), Step::Workers(OfWorkers::Passed(1)),
         Step::Workers(OfWorkers::LetGo(Held::First)),
     ], ..BOTH },
     // a worker that is held with an answer has the shard again since the gate let the request pass:

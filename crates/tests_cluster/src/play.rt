@@ -44,8 +44,8 @@ pub trait Play {
     fn ends<N: ClusterName, R: Wait>(&self, running: &Running<N, R>) -> bool;
 }
 
-/// Plays on a new cluster, which has the classes `lock` and `obj`. Whether all parts come out as they
-/// should; None if memory is refused.
+/// Plays on a new cluster, which has the classes `lock` and `obj`. True if all parts come out as
+/// they should; None if memory is refused.
 fn played<P: Play + Sync, R: Threads + Wait + Sync + Drop>(
     rt: R,
     alloc: Global,

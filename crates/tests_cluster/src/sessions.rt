@@ -6,7 +6,7 @@ use crate::steps::{LOCK, OfSession, Op, Want};
 use crate::table::Table;
 use object_store::ObjectName;
 use osd::{ClusterName, LoggedEntry};
-use rados_client::{ClassId, ExecError, OpenError, Reply, Session};
+use rados_client::{ClassId, ExecError, ExecReply, OpenError, Session};
 use std::alloc::Global;
 use std::sync::Wait;
 
@@ -14,7 +14,7 @@ use std::sync::Wait;
 const FIRST_FIVE: [u8; 16] = [0, 0, 0, 0, 0, 0, 0, 0, 5, 0, 0, 0, 0, 0, 0, 0];
 
 /// True if an answer is as wanted.
-fn is_wanted(answer: &Result<Reply, ExecError>, want: Want) -> bool {
+fn is_wanted(answer: &Result<ExecReply, ExecError>, want: Want) -> bool {
     match (answer, want) {
         (Ok(reply), Want::Code(code)) => reply.code() == code,
         (Ok(reply), Want::Output(code, output)) => {
@@ -26,7 +26,7 @@ fn is_wanted(answer: &Result<Reply, ExecError>, want: Want) -> bool {
     }
 }
 
-fn is_unanswered(answer: &Result<Reply, ExecError>) -> bool {
+fn is_unanswered(answer: &Result<ExecReply, ExecError>) -> bool {
     matches!(answer, Err(ExecError::Unanswered))
 }
 
@@ -36,7 +36,7 @@ fn asked<N: ClusterName, R: Wait>(
     alloc: Global,
     object: &ObjectName,
     op: Op,
-) -> Result<Reply, ExecError> {
+) -> Result<ExecReply, ExecError> {
     match op {
         Op::Exec(class, method, input) => {
             session.exec(alloc, object, ClassId::new(class), method, input)
@@ -93,7 +93,7 @@ impl<'a, N: ClusterName, R: Wait> Table<'a, N, R> {
     }
 
     /// The answer to a call of the session. None if there is no such session, or memory is refused.
-    fn call(&mut self, s: usize, op: Op) -> Option<Result<Reply, ExecError>> {
+    fn call(&mut self, s: usize, op: Op) -> Option<Result<ExecReply, ExecError>> {
         let object = ObjectName::new(self.alloc, self.object).ok()?;
         let session = self.sessions.get_mut(s)?;
         Some(asked(session, self.alloc, &object, op))

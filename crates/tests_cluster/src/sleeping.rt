@@ -20,15 +20,15 @@ const LOOKS: u32 = 10_000;
 /// The number of calls after each of which the workers sleep.
 const CALLS: u32 = 5;
 
-/// The number of calls that are timed, and the hundredths of a second that the process may take for
-/// each hundred of them. A worker that looks 100,000 times before it sleeps takes more than one for
-/// each call.
+/// The number of calls that are timed, and the hundredths of a second that all workers may take for
+/// them together. Three that look 100,000 times before they sleep take forty, if a look takes seven
+/// billionths of a second.
 const TIMED: u32 = 200;
 
-const HUNDREDTHS: u64 = 80;
+const HUNDREDTHS: u64 = 24;
 
 /// The number of times that they are timed. What else the machine does can only add to what the
-/// process takes, so one time of little is enough.
+/// workers take, so one time of little is enough.
 const TIMES: u32 = 5;
 
 /// The workers.
@@ -82,11 +82,19 @@ impl<H: Files + Clock + AllocGlobal + Clone + Drop> Asleep<H> {
         false
     }
 
-    /// The hundredths of a second of processor time that the process has taken.
+    /// The hundredths of a second of processor time that the other threads of the process have
+    /// taken: this one calls.
     fn taken(&self) -> Option<u64> {
-        let stat = read_to_string(&self.host, "/proc/self/stat").ok()?;
-        // After the name in parentheses come the state and ten numbers, then the time of the
-        // process's own instructions and that of the system's for it.
+        let all = self.time_in("/proc/self/stat")?;
+        let own = self.time_in("/proc/thread-self/stat")?;
+        Some(all.saturating_sub(own))
+    }
+
+    /// The hundredths of a second of processor time that such a file of the system's tells.
+    fn time_in(&self, path: &str) -> Option<u64> {
+        let stat = read_to_string(&self.host, path).ok()?;
+        // After the name in parentheses come the state and ten numbers, then the time of its own
+        // instructions and that of the system's for it.
         let (_, words) = stat.as_str().rsplit_once(") ")?;
         let mut words = words.split_whitespace().skip(11);
         let own = words.next()?.parse::<u64>().ok()?;
@@ -137,7 +145,7 @@ impl<H: Files + Clock + AllocGlobal + Clone + Drop> Asleep<H> {
         Some(is_held && sleep && self.hold.free())
     }
 
-    /// The hundredths of a second that the process takes for calls between which the workers sleep.
+    /// The hundredths of a second that the workers take for calls between which they sleep.
     fn timed<N: ClusterName, R: Wait>(
         &self,
         running: &Running<N, R>,
@@ -163,7 +171,7 @@ impl<H: Files + Clock + AllocGlobal + Clone + Drop> Asleep<H> {
         let mut first = CALLS + 3;
         for _ in 0..TIMES {
             let taken = self.timed(running, opened, first)?;
-            if taken <= HUNDREDTHS * u64::from(TIMED) / 100 {
+            if taken <= HUNDREDTHS {
                 return Some(true);
             }
             first = first.wrapping_add(TIMED);

@@ -147,6 +147,8 @@ pub enum OfWorkers {
     Takes(u64),
     /// Requests came in the order of these digits to base 16, the last one of that client.
     Order(u64, u64),
+    /// Waits until that many clients' requests have passed the gate.
+    Passed(u64),
     /// Lets the worker take that many more operations, and holds it with the next one.
     HoldAfter(u64),
     /// Waits until it is held.
@@ -171,6 +173,8 @@ pub enum OfWorkers {
     Finish,
     /// Waits until that many have ended.
     Ended(u64),
+    /// None has ended.
+    NoneEnded,
 }
 
 /// A step with nodes, maps and logs.
@@ -194,9 +198,9 @@ pub enum OfNodes {
     AllEntries(usize, &'static [usize]),
     /// The entries of a node's log of group 0: the node, and these.
     Log(u64, &'static [LoggedEntry]),
-    /// Node 0 has a full log of group 0: a lock of that client, and then requests of the other one,
-    /// by rising numbers, all refused the lock.
-    FullLog(u32, u32),
+    /// Node 0 has a full log of group 0: a lock of the first client, then requests of the second by
+    /// rising numbers, and the third's first request, all refused the lock.
+    FullLog(u32, u32, u32),
     /// All answers that were kept stand in the node's log of group 0 at their places, and no pair
     /// of client and number stands there twice.
     AnswersStand(u64),

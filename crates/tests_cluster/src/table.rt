@@ -12,6 +12,7 @@ use placement::NodeId;
 use rados_client::Session;
 use std::alloc::Global;
 use std::sync::Wait;
+use std::sync::atomic::Ordering;
 use std::thread::yield_now;
 
 /// The looks without an answer after which a request is sent again.
@@ -107,6 +108,7 @@ impl<'a, N: ClusterName, R: Wait> Table<'a, N, R> {
             OfWorkers::Taken(count) => self.taken() == count,
             OfWorkers::Takes(count) => gate.takes_others(self.others.wrapping_add(count)),
             OfWorkers::Order(digits, client) => gate.has_order(digits, client),
+            OfWorkers::Passed(count) => gate.takes_requests(count),
             OfWorkers::HoldAfter(operations) => gate.hold_after(operations),
             OfWorkers::IsHeld => gate.holds(),
             OfWorkers::Free => gate.free(),
@@ -119,6 +121,7 @@ impl<'a, N: ClusterName, R: Wait> Table<'a, N, R> {
             OfWorkers::Serve(worker) => is_done(self.running.serve(worker, &Open)),
             OfWorkers::Finish => is_done(self.running.finish()),
             OfWorkers::Ended(count) => reaches(ended, count),
+            OfWorkers::NoneEnded => ended.load(Ordering::SeqCst) == 0,
         }
     }
 
@@ -136,7 +139,7 @@ impl<'a, N: ClusterName, R: Wait> Table<'a, N, R> {
             OfNodes::NodesWith(count, nodes) => nodes_with(running, count) == nodes,
             OfNodes::AllEntries(group, want) => have(running, group, want),
             OfNodes::Log(node, want) => is_log(running, node, want),
-            OfNodes::FullLog(first, second) => is_full(running, first, second),
+            OfNodes::FullLog(first, second, last) => is_full(running, first, second, last),
             OfNodes::AnswersStand(node) => stand(running, node, &self.answers),
             OfNodes::StopAmidRequests(times) => self.stops_amid_requests(times),
         }
@@ -240,7 +243,7 @@ impl<'a, N: ClusterName, R: Wait> Table<'a, N, R> {
         let client = self.client();
         for accepted in 0..2_000 {
             let asked = self.asked(client, 1);
-            if asked == Some(Err(AskError::Full)) {
+            if asked == Some(Err(AskError::NoRoom)) {
                 return accepted;
             }
             if asked != Some(Ok(())) {

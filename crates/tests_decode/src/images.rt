@@ -5,6 +5,7 @@ use bpf_decode::{
     ClassImage, DecodeError, ImageError, Insn, Method, OpWidth, Operand, RuleSet, are_name_bytes,
     name_text, read_image, write_image,
 };
+use loop_heads::{Head, Loops};
 use std::alloc::Global;
 use std::fmt::Display;
 use std::process::Abort;
@@ -109,7 +110,7 @@ fn is_read(rt: &impl Abort, alloc: Global, image: &[u8], rules: RuleSet) -> bool
     is_one && class.rules() == rules && is_written_as(alloc, &class, image)
 }
 
-/// The fourth byte of the image tells the rule set. In rule set 3 a number of heads follows the code.
+/// The fourth byte of the image tells the rule set. In rule set 3 loops follow the code.
 #[test]
 fn read(rt: HostRuntime) {
     assert!(rt; is_read(&rt, rt.alloc(), &IMAGE, RuleSet::One));
@@ -121,7 +122,7 @@ fn read(rt: HostRuntime) {
 /// The last letter of the magic, the capacities of input and output, what stands after the code, and
 /// the refusal with the number of methods read whole.
 #[rattlefmt::skip]
-const RULED: [(u8, [u8; 2], [u8; 2], &[u8], Option<(usize, DecodeError)>); 19] = [
+const RULED: [(u8, [u8; 2], [u8; 2], &[u8], Option<(usize, DecodeError)>); 26] = [
     (b'1', [0x00, 0x10], [0x00, 0x10], &[], None),
     (b'1', [0x01, 0x10], [0, 0], &[], Some((0, DecodeError::Limit))),
     (b'1', [0, 0], [0x01, 0x10], &[], Some((0, DecodeError::Limit))),
@@ -137,7 +138,15 @@ const RULED: [(u8, [u8; 2], [u8; 2], &[u8], Option<(usize, DecodeError)>); 19] =
     (b'3', [0, 0], [0, 0], &[], Some((0, DecodeError::Truncated))),
     (b'3', [0, 0], [0, 0], &[0], Some((0, DecodeError::Truncated))),
     (b'3', [0, 0], [0, 0], &[1], Some((0, DecodeError::Truncated))),
-    (b'3', [0, 0], [0, 0], &[1, 0], Some((0, DecodeError::Limit))),
+    (b'3', [0, 0], [0, 0], &[1, 0], Some((0, DecodeError::Truncated))),
+    // a budget, and a head without places: its slot, and their number
+    (b'3', [0, 0], [0, 0], &[1, 0, 0x64, 0, 0, 0, 1, 0, 0], None),
+    (b'3', [0, 0], [0, 0], &[1, 0, 0x64, 0, 0, 0, 1, 0, 1, 4, 1], None),
+    (b'3', [0, 0], [0, 0], &[1, 0, 0, 0, 0, 0, 1, 0, 0], Some((0, DecodeError::Limit))),
+    (b'3', [0, 0], [0, 0], &[1, 0, 1, 0, 0x10, 0, 1, 0, 0], Some((0, DecodeError::Limit))),
+    (b'3', [0, 0], [0, 0], &[1, 0, 0x64, 0, 0, 0, 2, 0, 0], Some((0, DecodeError::Head(2)))),
+    (b'3', [0, 0], [0, 0], &[1, 0, 0x64, 0, 0, 0, 1, 0, 1, 10, 1], Some((0, DecodeError::Head(1)))),
+    (b'3', [0, 0], [0, 0], &[1, 0, 0x64, 0, 0, 0, 1, 0, 0, 0], Some((1, DecodeError::Trailing))),
     (b'3', [0, 0], [0, 0], &[0, 1], Some((0, DecodeError::Limit))),
     (b'3', [0, 0], [0, 0], &[0, 0, 0], Some((1, DecodeError::Trailing))),
     (b'4', [0, 0], [0, 0], &[0, 0], Some((0, DecodeError::Magic))),
@@ -235,8 +244,36 @@ fn classes_are_built(rt: HostRuntime) {
     assert!(rt; found == Some(ImageError { methods, error }));
 }
 
+/// A rule set, the slot of a head of a method whose code is `exit`, and the refusal of its class.
+const LOOPED: [(RuleSet, u16, Option<DecodeError>); 4] = [
+    (RuleSet::One, 0, Some(DecodeError::Limit)),
+    (RuleSet::Two, 0, Some(DecodeError::Limit)),
+    (RuleSet::Three, 0, None),
+    (RuleSet::Three, 1, Some(DecodeError::Head(1))),
+];
+
+/// A budget of 1 and a head without places.
+fn loops_at(rt: &impl Abort, alloc: Global, slot: u16) -> Option<Loops> {
+    let mut heads = Vec::new(alloc);
+    heads
+        .push(Head::new(slot, Vec::new(alloc)))
+        .expect(rt, "memory");
+    Loops::new(1, heads).ok()
+}
+
+#[test]
+fn classes_are_built_with_loops(rt: HostRuntime) {
+    for (rules, slot, error) in &LOOPED {
+        let second = method(&rt, rt.alloc(), "b", 1, (0, 0));
+        let second = second.with_loops(loops_at(&rt, rt.alloc(), *slot));
+        assert!(rt; second.loops().is_some());
+        let found = refusal_of(&rt, rt.alloc(), second, *rules);
+        assert!(rt; found == of_second(*error));
+    }
+}
+
 /// Refusals, and what they print.
-const PRINTED: [(DecodeError, &str); 12] = [
+const PRINTED: [(DecodeError, &str); 13] = [
     (DecodeError::Truncated, "1 Truncated"),
     (DecodeError::Magic, "2 Magic"),
     (DecodeError::Opcode(3), "3 Opcode"),
@@ -249,13 +286,15 @@ const PRINTED: [(DecodeError, &str); 12] = [
     (DecodeError::Limit, "10 Limit"),
     (DecodeError::Trailing, "11 Trailing"),
     (DecodeError::NoMemory, "12 NoMemory"),
+    (DecodeError::Head(2), "13 Head"),
 ];
 
 /// Refusals of images, and what they print.
 #[rattlefmt::skip]
-const PRINTED_IMAGES: [(usize, DecodeError, &str); 2] = [
+const PRINTED_IMAGES: [(usize, DecodeError, &str); 3] = [
     (0, DecodeError::Truncated, "image refused after 0 methods: 1 Truncated"),
     (0, DecodeError::Opcode(3), "image refused after 0 methods, slot 3: 3 Opcode"),
+    (1, DecodeError::Head(2), "image refused after 1 methods, slot 2: 13 Head"),
 ];
 
 /// True if the value is printed as that text.

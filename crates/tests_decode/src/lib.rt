@@ -1,4 +1,4 @@
-//! Tests alone, of reading and writing classes: as images, and as texts.
+//! Tests alone, of reading and writing classes, as images and as texts, and loops.
 #![tactic(auto)]
 
 #[cfg(test)]
@@ -6,9 +6,15 @@ mod code;
 #[cfg(test)]
 mod digits;
 #[cfg(test)]
+mod head_lines;
+#[cfg(test)]
+mod heads;
+#[cfg(test)]
 mod images;
 #[cfg(test)]
 mod limits;
+#[cfg(test)]
+mod looped;
 #[cfg(test)]
 mod opcodes;
 #[cfg(test)]

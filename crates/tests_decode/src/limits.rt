@@ -1,7 +1,9 @@
 //! Texts and images at their limits.
 
 use bpf_asm::{AsmError, AsmFault, assemble, assemble_class, disassemble_class};
-use bpf_decode::{ClassImage, IMAGE_LIMIT, read_image, write_image};
+use bpf_decode::{ClassImage, IMAGE_LIMIT, Insn, Method, RuleSet, read_image, write_image};
+use loop_bytes::LOOPS_LIMIT;
+use loop_heads::{BUDGET_LIMIT, Head, HeadPlace, Loops, PLACE_LIMIT, PlaceKind};
 use std::alloc::Global;
 use std::fmt::Write;
 use std::process::Abort;
@@ -63,13 +65,63 @@ fn largest_class(rt: HostRuntime) {
     assert!(rt; is_kept(rt.alloc(), &text, 1_050_888) == Some(true));
 }
 
-/// The largest of all is one of rule set 3: it has 2 bytes a method more.
+/// The largest one of rule set 3 without loops has 2 bytes a method more.
 #[test]
 fn largest_class_of_set_3(rt: HostRuntime) {
     let mut text = String::from_str(rt.alloc(), ".rules 3\n").expect(&rt, "memory");
     put_largest(&rt, rt.alloc(), &mut text, " rw 65535 65535\n");
     assert!(rt; is_kept(rt.alloc(), &text, 1_050_952) == Some(true));
-    assert!(rt; IMAGE_LIMIT == 1_050_952);
+}
+
+/// 64 heads at the first slots, each of all places, whose numbers are all of 64 bits.
+fn all_places(alloc: Global) -> Option<Loops> {
+    let kind = PlaceKind::Unsigned(0, u64::MAX);
+    let mut heads = Vec::new(alloc);
+    for slot in 0..64 {
+        let mut places = Vec::new(alloc);
+        for number in 0..=PLACE_LIMIT {
+            if number != 10 {
+                places.push(HeadPlace { number, kind }).ok()?;
+            }
+        }
+        heads.push(Head::new(slot, places)).ok()?;
+    }
+    Loops::new(BUDGET_LIMIT, heads).ok()
+}
+
+/// A method of the longest name and 4,096 slots, with such heads.
+fn largest_method(alloc: Global, number: u32) -> Option<Method> {
+    let mut name = "m".repeat(alloc, 62).ok()?;
+    write!(name, "{number}").ok()?;
+    let mut code = Vec::new(alloc);
+    for _ in 0..4096 {
+        code.push(Insn::Exit).ok()?;
+    }
+    let method = Method::new(name, 3, 65_535, 65_535, code);
+    Some(method.with_loops(all_places(alloc)))
+}
+
+/// The length of the image of 32 such methods, which is read and written as it was.
+fn largest_image(alloc: Global) -> Option<usize> {
+    let mut methods = Vec::new(alloc);
+    for number in 10..42 {
+        methods.push(largest_method(alloc, number)?).ok()?;
+    }
+    let class = ClassImage::new(methods, RuleSet::Three).ok()?;
+    let image = write_image(alloc, &class).ok()?;
+    let again = write_image(alloc, &read_image(alloc, &image).ok()?).ok()?;
+    if again.as_slice() != image.as_slice() {
+        return None;
+    }
+    Some(image.len())
+}
+
+/// The largest of all: 8 bytes, and 32 times 8, 64, 8 * 4,096, 6, and 64 heads of 3 and 74 * 18.
+#[test]
+fn largest_class_with_loops(rt: HostRuntime) {
+    assert!(rt; largest_image(rt.alloc()) == Some(3_785_160));
+    assert!(rt; IMAGE_LIMIT == 3_826_120);
+    assert!(rt; LOOPS_LIMIT == 86_726);
 }
 
 /// The same and one method more.

@@ -2,15 +2,13 @@
 //! has at the slot is true of the state, wherever the regions lie, and all runs of a call end as
 //! `interp` has it.
 
-mod dice;
-mod draft;
 mod held;
 
+use crate::dice::Dice;
+use crate::draft::random_class;
 use bpf_asm::assemble_class;
 use bpf_decode::{ClassImage, Insn, Method, Region, RuleSet, encode, width};
 use bpf_machine::Caps;
-use dice::Dice;
-use draft::random_class;
 use flat_machine::{FlatState, Layout, Machine, RunStart, Stepped, is_layout};
 use held::{Known, form_number};
 use interp::{Outcome, call};
@@ -314,7 +312,7 @@ fn random_methods(rt: HostRuntime) {
         links: [0; 5],
     };
     for _ in 0..METHODS {
-        let text = random_class(rt.alloc(), &mut dice).expect(&rt, "memory");
+        let text = random_class(rt.alloc(), &mut dice, 0).expect(&rt, "memory");
         assert!(rt;
             try_text(rt.alloc(), &text, &mut dice, &mut seen).is_some(),
             "{text}"

@@ -5,7 +5,7 @@ use crate::plan::{PlannedCall, PlannedClient};
 use crate::trouble::Trouble;
 use object_store::ObjectName;
 use osd::{ClusterName, Running};
-use rados_client::{ClassId, ExecError, Reply, Session};
+use rados_client::{ClassId, ExecError, ExecReply, Session};
 use std::alloc::Global;
 use std::sync::Wait;
 use std::time::Clock;
@@ -211,7 +211,7 @@ impl<N: ClusterName, R: Wait> AtWork<'_, N, R> {
         &mut self,
         call: &PlannedCall,
         began: u64,
-        answer: &Result<Reply, ExecError>,
+        answer: &Result<ExecReply, ExecError>,
     ) -> Option<End> {
         let sent = Sent {
             client: self.session.client().get(),
@@ -225,7 +225,7 @@ impl<N: ClusterName, R: Wait> AtWork<'_, N, R> {
     }
 }
 
-fn end_of(answer: &Result<Reply, ExecError>) -> End {
+fn end_of(answer: &Result<ExecReply, ExecError>) -> End {
     match answer {
         Ok(_) => End::Answered,
         Err(ExecError::Unanswered | ExecError::NotTaken) => End::Open,

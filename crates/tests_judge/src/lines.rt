@@ -10,7 +10,7 @@
 use crate::trouble::Trouble;
 use map_book::MapError;
 use osd::LoggedEntry;
-use rados_client::{ExecError, Reply};
+use rados_client::{ExecError, ExecReply};
 use std::alloc::{AllocError, Global};
 use std::fmt::Write;
 
@@ -28,7 +28,7 @@ pub struct Sent {
 pub fn push_call(
     text: &mut String,
     sent: Sent,
-    answer: &Result<Reply, ExecError>,
+    answer: &Result<ExecReply, ExecError>,
 ) -> Result<(), AllocError> {
     let Sent {
         client,
@@ -44,7 +44,7 @@ pub fn push_call(
     }
 }
 
-fn push_reply(text: &mut String, reply: &Reply) -> Result<(), AllocError> {
+fn push_reply(text: &mut String, reply: &ExecReply) -> Result<(), AllocError> {
     let place = reply.place();
     let code = reply.code();
     write!(text, "place {place} code {code} output ")?;

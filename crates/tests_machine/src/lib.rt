@@ -1,10 +1,14 @@
 //! Only tests of what a call of a method does: by `interp`, with answers from outside (RFC 9669, or
 //! computed by hand), at all limits, with lists of edits, in one room, and the table of classes; and
-//! by the library's calls on bytes, flat forms, edits and limits, and a host in Rattle.
+//! by the library's calls on bytes, flat forms, parts, edits and limits, and a host in Rattle.
 #![tactic(auto)]
 
 #[cfg(test)]
 mod answers;
+#[cfg(test)]
+mod calls_on_parts;
+#[cfg(test)]
+mod declared;
 #[cfg(test)]
 mod flat_limits;
 #[cfg(test)]
@@ -20,9 +24,11 @@ mod lists;
 #[cfg(test)]
 mod methods;
 #[cfg(test)]
+mod needed_names;
+#[cfg(test)]
 mod operations;
 #[cfg(test)]
-mod parts;
+mod part_limits;
 #[cfg(test)]
 mod programs;
 #[cfg(test)]

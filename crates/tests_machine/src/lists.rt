@@ -3,7 +3,7 @@
 use crate::helper_calls::{Arguments, id_of};
 use crate::methods::class;
 use crate::words::{halves, is_object, object, pairs};
-use interp::{CallError, Listed, Room, call_listed};
+use interp::{CallError, Listed, Room, VerifiedClass};
 use object_store::Object;
 use std::alloc::Global;
 use std::process::Abort;
@@ -12,7 +12,7 @@ use std::process::Abort;
 /// helper calls, with a semicolon between two; the code that it returns; the list as hexadecimal
 /// digits; and the object after.
 #[rattlefmt::skip]
-const ROWS: &[(&str, &str, i64, &str, &str)] = &[
+pub const ROWS: &[(&str, &str, i64, &str, &str)] = &[
     // a new name, the value that was there, and a name that isn't there
     ("none", "setxattr <a <1", 0, "0103010061010031", "-/a=1"),
     ("-/a=1", "setxattr <a <1", 0, "03010061010031", "-/a=1"),
@@ -40,14 +40,20 @@ const ROWS: &[(&str, &str, i64, &str, &str)] = &[
     ("abc/a=1/k=v", "stat; getxattr <a >9; map_next <- >9; out_len =2", 0, "", "abc/a=1/k=v"),
 ];
 
-/// The answer of a method that makes these calls and returns a code.
-fn listed(
-    rt: &impl Abort,
-    alloc: Global,
-    object: Option<&Object>,
-    calls: &str,
-    code: i64,
-) -> Listed {
+/// A class whose method `f` makes calls, and the input with their arguments.
+#[derive(Drop)]
+pub struct Made {
+    pub class: VerifiedClass,
+    pub input: Vec<u8>,
+}
+
+/// The class of a method that makes these calls and returns a code.
+pub fn calling(rt: &impl Abort, alloc: Global, calls: &str, code: i64) -> Made {
+    calling_by(rt, alloc, "", calls, code)
+}
+
+/// The same, of the rule set that a line names.
+pub fn calling_by(rt: &impl Abort, alloc: Global, rules: &str, calls: &str, code: i64) -> Made {
     let mut made = Arguments::new(alloc);
     for call in calls.split(';') {
         let (name, words) = halves(call.trim(), ' ');
@@ -58,12 +64,29 @@ fn listed(
     }
     let end = format!(in alloc; "; mov r0, {code}; exit").expect(rt, "memory");
     let pieces = [
+        rules,
         ".method f rw 4096 4096; mov r6, r1; mov r7, r3",
         &made.code,
         &end,
     ];
-    let class = class(rt, alloc, &pieces);
-    call_listed(alloc, &class, "f", object, 7, &made.input).expect(rt, "an answer")
+    Made {
+        class: class(rt, alloc, &pieces),
+        input: made.input,
+    }
+}
+
+/// The answer of such a method.
+fn listed(
+    rt: &impl Abort,
+    alloc: Global,
+    object: Option<&Object>,
+    calls: &str,
+    code: i64,
+) -> Listed {
+    let made = calling(rt, alloc, calls, code);
+    let mut room = Room::new(alloc);
+    room.call_listed(&made.class, "f", object, 7, &made.input)
+        .expect(rt, "an answer")
 }
 
 #[test]

@@ -87,7 +87,7 @@ fn turns<N: BoardName>(
             Some(Ending::Refused.then(turn(alloc, board, table, &mut cell)))
         }
         Some(Ending::Refused) => {
-            let sent = cell.resend(alloc, board);
+            let sent = cell.resend(alloc, board, 2);
             Some(Ending::Refused.then(Some(end_of(cell.node(), &sent))))
         }
         ending => ending,

@@ -8,7 +8,9 @@ use object_store::ObjectName;
 use osd::{Gate, LoggedEntry, LoggedError, Sends};
 use pg_log::Request;
 use placement::NodeId;
-use rados_client::{ClassId, Cluster, ClusterName, ExecError, Reply, Running, Scenario, Session};
+use rados_client::{
+    ClassId, Cluster, ClusterName, ExecError, ExecReply, Running, Scenario, Session,
+};
 use std::alloc::Global;
 use std::cell::Cell;
 use std::sync::Wait;
@@ -58,7 +60,7 @@ impl<N: ClusterName, R: Wait> Gate for Ends<'_, N, R> {
 }
 
 /// The end of a call without a worker: nobody answers.
-fn unanswered(answer: Result<Reply, ExecError>) -> Ending {
+fn unanswered(answer: Result<ExecReply, ExecError>) -> Ending {
     match answer {
         Ok(_) => Ending::Differs,
         Err(ExecError::Unanswered) => Ending::Answered,

@@ -1,9 +1,9 @@
-//! Rows of `call`, `call_listed` and `Room::call`, 3 NoMemory, and of `ClassTable::add`, 2 NoMemory.
+//! Rows of `call`, `Room::call_listed` and `Room::call`, 3 NoMemory, and of `ClassTable::add`, 2 NoMemory.
 
 use crate::ending::Ending;
 use crate::made::class_of;
 use crate::store::{object_of, same};
-use interp::{CallError, ClassTable, Outcome, Room, TableError, call, call_listed};
+use interp::{CallError, ClassTable, Outcome, Room, TableError, call};
 use object_store::Object;
 use std::alloc::Global;
 use verifier::VerifiedClass;
@@ -75,7 +75,7 @@ const EDITS: &[u8] = b"\x08\xfc\x0f\0\0\0\0\0\0\x08\0\0\0abcdefgh\x07\x04\x10\0\
 \x04\x01\0a\x06\x02\0ab";
 
 fn every_listed(alloc: Global, class: &VerifiedClass, object: &Object, before: &Object) -> Ending {
-    match call_listed(alloc, class, "every", Some(object), 7, b"abcdefgh") {
+    match Room::new(alloc).call_listed(class, "every", Some(object), 7, b"abcdefgh") {
         Ok(answer) => {
             let is_list = answer.edits.as_slice() == EDITS;
             Ending::of(is_list && is_outcome(&answer.outcome, before))
@@ -87,7 +87,7 @@ fn every_listed(alloc: Global, class: &VerifiedClass, object: &Object, before: &
     }
 }
 
-/// `call_listed`.
+/// `Room::call_listed`.
 pub fn called_listed(alloc: Global) -> Option<Ending> {
     let class = class_of(alloc, EVERY)?;
     let object = object_of(alloc)?;

@@ -4,7 +4,7 @@
 use crate::ending::Ending;
 use crate::made::{Asked, list_of, nodes_of};
 use commit_board::Board;
-use op_shards::{Op, OpShards};
+use op_shards::{GroupOp, OpShards};
 use pg_log::{NoMemory, Request, are_same_requests};
 use placement::{ClusterMap, NodeId, PlacementError, acting};
 use replication::{PackedLog, UnpackError, pack_log, unpack_log};
@@ -99,7 +99,7 @@ struct Numbered {
     group: usize,
 }
 
-impl Op for Numbered {
+impl GroupOp for Numbered {
     ghost group = { λ n. n.group };
 
     fn group(&self) -> usize {

@@ -3,7 +3,7 @@
 use crate::ending::Ending;
 use crate::made::names_of;
 use crate::store::{NAMES, object_of, objects_of, same};
-use object_store::{Data, DataError, Edit, Object, ObjectName, Objects, StoreError, edit_all};
+use object_store::{Data, DataEdit, DataError, Object, ObjectName, Objects, StoreError, edit_all};
 use std::alloc::{AllocError, Global};
 
 /// The end of a refused call.
@@ -133,13 +133,13 @@ pub fn stored(alloc: Global, deed: Deed) -> Option<Ending> {
 }
 
 /// A write past the end, a cut, and a write over an end of an extent.
-fn edits(alloc: Global) -> Result<Vec<Edit>, AllocError> {
+fn edits(alloc: Global) -> Result<Vec<DataEdit>, AllocError> {
     let mut edits = Vec::new(alloc);
     let text = Vec::from_slice(alloc, b"past the end")?;
-    edits.push(Edit::Write { at: 8190, text })?;
-    edits.push(Edit::Truncate(8195))?;
+    edits.push(DataEdit::Write { at: 8190, text })?;
+    edits.push(DataEdit::Truncate(8195))?;
     let text = Vec::from_slice(alloc, b"over")?;
-    edits.push(Edit::Write { at: 4094, text })?;
+    edits.push(DataEdit::Write { at: 4094, text })?;
     Ok(edits)
 }
 
@@ -157,7 +157,7 @@ fn is_edited<D: Data>(data: &D) -> bool {
     has_over && has_past && data.len() == 8195
 }
 
-fn edits_end<D: Data>(alloc: Global, data: &mut D, edits: &[Edit]) -> Ending {
+fn edits_end<D: Data>(alloc: Global, data: &mut D, edits: &[DataEdit]) -> Ending {
     match edit_all(alloc, data, edits) {
         Ok(()) => Ending::of(is_edited(data)),
         Err(error) => {

@@ -3,8 +3,10 @@
 use crate::ending::Ending;
 use crate::lists::{acts, board, packed, queues, unpacked};
 use crate::logs::{Verb, logged};
+use crate::loops::{called_by_budget, class_verified, loops_read, loops_verified};
 use crate::nodes::{NodeCall, mapped, played};
 use crate::objects::{Deed, edited, named, stored};
+use crate::rounds::called_by_rounds;
 use crate::staged::{Step, Turn, stepped, turned};
 use crate::verdicts::{Case, ONE, TWO, verified};
 use crate::{calls, images, texts};
@@ -22,6 +24,8 @@ pub enum Row {
     Disassemble,
     AssembleClass,
     DisassembleClass,
+    AssembleLoops,
+    DisassembleLoops,
     Verify(Case),
     ObjectName,
     Objects(Deed),
@@ -31,8 +35,13 @@ pub enum Row {
     Turn(Turn),
     Call,
     CallListed,
+    CallPart,
     CallInRoom,
     AddClass,
+    ReadLoops,
+    VerifyByHeads,
+    VerifyLoops,
+    CallByBudget,
     Log(Verb),
     PackLog,
     UnpackLog,
@@ -45,7 +54,7 @@ pub enum Row {
 
 /// Each row with its name.
 #[rattlefmt::skip]
-pub const ROWS: [(&str, Row); 47] = [
+pub const ROWS: [(&str, Row); 54] = [
     ("decode", Row::Decode),
     ("encode", Row::Encode),
     ("read_image", Row::ReadImage),
@@ -54,6 +63,8 @@ pub const ROWS: [(&str, Row); 47] = [
     ("disassemble", Row::Disassemble),
     ("assemble_class", Row::AssembleClass),
     ("disassemble_class", Row::DisassembleClass),
+    ("assemble_loops", Row::AssembleLoops),
+    ("disassemble_loops", Row::DisassembleLoops),
     ("verify", Row::Verify(ONE)),
     ("verify_spills", Row::Verify(TWO)),
     ("object_name", Row::ObjectName),
@@ -79,8 +90,13 @@ pub const ROWS: [(&str, Row); 47] = [
     ("undo", Row::Turn(Turn::Undo)),
     ("call", Row::Call),
     ("call_listed", Row::CallListed),
+    ("call_part", Row::CallPart),
     ("call_in_room", Row::CallInRoom),
     ("add_class", Row::AddClass),
+    ("read_loops", Row::ReadLoops),
+    ("verify_by_heads", Row::VerifyByHeads),
+    ("verify_loops", Row::VerifyLoops),
+    ("call_by_budget", Row::CallByBudget),
     ("append", Row::Log(Verb::Append)),
     ("append_at", Row::Log(Verb::AppendAt)),
     ("adopt", Row::Log(Verb::Adopt)),
@@ -129,6 +145,8 @@ impl Row {
             Row::Disassemble => texts::disassembled(alloc),
             Row::AssembleClass => Some(texts::class_assembled(alloc)),
             Row::DisassembleClass => texts::class_disassembled(alloc),
+            Row::AssembleLoops => Some(texts::loops_assembled(alloc)),
+            Row::DisassembleLoops => texts::loops_disassembled(alloc),
             Row::Verify(case) => verified(alloc, case),
             Row::ObjectName => Some(named(alloc)),
             Row::Objects(deed) => stored(alloc, deed),
@@ -138,8 +156,13 @@ impl Row {
             Row::Turn(turn) => turned(alloc, turn),
             Row::Call => calls::called(alloc),
             Row::CallListed => calls::called_listed(alloc),
+            Row::CallPart => called_by_rounds(alloc),
             Row::CallInRoom => calls::called_in_room(alloc),
             Row::AddClass => calls::added(alloc),
+            Row::ReadLoops => Some(loops_read(alloc)),
+            Row::VerifyByHeads => loops_verified(alloc),
+            Row::VerifyLoops => class_verified(alloc),
+            Row::CallByBudget => called_by_budget(alloc),
             Row::Log(verb) => logged(alloc, verb),
             Row::PackLog => packed(alloc),
             Row::UnpackLog => unpacked(alloc),

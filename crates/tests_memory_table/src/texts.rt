@@ -3,7 +3,7 @@
 use crate::ending::Ending;
 use crate::images::{TEXT, has_five};
 use bpf_asm::{AsmError, AsmFault, assemble, assemble_class, disassemble, disassemble_class};
-use bpf_decode::Insn;
+use bpf_decode::{ClassImage, Insn};
 use std::alloc::Global;
 
 /// A text with five labels, and the canonical one.
@@ -62,5 +62,35 @@ pub fn class_disassembled(alloc: Global) -> Option<Ending> {
     Some(match disassemble_class(alloc, &image) {
         Ok(text) => Ending::of(text.as_str() == TEXT),
         Err(error) => refused(error),
+    })
+}
+
+/// A class of a method with a loop and one without, whose text is canonical.
+pub const LOOPED: &str = ".rules 3\n.method f r 16 0\n.budget 100\nmov r0, 0\nmov r4, 0\n\
+    .head r0 any, r4 0 16\njge r4, r2, +6\nmov r5, r1\nadd r5, r4\nldxb r5, [r5+0]\nadd r0, r5\n\
+    add r4, 1\nja -7\nexit\n.method g r 0 0\nmov r0, 0\nexit\n";
+
+/// True if the first method alone has loops.
+fn are_looped(class: &ClassImage) -> bool {
+    match class.methods() {
+        [first, second] => first.loops().is_some() && second.loops().is_none(),
+        _ => false,
+    }
+}
+
+/// `loop_asm::assemble_class`.
+pub fn loops_assembled(alloc: Global) -> Ending {
+    match loop_asm::assemble_class(alloc, LOOPED) {
+        Ok(class) => Ending::of(are_looped(&class)),
+        Err(error) => refused(error),
+    }
+}
+
+/// `loop_asm::disassemble_class`.
+pub fn loops_disassembled(alloc: Global) -> Option<Ending> {
+    let class = loop_asm::assemble_class(alloc, LOOPED).ok()?;
+    Some(match loop_asm::disassemble_class(alloc, &class) {
+        Ok(text) => Ending::of(text.as_str() == LOOPED),
+        Err(_) => Ending::refused(true),
     })
 }

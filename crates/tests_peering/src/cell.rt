@@ -114,7 +114,7 @@ fn opens<N: BoardName, R: Abort>(
     let early = Carried::Request(lock(rt, alloc, 7, 1, "lock"));
     let map = first_map(rt, alloc, &[0]);
     let mut right = sends(alloc, board, table, cell, map, &asked);
-    right = right && are(&cell.resend(alloc, board).expect(rt, "memory"), &asked);
+    right = right && are(&cell.resend(alloc, board, 1).expect(rt, "memory"), &asked);
     right = right && sends(alloc, board, table, cell, early, &refused);
     right && sends(alloc, board, table, cell, activated(), &[])
 }

@@ -206,11 +206,15 @@ impl<C: Classes> Trio<C> {
         assert!(rt; sent(rt, table, &mut self.first, again).is_empty());
     }
 
-    /// Node 1 sends all again, node 2 takes all, and of its answers the last comes: all are
+    /// Node 1 sends some again, and all, node 2 takes all, and of its answers the last comes: all are
     /// replied to.
     fn replicate<R: Abort>(&mut self, rt: &R, table: &ClassTable)
         requires { table.now ≡ C.classes }
     {
+        for most in [0, 1, 256] {
+            let some = self.first.resend_first(most).expect(rt, "memory");
+            assert!(rt; some.items().len() == most);
+        }
         let reps = self.first.resend().expect(rt, "memory").into_items();
         assert!(rt; are_reps(&reps));
         let ack = answer(rt, table, &mut self.second, reps);

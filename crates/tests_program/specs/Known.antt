@@ -1,7 +1,7 @@
 -- The files of the tests.
 use Rattle.std.specs.Prelude.{ℕ, List, Some, None, if◌then◌else◌, codes}
 use Rattle.std.specs.Str.{bytes_eq}
-use Rattle.class_tool.specs.Files.{Disk}
+use Rattle.program_files.specs.Files.{Disk}
 
 -- the files `text` and `image`, and no other
 abbrev pub two_files : List ℕ → List ℕ → Disk

@@ -1,6 +1,6 @@
 use crate::ended::prints_on;
 use crate::folder::{Folder, TWO};
-use class_tool::Printer;
+use program_files::Printer;
 use radoscls_program::{ExitStatus, end_of, program};
 use std::alloc::Global;
 use std::io::{self, ErrorKind, Write};

@@ -134,6 +134,30 @@ fn a_line_a_second_is_told(rt: HostRuntime) {
     assert!(&rt; told.as_slice() == b"answered 3 of 10\nanswered 4 of 10\n".as_slice());
 }
 
+/// In place, a line is written over the one before, and the last one is ended once.
+#[test]
+fn a_line_is_told_in_place(rt: HostRuntime) {
+    let clock = Readings {
+        nanoseconds: &LOOKS,
+        next: Cell::new(0),
+    };
+    let figures = Figures::new(rt.alloc());
+    let mut told = Vec::new(rt.alloc());
+    let mut meter = Meter::new(&figures, Some(&mut told));
+    meter.tell_in_place();
+    meter.begin(&clock, 3);
+    meter.end();
+    figures.note_call(&clock, None);
+    meter.look(&clock);
+    figures.note_call(&clock, None);
+    figures.note_call(&clock, None);
+    meter.look(&clock);
+    meter.end();
+    meter.end();
+    drop(meter);
+    assert!(&rt; told.as_slice() == b"\ranswered 3 of 3\ranswered 3 of 3\n".as_slice());
+}
+
 /// Where no line is wanted, no clock is looked at.
 #[test]
 fn no_line_is_told_unasked(rt: HostRuntime) {

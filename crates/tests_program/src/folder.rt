@@ -1,4 +1,4 @@
-use class_tool::{Files, Reads};
+use program_files::{Files, ReadableFiles};
 use std::alloc::Global;
 use std::cell::Cell;
 use std::io::{self, ErrorKind};
@@ -60,7 +60,7 @@ impl Folder {
     }
 }
 
-impl Reads for Folder {
+impl ReadableFiles for Folder {
     fn read(&self, alloc: Global, name: &str) -> io::Result<Vec<u8>> {
         self.first_of(alloc, name, usize::MAX)
     }

@@ -1,10 +1,10 @@
 //! Files of which contracts know what they hold.
 
 ghost use Rattle.std.specs.Prelude.{◌≡◌, None, Some, false, IfErr, IfOk, IsErr, OnErr, OnOk};
-ghost use Rattle.class_tool.specs.Files.{IsKept, OthersStay};
+ghost use Rattle.program_files.specs.Files.{IsKept, OthersStay};
 ghost use Rattle.tests_program.specs.Known.{two_files};
 
-use class_tool::{Files, Reads};
+use program_files::{Files, ReadableFiles};
 use std::alloc::Global;
 use std::io::{self, ErrorKind};
 
@@ -63,7 +63,7 @@ fn replace(file: &mut Vec<u8>, bytes: &[u8]) -> io::Result<()>
     Ok(())
 }
 
-impl Reads for TwoFiles {
+impl ReadableFiles for TwoFiles {
     ghost use Rattle.std.specs.Prelude.{Some};
     ghost use Rattle.tests_program.specs.Known.{two_files};
 

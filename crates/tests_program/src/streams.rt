@@ -1,5 +1,5 @@
 use crate::folder::{Folder, TWO};
-use class_tool::Printer;
+use program_files::Printer;
 use radoscls_program::program;
 use std::io::{self, ErrorKind, Write};
 use std::process::Abort;

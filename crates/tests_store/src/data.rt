@@ -1,7 +1,7 @@
 //! Data as a list of bytes, in one vector and in extents of at most 4,096 bytes, which are shared.
 
 use Step::{Cut, Put};
-use object_store::{Data, DataError, Edit, ExtentData, FlatData, edit_all};
+use object_store::{Data, DataEdit, DataError, ExtentData, FlatData, edit_all};
 use std::alloc::Global;
 use std::process::Abort;
 
@@ -40,17 +40,17 @@ static ROWS: [Row; 14] = [
     (&LAST_REFUSED, Some(DataError::TooBig), 10, 0, b"0123456789"),
 ];
 
-fn edit_of<R: Abort>(rt: &R, alloc: Global, step: Step) -> Edit {
+fn edit_of<R: Abort>(rt: &R, alloc: Global, step: Step) -> DataEdit {
     match step {
-        Cut(len) => Edit::Truncate(len),
+        Cut(len) => DataEdit::Truncate(len),
         Put(at, text) => {
             let text = Vec::from_slice(alloc, text).expect(rt, "memory");
-            Edit::Write { at, text }
+            DataEdit::Write { at, text }
         }
     }
 }
 
-fn edits_of<R: Abort>(rt: &R, alloc: Global, steps: &[Step]) -> Vec<Edit> {
+fn edits_of<R: Abort>(rt: &R, alloc: Global, steps: &[Step]) -> Vec<DataEdit> {
     let mut edits = Vec::new(alloc);
     for step in steps {
         let edit = edit_of(rt, alloc, *step);

@@ -3,7 +3,7 @@
 ghost use Rattle.std.specs.Prelude.{◌≡◌, ◌<◌, length, IsTrue};
 ghost use Rattle.op_shards.specs.Passes.{Grew, WasSent};
 
-use op_shards::{Op, OpShards, SendPass, TakePass, sending_goes_on};
+use op_shards::{GroupOp, OpShards, SendPass, TakePass, sending_goes_on};
 use std::alloc::Global;
 use std::marker::Brand;
 use std::process::Abort;
@@ -24,7 +24,7 @@ struct Job {
     number: usize,
 }
 
-impl Op for Job {
+impl GroupOp for Job {
     ghost group = { λ j. j.group };
 
     fn group(&self) -> usize {

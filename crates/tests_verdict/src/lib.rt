@@ -4,6 +4,8 @@
 #![tactic(auto)]
 
 #[cfg(test)]
+mod loops;
+#[cfg(test)]
 mod numbers;
 mod slots;
 #[cfg(test)]

@@ -21,7 +21,7 @@ use verifier::{Refusal, verify};
 
 /// Words of a row, and the text that each stands for.
 #[rattlefmt::skip]
-const WORDS: [(&str, &str); 8] = [
+const WORDS: [(&str, &str); 11] = [
     ("GET", "stb [r10-8], 97; KEY; ROOM 64; call 6"),
     ("KEY", "mov r1, r10; add r1, -8; mov r2, 1"),
     ("ROOM", "mov r3, r10; add r3, -64; mov r4,"),
@@ -30,10 +30,13 @@ const WORDS: [(&str, &str); 8] = [
     ("OUT", "add r3, r4; stb [r3+0], 1; exit"),
     ("KEEP", "stxdw [r10-8], r3"),
     ("BACK", "ldxdw r4, [r10-8]"),
+    ("SUM", "jge r4, r2, +6; mov r5, r1; add r5, r4; ldxb r5, [r5+0]; add r0, r5; add r4, 1; ja -7; exit"),
+    ("FILL", "mov r0, r10; sub r0, 64; add r0, r4; stb [r0+0], 1; add r4, 1; jne r4, 64, -6; mov r0, r4; exit"),
+    ("WALK", "ldxb r5, [r1+0]; add r0, r5; add r1, 1; ja -5; exit"),
 ];
 
 /// The number of decimal digits; of others the greatest, which is none of flags, slots and rules.
-fn number(text: &str) -> u16 {
+pub fn number(text: &str) -> u16 {
     text.parse::<u16>().unwrap_or(u16::MAX)
 }
 
@@ -89,21 +92,21 @@ fn method(alloc: Global, name: &str, code: Vec<Insn>, declared: Declared) -> Opt
 }
 
 /// The method of a row: flags, in_cap, out_cap, a colon, and its lines.
-fn method_of(alloc: Global, name: &str, row: &str, less: u16) -> Option<Method> {
+pub fn method_of(alloc: Global, name: &str, row: &str, less: u16) -> Option<Method> {
     let (numbers, lines) = row.split_once(": ")?;
     let code = code_of(alloc, lines)?;
     method(alloc, name, code, told_declared(numbers, less))
 }
 
 /// A class of that rule set and one method.
-fn class_of(alloc: Global, rules: RuleSet, method: Option<Method>) -> Option<ClassImage> {
+pub fn class_of(alloc: Global, rules: RuleSet, method: Option<Method>) -> Option<ClassImage> {
     let mut methods = Vec::new(alloc);
     methods.push(method?).ok()?;
     ClassImage::new(methods, rules).ok()
 }
 
 /// True if a refusal is of that method, and of the slot and the rule that a word `slot:rule` gives.
-fn is_told(refusal: &Refusal, method: usize, told: &str) -> bool {
+pub fn is_told(refusal: &Refusal, method: usize, told: &str) -> bool {
     match told.split_once(':') {
         None => false,
         Some((slot, rule)) => {

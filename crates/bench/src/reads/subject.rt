@@ -1,5 +1,6 @@
 ghost use Rattle.std.specs.Prelude.{◌≡◌, IfOk};
 ghost use Rattle.std.specs.Option.{option_copied};
+ghost use Rattle.object_store.specs.Limits.{profile};
 ghost use Rattle.helpers.specs.Table.{stat_answer, map_get_answer};
 ghost use Rattle.bench.specs.Subject.{key_512};
 
@@ -45,7 +46,7 @@ fn stat_of(object: Option<&Object>) -> Result<u64>
 
 /// The length of the value of the key in the middle.
 fn value_of(object: Option<&Object>) -> Result<u64>
-    ensures { IfOk result (λ n. n ≡ (map_get_answer (option_copied object.entry) key_512 4096).number) }
+    ensures { IfOk result (λ n. n ≡ (map_get_answer profile (option_copied object.entry) key_512 4096).number) }
 {
     let staged = Staged::over(object);
     let answer = map_value(&staged, &[2, 0], 4096).number;

@@ -1,7 +1,7 @@
 //! What frames say of a state, checked by what they mean.
 
 use abstract_num::{Number, Precision, constant};
-use abstract_regs::{Form, Frame, Kind, Link};
+use abstract_regs::{Frame, Kind, Link, LinkForm};
 use bpf_decode::Region;
 use flat_machine::{FlatState, Layout};
 use std::alloc::{AllocError, Global};
@@ -17,13 +17,13 @@ pub struct Known {
 }
 
 /// The number of a form, from 1; 0 of no link.
-pub fn form_number(form: Form) -> usize {
+pub fn form_number(form: LinkForm) -> usize {
     match form {
-        Form::Unlinked => 0,
-        Form::Whole => 1,
-        Form::Low => 2,
-        Form::Up => 3,
-        Form::Sign => 4,
+        LinkForm::Unlinked => 0,
+        LinkForm::Whole => 1,
+        LinkForm::Low => 2,
+        LinkForm::Up => 3,
+        LinkForm::Sign => 4,
     }
 }
 
@@ -133,8 +133,8 @@ fn number_at(numbers: &[Option<u64>], place: usize) -> Option<u64> {
 /// A number that a name may have where the place with that link has that number.
 fn named_by(link: &Link, number: u64) -> u64 {
     let moved = match link.form {
-        Form::Unlinked | Form::Whole | Form::Low | Form::Sign => number,
-        Form::Up => number >> 32,
+        LinkForm::Unlinked | LinkForm::Whole | LinkForm::Low | LinkForm::Sign => number,
+        LinkForm::Up => number >> 32,
     };
     moved.wrapping_sub(link.distance)
 }
@@ -146,11 +146,11 @@ fn is_linked(link: &Link, named: u64, number: Option<u64>) -> bool {
     };
     let moved = named.wrapping_add(link.distance);
     match link.form {
-        Form::Unlinked => true,
-        Form::Whole => n == moved,
-        Form::Low => n & 0xffff_ffff == moved & 0xffff_ffff,
-        Form::Up => n == moved << 32,
-        Form::Sign => n == moved & 0x8000_0000,
+        LinkForm::Unlinked => true,
+        LinkForm::Whole => n == moved,
+        LinkForm::Low => n & 0xffff_ffff == moved & 0xffff_ffff,
+        LinkForm::Up => n == moved << 32,
+        LinkForm::Sign => n == moved & 0x8000_0000,
     }
 }
 

@@ -34,6 +34,12 @@ impl Dice {
         }
     }
 
+    /// A byte.
+    pub fn byte(&mut self) -> u8 {
+        let [byte, ..] = self.number().to_le_bytes();
+        byte
+    }
+
     /// True once in so many throws.
     pub fn is_one_in(&mut self, count: u64) -> bool {
         self.below(count) == 0

@@ -1,6 +1,6 @@
 //! Methods of rule set 3 at random, as assembly text.
 
-use super::dice::Dice;
+use crate::dice::Dice;
 use std::alloc::{AllocError, Global};
 
 /// A method begins so: registers 6 and 7 are always numbers, 8 and 9 point to the input and to the
@@ -102,6 +102,8 @@ struct Draft<'a> {
     labels: Vec<Label>,
     /// The statements so far.
     count: u64,
+    /// Of so many statements one more is a call of a helper; 0 for none.
+    calls: u64,
 }
 
 /// A register's bit.
@@ -237,7 +239,7 @@ impl<'a> Draft<'a> {
             } else if self.dice.is_one_in(100) {
                 self.put("ja L", 0)?;
                 self.numbers = u64::MAX;
-            } else if statement == "" {
+            } else if statement == "" || self.calls != 0 && self.dice.is_one_in(self.calls) {
                 self.call()?;
             } else {
                 self.put(statement, 0)?;
@@ -252,8 +254,9 @@ impl<'a> Draft<'a> {
     }
 }
 
-/// The text of a class with one method `f`.
-pub fn random_class(alloc: Global, dice: &mut Dice) -> Result<String, AllocError> {
+/// The text of a class with one method `f`. Of `calls` of its statements one more is a call of a
+/// helper; none if that is 0.
+pub fn random_class(alloc: Global, dice: &mut Dice, calls: u64) -> Result<String, AllocError> {
     let count = 5 + dice.below(20);
     let mut draft = Draft {
         dice,
@@ -261,6 +264,7 @@ pub fn random_class(alloc: Global, dice: &mut Dice) -> Result<String, AllocError
         numbers: AT_BEGIN,
         labels: Vec::new(alloc),
         count: 0,
+        calls,
     };
     draft.write(count)?;
     Ok(draft.text)
