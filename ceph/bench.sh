@@ -7,8 +7,8 @@
 #
 # Of the environment: that of ceph/build.sh; STORE (memstore), or bluestore: memory hides what a write
 # costs, and with it bytes of log are counted too; SIZES, the bytes of an object's data (64 65536), KEYS,
-# its other keys (0), CLIENTS (1 4 16), WORKS (all that ceph/bench/calls.c has): each is measured with
-# each, but for calls that need more data than ours take; CPU, the processor (the last one); NICE, the
+# its other keys (0), CLIENTS (1 4 16), WORKS (all that ceph/bench/calls.c has, but for a log's): each is
+# measured with each; CPU, the processor (the last one); NICE, the
 # priority of all (0), -20 where others compute on the machine; ROUNDS, how often each is measured (3; 0
 # leaves the tables out): the median counts; TIME, the seconds of each work, by turns of half a second
 # with the others (5); CHANGES, over how many changes of one client the log is counted (2000); CALLS, over
@@ -31,22 +31,26 @@ declare -A title=(
     [stat]='a read: ours, the length' [bpf_stat]='a read: ours, loaded, the length'
     [replay]='a read: C++ `hello`, 1,100 bytes'
     [read]='a read: ours, 64 bytes' [bpf_read]='a read: ours, loaded, 64 bytes'
+    [log]='an entry of a log, and the oldest goes: C++ `log`' [logs]='an entry of a log, and the oldest goes: ours'
+    [log_list]='1,000 entries of a log: C++ `log`' [logs_list]='1,000 names of a log: ours, four calls'
 )
 # What the same is in C++.
 declare -A beside=(
     [lock.2]=lock [bpf_lock]=lock [count]=numops [bpf_count]=numops [lua]=numops [read]=replay [bpf_read]=replay
+    [logs]=log [logs_list]=log_list
 )
 
 "$here/build.sh" "$work/build"
 gcc -O2 -Wall -Wextra -o "$work/calls" "$here/bench/calls.c" -lrados -lpthread -lm
 cp "$here"/classes/*.img "$here/../examples/count.img" "$work/build"
 cp "$here/classes/lock.img" "$work/build/lock.2.img"
-for class in lock.2 count reads; do
+"$here/bench/logs.py" "$work/build/logs.img"
+for class in lock.2 count reads logs; do
     "$here/radosbpf" install "$work/build/$class.img" --dir "$work/build/classes" > "$work/log"
 done
 # A group's log is kept short, else it would grow in memory over all calls that are measured.
 log=$'[osd]\nosd min pg log entries = 100\nosd max pg log entries = 100\nosd pg log dups tracked = 100'
-CLASSES=$work/build/classes LISTED="lua lock.2 count reads" STORE=$store CPUS=$cpu EXTRA=$log \
+CLASSES=$work/build/classes LISTED="lua lock.2 count reads logs" STORE=$store CPUS=$cpu EXTRA=$log \
     nice -n "$priority" "$here/cluster.sh" start "$cluster" >&2
 OSDS=$(awk '/^osd/ { printf "%s ", $2 }' "$cluster/pids")
 # Where a kernel groups processes by their sessions, a group has a priority of its own.
@@ -60,16 +64,13 @@ measure() {
         "$work/calls" "$1" "$2" "$3" "$4" "$work/build" "${@:6}"
 }
 median() { sort -n | awk '{ all[NR] = $1 } END { print all[int((NR + 1) / 2)] }'; }
-# Ours give the library the whole data, which has a limit.
-fits() { [ "$2" -le 65536 ] || [[ $1 != *stat && $1 != *read ]]; }
 
 for ((round = 1; round <= rounds; round++)); do
     for size in "${sizes[@]}"; do
         for keys in "${all_keys[@]}"; do
             for clients in "${all_clients[@]}"; do
-                list=
-                for each in "${works[@]}"; do if fits "$each" "$size"; then list+=,$each; fi; done
-                measure "${list#,}" "$clients" "$time" "$size" "$keys" > "$work/log"
+                list=$(IFS=,; echo "${works[*]}")
+                measure "$list" "$clients" "$time" "$size" "$keys" > "$work/log"
                 while read -r each figures; do echo "$figures" >> "$work/$each.$clients.$size.$keys"; done < "$work/log"
             done
         done
@@ -87,7 +88,6 @@ table() {
     printf ' %s |' "${all_clients[@]}"
     printf '\n|---|%s\n' "$(printf -- '---|%.0s' "${all_clients[@]}")"
     for each in "${works[@]}"; do
-        fits "$each" "$size" || continue
         printf '| %s |' "${title[$each]}"
         for clients in "${all_clients[@]}"; do printf ' %s |' "$("$4" "$each" "$clients.$size.$keys")"; done
         printf '\n'
@@ -126,7 +126,7 @@ if [ "$store" = bluestore ] && [ "$changes" -gt 0 ]; then
     printf '\nBytes of log of an OSD a change, over %s changes of one client:\n' "$changes"
     for size in "${sizes[@]}"; do
         for each in "${works[@]}"; do
-            case $each in *stat | *read | hello | replay) continue ;; esac
+            case $each in *stat | *read | hello | replay | *list) continue ;; esac
             before=$(written)
             measure "$each" 1 600 "$size" 0 "$changes" > "$work/log"
             echo "objects of $size bytes, ${title[$each]}: $((($(written) - before) / 3 / changes))"

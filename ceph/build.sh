@@ -71,8 +71,8 @@ test_open_names() {
     [ -z "$missing" ] || fail "this Ceph doesn't export $missing"
 }
 
-compile engine classes native bpf call edits object environment sum stub
-shared sillarnica_engine.so "$out"/{engine,classes,native,bpf,call,edits,object,environment,sum}.o "$archive" "$libc" \
+compile engine classes native bpf call part edits object environment sum stub
+shared sillarnica_engine.so "$out"/{engine,classes,native,bpf,call,part,edits,object,environment,sum}.o "$archive" "$libc" \
     -Wl,-soname,sillarnica_engine.so -Wl,--version-script="$here/plugin/engine.map"
 test_open_names sillarnica_engine.so
 # Whole at once: an OSD may open it at any time.

@@ -176,7 +176,7 @@ try_build() {
         "1 ceph/build.sh: this is Ceph 17.2.0, and the plug-in is for 16, 18"
     {
         echo 'int missing(void); int sillarnica_version(void) { return missing(); }'
-        printf 'int sillarnica_%s(void) { return 0; }\n' verify explain needs call verified_open verified_call
+        printf 'int sillarnica_%s(void) { return 0; }\n' verify explain needs verified_open verified_needs verified_call_part verified_close
     } > "$none/none.c"
     gcc -fPIC -c "$none/none.c" -o "$none/none.o" && ar rcs "$none/none.a" "$none/none.o"
     want "a name that the OSD doesn't export" "$(WITHIN=1800 SILLARNICA_ARCHIVE=$none/none.a said "$here/build.sh" "$none/out")" \
@@ -228,7 +228,7 @@ try_stand_in() {
     "$work/address/lists" || bad=1
     test_of threads "$work/images" "$work/thread/stand_in" "$work/thread/classes"
     words=(stand-in "$work/address/stand_in" "$work/address/classes")
-    for each in native refusals lock limits; do test_of $each "$work/images" "${words[@]}"; done
+    for each in native refusals lock limits rounds; do test_of $each "$work/images" "${words[@]}"; done
     test_of bad_requests "$work/images" "$radoscls" 255 "${words[@]}"
     test_of random_calls "$work/images" - 6000 0 5 "${words[@]}"
 }
@@ -521,7 +521,7 @@ for step in start_cluster try_rights try_command; do
 done
 test_of native "$work/images" cluster "$CEPH_CONF" client.adder "$work/adder.keyring"
 try_opened
-for each in refusals lock limits; do test_of $each "$work/images" cluster "$CEPH_CONF"; done
+for each in refusals lock limits rounds; do test_of $each "$work/images" cluster "$CEPH_CONF"; done
 test_of operations "$CEPH_CONF"
 try_examples
 test_of commits "$here/classes" "$CEPH_CONF"

@@ -46,7 +46,7 @@ failing() {
     local to=$work/$1/address said=$work/$1/said test words
     "$to/lists" > "$said" 2>&1 || { echo lists; return; }
     words=(stand-in "$to/stand_in" "$to/classes")
-    for test in native refusals limits; do passes $test "${words[@]}" || { echo $test; return; }; done
+    for test in native refusals limits rounds; do passes $test "${words[@]}" || { echo $test; return; }; done
     passes random_calls - 1000 0 5 "${words[@]}" || { echo random_calls; return; }
     to=$work/$1/thread
     [ ! -d "$to" ] || passes threads "$to/stand_in" "$to/classes" || echo threads

@@ -22,6 +22,11 @@
  *     replay               the same class: the first 1,100 bytes of the data
  *     stat, read           ours, installed: the length of the data; its first 64 bytes
  *     bpf_stat, bpf_read   ours, loaded beside the object
+ *     log                  Ceph's class log, in C++: an entry is added, and the oldest one goes, by turns. Of this
+ *                          and the next three KEYS are the log's entries
+ *     logs                 ours, installed
+ *     log_list             Ceph's class log: the first 1,000 entries
+ *     logs_list            ours, installed: the names of the first 1,000, in four calls of 250
  */
 #include <math.h>
 #include <pthread.h>
@@ -39,12 +44,18 @@ enum { MOST_CLIENTS = 64, MOST_WORKS = 16, MOST_CALLS = 200000 };
 static const double TURN = 0.5, SETTLING = 0.05;
 
 struct message {
-    char bytes[1 << 13];
+    char bytes[1 << 16];
     size_t length;
+};
+
+/* Which entries a log has, by their seconds. */
+struct entries {
+    uint32_t oldest, next;
 };
 
 struct client {
     const char *work;
+    struct entries entries;
     rados_ioctx_t pool;
     char object[64];
     struct message first, second; /* requests that are made by turns */
@@ -117,17 +128,102 @@ static void load(struct client *one, const char *class) {
     must(rados_exec(one->pool, one->object, "bpf", "load", request.bytes, request.length, NULL, 0), "load");
 }
 
-/* Keys beside the one that is counted. */
-static void put_keys(struct client *one, int count) {
-    rados_write_op_t op = rados_create_write_op();
-    for (int i = 0; i < count; i++) {
-        char text[16];
-        const char *name = text, *value = "value";
-        size_t length = snprintf(text, sizeof text, "other%d", i), size = 5;
-        rados_write_op_omap_set2(op, &name, &value, &length, &size, 1);
+/* Keys by their numbers, in operations of at most 1,000 each. */
+static void put_keys(struct client *one, const char *form, int first, int count) {
+    for (int end = first + count, i = first; i < end;) {
+        rados_write_op_t op = rados_create_write_op();
+        for (int left = 1000; left && i < end; left--) {
+            char text[16];
+            const char *name = text, *value = "value";
+            size_t length = snprintf(text, sizeof text, form, i++), size = 5;
+            rados_write_op_omap_set2(op, &name, &value, &length, &size, 1);
+        }
+        must(rados_write_op_operate(op, one->pool, one->object, NULL, 0), "keys");
+        rados_release_write_op(op);
     }
-    must(rados_write_op_operate(op, one->pool, one->object, NULL, 0), "keys");
-    rados_release_write_op(op);
+}
+
+/* What Ceph encodes with a version and its length. */
+static size_t open_struct(struct message *to, int version) {
+    put_number(to, version, 1);
+    put_number(to, 1, 1);
+    put_number(to, 0, 4);
+    return to->length;
+}
+
+static void close_struct(struct message *to, size_t opened) {
+    uint32_t length = to->length - opened;
+    memcpy(to->bytes + opened - 4, &length, 4);
+}
+
+static void put_time(struct message *to, uint32_t seconds) {
+    put_number(to, seconds, 4);
+    put_number(to, 0, 4);
+}
+
+/* Entries of Ceph's class log, of a second each. */
+static void ask_log_add(struct message *to, uint32_t first, int count) {
+    to->length = 0;
+    size_t all = open_struct(to, 2);
+    put_number(to, count, 4);
+    for (int i = 0; i < count; i++) {
+        size_t one = open_struct(to, 2);
+        put_text(to, "");
+        put_text(to, "");
+        put_time(to, first + i);
+        put_text(to, "value");
+        put_text(to, "");
+        close_struct(to, one);
+    }
+    put_number(to, 1, 1);
+    close_struct(to, all);
+}
+
+static void ask_log_trim(struct message *to, uint32_t until) {
+    to->length = 0;
+    size_t all = open_struct(to, 2);
+    put_time(to, 0);
+    put_time(to, until);
+    put_text(to, "");
+    put_text(to, "");
+    close_struct(to, all);
+}
+
+static void ask_log_list(struct message *to, int count) {
+    to->length = 0;
+    size_t all = open_struct(to, 1);
+    put_time(to, 0);
+    put_text(to, "");
+    put_time(to, 0);
+    put_number(to, count, 4);
+    close_struct(to, all);
+}
+
+/* An entry of ours: a name of 13 bytes, and the value. */
+static void ask_logs_append(struct message *to, uint32_t second) {
+    char name[16];
+    snprintf(name, sizeof name, "%013u", second);
+    to->length = 0;
+    put(to, name, 13);
+    put(to, "value", 5);
+}
+
+static int is_log(const char *work) {
+    return !strncmp(work, "log", 3);
+}
+
+static void put_log(struct client *one, int count) {
+    static struct message request;
+    int is_ours = !strncmp(one->work, "logs", 4);
+    one->entries = (struct entries){1, 1 + count};
+    if (is_ours)
+        put_keys(one, "%013d", 1, count);
+    for (int i = 0; i < count && !is_ours; i += 1000) {
+        ask_log_add(&request, 1 + i, 1000);
+        must(rados_exec(one->pool, one->object, "log", "add", request.bytes, request.length, NULL, 0), "entries");
+    }
+    if (strstr(one->work, "list"))
+        ask_log_list(&one->first, 1000);
 }
 
 static void connect_client(int number) {
@@ -144,8 +240,10 @@ static void begin(struct client *one, const char *work, int number) {
     rados_remove(one->pool, one->object);
     must(rados_write_full(one->pool, one->object, data, size), "object");
     int keys = getenv("KEYS") ? atoi(getenv("KEYS")) : 0;
-    if (keys)
-        put_keys(one, keys);
+    if (is_log(work))
+        put_log(one, keys);
+    else if (keys)
+        put_keys(one, "other%d", 0, keys); /* beside the one that is counted */
     one->latency = malloc(sizeof(float) * MOST_CALLS);
     if (!strcmp(work, "bpf_lock")) {
         load(one, "lock");
@@ -172,12 +270,47 @@ static void begin(struct client *one, const char *work, int number) {
         one->second = one->first;
 }
 
+/* A listing of 1,000 names: each call begins behind the last name of the one before. */
+static int list_names(struct client *one) {
+    char out[4096] = "";
+    int found = 0;
+    for (int calls = 0; calls < 4; calls++) {
+        char from[16];
+        memcpy(from, out + 249 * 16, 16);
+        found = rados_exec(one->pool, one->object, "logs", "list", from, calls ? 13 : 0, out, sizeof out);
+        if (found != 250 * 16)
+            return found < 0 ? found : -5;
+    }
+    return found;
+}
+
+static int call_log(struct client *one, int second) {
+    int is_ours = !strncmp(one->work, "logs", 4);
+    if (second && is_ours)
+        return rados_exec(one->pool, one->object, "logs", "trim", NULL, 0, NULL, 0);
+    if (second)
+        ask_log_trim(&one->first, one->entries.oldest++);
+    else if (is_ours)
+        ask_logs_append(&one->first, one->entries.next++);
+    else
+        ask_log_add(&one->first, one->entries.next++, 1);
+    const char *method = second ? "trim" : is_ours ? "append" : "add";
+    return rados_exec(one->pool, one->object, is_ours ? "logs" : "log", method, one->first.bytes, one->first.length,
+                      NULL, 0);
+}
+
 static int call(struct client *one) {
-    char out[2048];
+    static __thread char out[1 << 18];
     const char *work = one->work;
     int second = one->asked++ & 1;
     struct message *request = second ? &one->second : &one->first;
     const char *class = "bpf", *method = "run";
+    if (!strcmp(work, "logs_list"))
+        return list_names(one);
+    if (is_log(work) && strcmp(work, "log_list"))
+        return call_log(one, second);
+    if (!strcmp(work, "log_list"))
+        class = "log", method = "list";
     if (!strcmp(work, "lock"))
         return second ? rados_unlock(one->pool, one->object, "l", "c")
                       : rados_lock_exclusive(one->pool, one->object, "l", "c", "", NULL, 0);

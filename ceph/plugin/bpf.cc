@@ -52,24 +52,24 @@ int find_image(cls_method_context_t context, const request &asked, ceph::bufferl
     return image.length > IMAGE_LIMIT ? CLASS_REFUSED : 0;
 }
 
-int ask(slice image, const request &asked, const bytes &object, uint64_t caller, answer &found) {
-    sillarnica_refusal why{};
-    return refusal_of(ask_library(
-        [&](uint8_t *out, size_t room) {
-            return sillarnica_call(image.at, image.length, asked.method.at, asked.method.length, object.data(),
-                                   object.size(), caller, asked.input.at, asked.input.length, &why, &found, out, room);
-        },
-        found));
-}
+// A class that is held for one call.
+struct held_class {
+    sillarnica_verified one{};
 
-// The object, as far as the method needs it. If there is no such class or method, nothing is read.
-int read_object(cls_method_context_t context, slice image, const request &asked, object_view &object) {
-    int32_t needs = sillarnica_needs(image.at, image.length, asked.method.at, asked.method.length);
-    if (needs >= 0)
-        return object.read(context, unsigned(needs));
+    ~held_class() { sillarnica_verified_close(&one); }
+};
+
+// Verifies a class, and finds the parts of an object that the method needs.
+int hold(slice image, const request &asked, held_class &held, unsigned &needs) {
     sillarnica_refusal why{};
-    int32_t verdict = sillarnica_verify(image.at, image.length, &why);
-    return refusal_of(verdict == SILLARNICA_OK ? needs : verdict);
+    int32_t said = sillarnica_verified_open(image.at, image.length, &why, &held.one);
+    if (said != SILLARNICA_OK)
+        return refusal_of(said);
+    said = sillarnica_verified_needs(&held.one, asked.method.at, asked.method.length);
+    if (said < 0)
+        return refusal_of(said);
+    needs = unsigned(said);
+    return 0;
 }
 
 // What was called, for the log: a class's name is visible ASCII, and a method's name is what no
@@ -83,23 +83,25 @@ std::string called_by(const request &asked) {
 int make_call(cls_method_context_t context, ceph::bufferlist &in, ceph::bufferlist &out, account &made, kind as,
               source from) {
     request asked;
-    ceph::bufferlist held;
+    ceph::bufferlist kept;
     slice image;
     origin who;
     object_view object(is_behind(context), nullptr);
-    bytes flat;
+    held_class held;
+    unsigned needs = 0;
     answer found{};
     asked.from = from;
     int result = read_request(slice_of(in), asked);
     if (result < 0)
         return result;
     made.called = called_by(asked);
-    if ((result = find_image(context, asked, held, image)) < 0 || (result = find_origin(context, who)) < 0)
+    if ((result = find_image(context, asked, kept, image)) < 0 || (result = find_origin(context, who)) < 0)
         return result;
-    if ((result = read_object(context, image, asked, object)) < 0)
+    // If there is no such class or method, nothing is read.
+    if ((result = hold(image, asked, held, needs)) < 0 || (result = object.read(context, needs)) < 0)
         return result;
-    object.put_flat(flat);
-    if ((result = ask(image, asked, flat, who.number, found)) < 0)
+    question call{held.one, asked.method, asked.input, who.number, needs, true};
+    if ((result = ask_by_rounds(context, call, object, found, made)) < 0)
         return result;
     return give_answer(context, found, object, as, out, made);
 }

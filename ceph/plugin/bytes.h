@@ -32,6 +32,10 @@ inline slice slice_of(ceph::bufferlist &list) {
     return {reinterpret_cast<const uint8_t *>(list.c_str()), list.length()};
 }
 
+inline slice slice_of(const std::string &text) {
+    return {reinterpret_cast<const uint8_t *>(text.data()), text.size()};
+}
+
 // Takes fields from the front. Once one passes the end `short_of` is set, and all that follow are
 // empty or 0.
 struct reader {

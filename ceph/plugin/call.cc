@@ -2,9 +2,26 @@
 
 #include "edits.h"
 
+#include <algorithm>
+
 namespace {
 
 constexpr size_t FRAME = 16;
+
+// Settings are found by their names, which takes as long as an object's xattrs: each is asked for where it matters
+// alone.
+uint64_t setting(const char *name) {
+    return ceph::global::g_conf().get_val<Option::size_t>(name).value;
+}
+
+// What an object may hold. As many names as there may be, which an OSD doesn't count; and of data what it lets a client
+// write, as far as a class can. That limits what is written alone.
+sillarnica_limits limits_of(const question &asked) {
+    uint64_t bytes = PLACE_LIMIT;
+    if (asked.may_write && asked.needs & NEEDS_DATA)
+        bytes = std::min(bytes, setting("osd_max_object_size"));
+    return {bytes, SILLARNICA_ANY_NUMBER, SILLARNICA_ANY_NUMBER, NAME_LIMIT, NAME_LIMIT};
+}
 
 // Whether a code can be an operation's result. It has 32 bits, a client takes -4095 to -1 alone for
 // errors, and the OSD never answers an operation with -11 or -115 (refusals.h).
@@ -17,10 +34,9 @@ int test_answer(const answer &found, kind as) {
     bool changes = found.edits_len > 0;
     if (changes && !as.may_change)
         return CHANGE_IN_READ;
-    // A longer reply of a change is answered -75 by the OSD, and the change stands. The setting is asked for
-    // where it matters alone: it is found by its name, which takes as long as the object's xattrs.
+    // A longer reply of a change is answered -75 by the OSD, and the change stands.
     size_t reply = found.output_len + (as.framed ? FRAME : 0);
-    if (changes && reply && reply > ceph::global::g_conf().get_val<Option::size_t>("osd_max_write_op_reply_len").value)
+    if (changes && reply && reply > setting("osd_max_write_op_reply_len"))
         return REPLY_TOO_LONG;
     if (!as.framed && !is_result(found.code))
         return NO_RESULT;
@@ -49,7 +65,36 @@ int refusal_of(int32_t said) {
     case SILLARNICA_NO_METHOD: return NO_METHOD;
     case SILLARNICA_INPUT_TOO_LONG: return INPUT_TOO_LONG;
     case SILLARNICA_NO_MEMORY: return NO_MEMORY;
+    case SILLARNICA_FULL: return TOO_MUCH;
     default: return BROKEN; // the object's spelling is the plug-in's own, and the buffer is large enough
+    }
+}
+
+int ask_by_rounds(cls_method_context_t context, const question &asked, object_view &object, answer &found,
+                  account &made) {
+    sillarnica_limits limits = limits_of(asked);
+    object_part part(object, asked.needs);
+    bytes spelled;
+    for (unsigned round = 1;; round++) {
+        sillarnica_want want{};
+        part.put(spelled);
+        int32_t said = ask_library(
+            [&](uint8_t *out, size_t room) {
+                return sillarnica_verified_call_part(&asked.held, asked.method.at, asked.method.length, spelled.data(),
+                                                     spelled.size(), asked.caller, &limits, asked.input.at,
+                                                     asked.input.length, &found, &want, out, room);
+            },
+            found);
+        bool is_full = said == SILLARNICA_FULL;
+        if (said != SILLARNICA_WANTS && !is_full)
+            return refusal_of(said);
+        if (round == ROUNDS) {
+            made.why = "over 16 rounds";
+            return TOO_MUCH;
+        }
+        int result = is_full ? part.spare(made.why) : part.fetch(context, {want.bytes, want.length}, made.why);
+        if (result < 0)
+            return result;
     }
 }
 

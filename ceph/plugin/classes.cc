@@ -67,8 +67,8 @@ void opened_class::note(unsigned method, int result, uint64_t nanoseconds, const
     add(of.edits, made.edits);
     const char *blank = made.called.empty() ? "" : " ", *method_name = methods[method].name.c_str();
     if (is_refused)
-        cls_log(LEVEL_OF_REFUSALS, "%s.%s%s%s: refused %d", name.c_str(), method_name, blank, made.called.c_str(),
-                result);
+        cls_log(LEVEL_OF_REFUSALS, "%s.%s%s%s: refused %d%s%s", name.c_str(), method_name, blank, made.called.c_str(),
+                result, made.why ? ": " : "", made.why ? made.why : "");
     else if (made.was_run)
         cls_log(LEVEL_OF_CALLS, "%s.%s%s%s: code %lld, steps %llu, bytes: input %zu, output %zu, edits %zu",
                 name.c_str(), method_name, blank, made.called.c_str(), (long long)made.code,

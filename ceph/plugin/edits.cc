@@ -46,7 +46,8 @@ bool is_of_header(const edit &one, bool is_shown) {
 }
 
 int test_edit(const edit &one, bool is_shown) {
-    if (one.kind < CREATE || one.kind > WRITE || one.number > DATA_LIMIT)
+    // Places are below the limit of data that the library is given.
+    if (one.kind < CREATE || one.kind > WRITE || one.number > PLACE_LIMIT - one.bytes.length)
         return BROKEN;
     if (!one.is_of_xattr() || is_of_header(one, is_shown))
         return 0;
@@ -68,6 +69,16 @@ int read_edits(slice written, bool is_shown, std::vector<edit> &edits) {
         edits.push_back(std::move(found));
     }
     return 0;
+}
+
+// The same without what comes before the last removal, which is made if there was an object. Of an object that is
+// removed, made and removed again in one operation an OSD forgets the first removal: what was there would come back.
+void drop_removed(std::vector<edit> &edits, bool was_there) {
+    size_t at = edits.size();
+    while (at && edits[at - 1].kind != REMOVE)
+        at--;
+    if (at)
+        edits.erase(edits.begin(), edits.begin() + long(at - was_there));
 }
 
 // Where the edits begin that the object is left with: behind the last one that removes or creates it.
@@ -99,7 +110,10 @@ int remove_xattrs(cls_method_context_t context, object_view &object, const std::
         return 0;
     if (object.behind)
         return NOT_FIRST;
-    return there.empty() ? 0 : object.make_without(context, there);
+    if (there.empty())
+        return 0;
+    int result = object.read_whole(context);
+    return result < 0 ? result : object.make_without(context, there);
 }
 
 // All but sets of keys, and what the OSD has no call for.
@@ -139,6 +153,7 @@ int make_edits(cls_method_context_t context, object_view &object, slice written)
         return result;
     if (object.is_made() && !edits.empty())
         edits.insert(edits.begin(), {CREATE, {}, {}, 0});
+    drop_removed(edits, object.was_there());
     size_t start = beginning(edits);
     std::set<std::string> removed = removed_from(edits, start);
     // An object that the call removed or created has no xattr of before.

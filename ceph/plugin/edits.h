@@ -4,10 +4,10 @@
 
 #include "object.h"
 
-// Makes a list of edits, of a call that was answered by this view of the object. They are made in their
-// order; neighbouring sets of keys are one call of the OSD's, and none passes another edit. The OSD has no
-// call that removes an xattr: one that only this call set isn't set, and for one that the object has the
-// object is made again.
+// Makes a list of edits, of a call that was answered by this view of the object. They are made in their order;
+// neighbouring sets of keys are one call of the OSD's, and none passes another edit. Of several that remove the object
+// the last one is made, and nothing before it. The OSD has no call that removes an xattr: one that only this call set
+// isn't set, and for one that the object has the object is made again.
 //
 // All are read and tested before the first is made. Refused: NAME_IS_OURS; NAME_WITH_NUL; and where an
 // xattr of before the call is removed, NOT_FIRST behind another step, since that may have written what

@@ -1,5 +1,5 @@
-// An installed class: its image lies beside the stub that the OSD opened. It is called by handles,
-// each of which verified it.
+// An installed class: its image lies beside the stub that the OSD opened. It is verified when it is opened, and
+// called by handles that share it.
 #pragma once
 
 #include "classes.h"
@@ -8,16 +8,24 @@
 
 #include "sillarnica.h"
 
-// Handles of one class. On each one call is made at a time, so there are as many as calls were made
-// at once, and each verified the class when it was first needed.
+// Handles of one class. On each one call is made at a time, so there are as many as calls were made at once.
 class handles {
 public:
-    // Takes a handle that no call has, or opens one: what the library said.
-    int32_t take(slice image, sillarnica_verified &one);
+    ~handles();
+
+    // Verifies the class, for the first handle: what the library said. To be called once, before all others.
+    int32_t open(slice image);
+
+    // The method of a number, from 0 on, and what it declares: what the library said.
+    int32_t method_at(size_t n, sillarnica_declared &told, std::string &name);
+
+    // Takes a handle that no call has, or makes another of the class: what the library said.
+    int32_t take(sillarnica_verified &one);
     void give(const sillarnica_verified &one) noexcept;
 
 private:
     std::mutex lock;
+    sillarnica_verified first{};
     std::vector<sillarnica_verified> idle;
     size_t made = 0;
 };
@@ -32,10 +40,8 @@ public:
 private:
     int call(unsigned method, cls_method_context_t context, ceph::bufferlist &in, ceph::bufferlist &out,
              account &made) override;
-    int run(unsigned method, const bytes &object, uint64_t caller, slice input, answer &found);
     void find_methods();
 
-    bytes image;
     std::vector<unsigned> needs; // of each method the parts of an object
     handles pool;
 };

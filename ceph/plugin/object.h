@@ -1,14 +1,18 @@
-// The object that a call is made on: as the OSD shows it, and as the library reads it.
+// The object that a call is made on, as the OSD shows it.
 #pragma once
 
 #include "bytes.h"
 #include "environment.h"
 #include "osd.h"
 
+// Of a part of an object (part.h), but for the data: an object that is made again has at most so much of each.
 constexpr size_t DATA_LIMIT = 65536, XATTR_LIMIT = 32, KEY_LIMIT = 1024, NAME_LIMIT = 64, VALUE_LIMIT = 4096;
 
+// The end of what the OSD's calls, whose places have 32 bits, can write.
+constexpr uint64_t PLACE_LIMIT = INT32_MAX;
+
 // The parts of an object that a method's code can reach, as `sillarnica_needs` adds them.
-constexpr unsigned NEEDS_DATA = 1, NEEDS_XATTRS = 2, NEEDS_KEYS = 4, NEEDS_ALL = 7;
+constexpr unsigned NEEDS_DATA = 1, NEEDS_XATTRS = 2;
 
 // Xattrs whose names begin so hold the loaded classes. No method sees, sets or removes one.
 constexpr char OWN_PREFIX[] = "bpf.";
@@ -28,25 +32,31 @@ public:
     // there is none, as of the class `bpf`. It has to be known when xattrs are read.
     object_view(bool behind, const origin *caller) : behind(behind), caller(caller) {}
 
-    // Reads whether there is an object, and of these parts what wasn't read yet. Refused, of parts that
-    // are asked for alone: DATA_TOO_LONG; TOO_MUCH; and data behind another step, NOT_FIRST.
+    // Reads whether there is an object and how long its data is, and its xattrs if these parts have them.
     int read(cls_method_context_t context, unsigned parts);
 
     // Of one that was read and is absent, with a caller: an object for its call (WITH_OBJECT).
     int make(cls_method_context_t context);
     bool is_absent() const { return is_found && !is_there; }
     bool is_made() const { return was_made; }
+    bool was_there() const { return is_there && !was_made; }
 
-    // The flat form of `sillarnica.h`; what wasn't read is empty.
-    void put_flat(bytes &flat);
+    uint64_t length() const { return size; }
 
-    // Of xattrs that were read.
+    // The xattrs that a method sees, of those that were read.
+    const values &shown() const { return seen; }
+
+    // Of xattrs that were read, the plug-in's own among them.
     bool has_xattr(const std::string &name) const { return xattrs.count(name) || own.count(name); }
+
+    // Reads all of it, for `make_without`, of an object whose xattrs were read. Refused: DATA_TOO_LONG, and TOO_MUCH,
+    // an object that is past the limits.
+    int read_whole(cls_method_context_t context);
 
     // Removes xattrs that it has, in the one way that the OSD's calls have, which Ceph's class `rgw` uses
     // too: the object is removed and made again, all in the operation's one transaction, with its data, its
     // omap and its other xattrs. Who watches the object is cut off. Only for an operation's first step: what
-    // earlier steps wrote isn't shown, and would be lost. Refused as `read` of all parts.
+    // earlier steps wrote isn't shown, and would be lost. All of it was read.
     int make_without(cls_method_context_t context, const std::vector<std::string> &names);
 
     bool shows_environment() const { return caller; }
@@ -54,20 +64,21 @@ public:
     const bool behind; // other steps
 
 private:
-    int read_size(cls_method_context_t context);
-    int read_data(cls_method_context_t context);
     int read_xattrs(cls_method_context_t context);
     int read_header(cls_method_context_t context);
-    int read_keys(cls_method_context_t context);
     int write(cls_method_context_t context);
 
     const origin *const caller;
     bool is_found = false, is_there = false, was_made = false, has_header = false;
     uint64_t size = 0;
-    unsigned have = 0; // the parts that were read
     ceph::bufferlist data, header;
-    values xattrs, environment, own, keys;
+    values xattrs, own, keys, seen;
 };
+
+// Keys above a name, in their order; `more` if there are others above them. Of an object that an earlier step made
+// there are none.
+int keys_above(cls_method_context_t context, bool behind, const std::string &name, uint64_t most, values &keys,
+               bool &more);
 
 // Removes an xattr of the plug-in's, as an operation's first step. Of an object that can't be made again,
 // since it is past the limits or its pool is erasure-coded, the xattr is left without bytes.

@@ -14,13 +14,16 @@
 // clang-format off
 enum refusal : int {
     BROKEN = -EIO,               // -5: the OSD or the library answers what it never should
-    TOO_MUCH = -E2BIG,           // -7: over 32 xattrs or 1,024 keys, a name over 64 bytes, or a value over 4,096
+    TOO_MUCH = -E2BIG,           // -7: the call needs over 16 rounds, 32 xattrs, 1,024 keys or 4 MiB of data, or meets a
+                                 // name over 64 bytes or a value over 4,096: the log says which. Or the object can't
+                                 // be made again: it has over 32 xattrs or 1,024 keys, or such a name or value
     CLASS_REFUSED = -ENOEXEC,    // -8: the image, or its class, is refused; `verify` says why
     NO_MEMORY = -ENOMEM,         // -12
     NAME_IS_OURS = -EACCES,      // -13: the method sets or removes an xattr whose name begins with `bpf.`; or an entry
                                  // of its call's environment other than the omap's header
     BAD_REQUEST = -EINVAL,       // -22: the bytes are no request; the input is longer than an installed method takes
-    DATA_TOO_LONG = -EFBIG,      // -27: the object has more than 65,536 bytes of data, and they are needed
+    DATA_TOO_LONG = -EFBIG,      // -27: data is needed that begins past 2,147,483,647 bytes; or the object can't be
+                                 // made again: it has over 65,536 bytes of data
     NO_ROOM_FOR_IMAGE = -ENOSPC, // -28: the images beside the object would have more than 65,536 bytes together
     CHANGE_IN_READ = -EROFS,     // -30: `query` or `see` of a call that changes the object
     NO_METHOD = -ENOSYS,         // -38: the class has no such method
@@ -32,6 +35,6 @@ enum refusal : int {
     INPUT_TOO_LONG = -EMSGSIZE,  // -90: the input is longer than the method takes
     REPLY_TOO_LONG = -ENOBUFS,   // -105: a change, and its reply is over the OSD's osd_max_write_op_reply_len
     NOT_FIRST = -EALREADY,       // -114: another step of the operation stands before a load or an unload; or before a
-                                 // call that needs data, or removes an xattr of before it
+                                 // call that reads data, or removes an xattr of before it
 };
 // clang-format on

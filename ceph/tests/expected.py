@@ -1,5 +1,5 @@
 """What the class `bpf` answers to a request, and what the object holds afterwards: written after docs/CEPH.md,
-over the interpreter of model.py.
+over the interpreter of model.py and the rounds of parts.py.
 
 A list of edits is as model.py has it. An image counts as accepted if it is one of those that are named so; of another one nothing is said but that a
 name or a length was wrong.
@@ -8,20 +8,22 @@ name or a length was wrong.
 import struct
 
 import model
+import parts
 
 READS = ("query", "see", "query_sent", "see_sent")
 FRAMED = ("exec", "query", "exec_sent", "query_sent")
 UNKNOWN = "whatever the verifier says"
+MOST_DATA = 128 << 20  # osd_max_object_size, as it is shipped
 
 
-def limits(whole, parts):
-    """The refusal of an object that is over the limits in one of these parts, or None."""
+def limits(whole):
+    """The refusal of an object that would have to be made again and is over the limits, or None."""
     if whole is None:
         return None
-    if "data" in parts and len(whole.data) > model.DATA_LIMIT:
+    if len(whole.data) > model.DATA_LIMIT:
         return -27
     for name, most in (("xattrs", model.XATTR_LIMIT), ("keys", model.KEY_LIMIT)):
-        part = getattr(whole, name) if name in parts else {}
+        part = getattr(whole, name)
         longest = max(map(len, part.values()), default=0)
         if len(part) > most or longest > model.VALUE_LIMIT or any(len(name) > model.NAME_LIMIT for name in part):
             return -7
@@ -62,7 +64,7 @@ def refusal_of_edits(edits, seen, behind, is_native):
     if behind:
         return -114
     # An object that had one of them is made again, with all its parts.
-    return limits(seen, model.PARTS) if gone(edits, seen) else None
+    return limits(seen) if gone(edits, seen) else None
 
 
 def gone(edits, seen):
@@ -70,21 +72,23 @@ def gone(edits, seen):
     return [name for name in removed(edits) if lasting(edits) == edits and name in seen.xattrs]
 
 
-def answer(way, method, data, seen, caller, limit, behind=False, environment=None):
+def with_environment(method, seen, environment):
+    if environment and seen and "xattrs" in model.parts_of(method):
+        return model.Object(seen.data, {**seen.xattrs, **environment}, seen.keys)
+    return seen
+
+
+def answer(way, method, data, seen, caller, limit, behind=False, environment=None, is_made=False):
     """Result, output and edits of a call of a method of an accepted class, on what the OSD shows of the object. An
     installed class is shown an environment, too.
     """
-    parts = model.parts_of(method)
-    if environment and seen and "xattrs" in parts:
-        seen = model.Object(seen.data, {**seen.xattrs, **environment}, seen.keys)
-    if behind and "data" in parts and seen and seen.data:
-        return -114, b"", []
-    refused = limits(seen, parts)
-    if refused:
-        return refused, b"", []
     if len(data) > method.in_cap:
         return -90, b"", []
-    found = model.call(method, seen, caller, data)
+    try:
+        whole = with_environment(method, seen, environment)
+        found, _ = parts.call(method, whole, caller, data, behind, MOST_DATA, is_made)
+    except parts.Refused as refused:
+        return refused.result, b"", []
     framed, wrote = way in FRAMED, bool(found.edits)
     if wrote and way in READS:
         return -30, b"", []
@@ -99,6 +103,17 @@ def answer(way, method, data, seen, caller, limit, behind=False, environment=Non
         return 0, struct.pack("<qQ", found.code, found.steps) + found.output, found.edits
     # Of an error no output comes back.
     return found.code, found.output, found.edits
+
+
+def is_flat(image, method, data, whole, caller):
+    """Whether a call answers the same by the limits of a flat form."""
+    found = model.methods_of(image).get(method)
+    if found is None or len(data) > found.in_cap:
+        return True
+    try:
+        return model.call(found, whole, caller, data) == parts.call(found, whole, caller, data, limit=MOST_DATA)[0]
+    except parts.Refused:
+        return False
 
 
 def shown(before, left):
@@ -191,7 +206,7 @@ def native(method, data, held, caller, environment, limit=64, behind=False, left
     if seen is None and not reads and asks_for_object(method, data, caller):
         environment = {**environment, b"\0made": b""}
         environment.pop(model.HEADER, None)
-        result, output, edits = answer(*words, model.Object(), caller, limit, behind, environment)
+        result, output, edits = answer(*words, model.Object(), caller, limit, behind, environment, True)
         edits = edits and [("create",), *edits]
     # a class of Ceph's answers so to what it can't decode
     result = -22 if result == -90 else result
@@ -220,8 +235,13 @@ def line_of(one):
     return f"{'remove key' if kind == 'unset' else 'set xattr'} {hex_of(rest[1])}"
 
 
-def changes(edits):
-    """The changes that a list is made by: neighbouring sets of keys are one."""
+def changes(edits, was_there):
+    """The changes that a list is made by: neighbouring sets of keys are one, and nothing is made before the last removal,
+    nor that of an object that wasn't there.
+    """
+    last = max((at for at, one in enumerate(edits) if one == ("remove",)), default=None)
+    if last is not None:
+        edits = edits[last if was_there else last + 1 :]
     names, start = removed(edits), len(edits) - len(lasting(edits))
     made = [
         one
@@ -240,18 +260,6 @@ def changes(edits):
     return lines
 
 
-def reads_of(parts, whole, is_native=False):
-    """The reads of parts of an object."""
-    lines = []
-    if whole and "data" in parts and whole.data:
-        lines.append(f"read 0 {len(whole.data)}")
-    if whole and "xattrs" in parts:
-        lines += ["xattrs", "header", "random 16"] if is_native else ["xattrs"]
-    if whole and "keys" in parts:
-        lines.append(f"keys - {model.KEY_LIMIT}")
-    return lines
-
-
 def remade(after, classes, header):
     """An object that is removed and made again."""
     lines = ["remove", "create"] + ([f"write 0 {len(after.data)}"] if after.data else [])
@@ -260,15 +268,17 @@ def remade(after, classes, header):
     return lines + ([" ".join(["set keys", *map(hex_of, sorted(after.keys))])] if after.keys else [])
 
 
-def trace(parts, seen, edits, classes, is_native, header):
-    """All that a call that is answered asks of the OSD, but for the class and the caller: it reads the parts that the
-    method needs, and no other.
-    """
-    lines, names = ["stat"] + reads_of(parts, seen, is_native), gone(edits, seen) if seen else []
+def trace(method, data, seen, caller, behind, edits, classes, environment, header):
+    """All that a call that is answered asks of the OSD, but for the class and the caller: it reads what it needs."""
+    lines, names = ["stat"], gone(edits, seen) if seen else []
+    if seen and "xattrs" in model.parts_of(method):
+        lines += ["xattrs", "header", "random 16"] if environment else ["xattrs"]
+    whole = with_environment(method, seen, environment)
+    lines += parts.call(method, whole, caller, data, behind, MOST_DATA)[1]
     if names:
         without = seen.copy()
         for name in names:
             del without.xattrs[name]
-        lines += reads_of(model.PARTS.keys() - set(parts), seen) + ([] if is_native else ["header"])
-        lines += remade(without, classes, header)
-    return lines + changes(edits)
+        lines += ([f"read 0 {len(seen.data)}"] if seen.data else []) + [f"keys - {model.KEY_LIMIT}"]
+        lines += ([] if environment else ["header"]) + remade(without, classes, header)
+    return lines + changes(edits, seen is not None)

@@ -42,7 +42,7 @@ def image_of(*methods):
 
 
 def try_big(backend, tally, images):
-    """An object of 4 MiB: what needs no data of it is answered as on any object."""
+    """An object of 4 MiB: calls are answered as on any object."""
     whole = Object(b"0123456789abcdef" * (BIG // 16), {b"x": b"1"}, {b"k": b"2"})
     h = lambda method, data=b"": ("exec", named(b"helpers", method, data))
     lock = lambda method, owner=b"": ("exec", named(b"lock", method, owner))
@@ -59,10 +59,11 @@ def try_big(backend, tally, images):
         ("a key is set", *h(b"map_set", setter(b"new", b"v")), done(15)),
         ("a key goes", *h(b"map_rm", b"new"), done(2)),
         ("it is there", *h(b"create", number(1)), done(3, -17)),
-        ("stat", *h(b"stat"), too_long),
-        ("read", *h(b"read", number(0) + number(4)), too_long),
-        ("write", *h(b"write", number(0) + b"text"), too_long),
-        ("truncate", *h(b"truncate", number(0)), too_long),
+        ("stat", *h(b"stat"), done(2, BIG)),
+        ("read", *h(b"read", number(BIG - 3) + number(4)), done(13, 3, b"def")),
+        ("write", *h(b"write", number(0) + b"text"), done(8, 4)),
+        ("it is read", *h(b"read", number(1) + number(4)), done(13, 4, b"ext4")),
+        ("truncate", *h(b"truncate", number(BIG - 1)), done(3)),
         ("an xattr goes, which takes all of the object", *h(b"rmxattr", b"x"), too_long),
         ("a load", "load", load_request(b"f", image_of((b"f", 2))), (0, b"")),
         ("it is called", "exec", named(b"f", b"f"), done(2)),
@@ -80,10 +81,34 @@ def try_big(backend, tally, images):
         result, output = backend.call("big", "exec", named(b"count", b"count"))
         found = result, output[:8], output[16:]
         tally.want(f"4 MiB: the counter's call {count}", found, (0, number(count), number(count)))
+    whole.data = b"text" + whole.data[4:-1]
     whole.xattrs[b"lock"], whole.keys[b"n"] = b"", number(3)
     tally.want("the object of 4 MiB", backend.get("big"), whole)
     tally.want("it is removed", backend.call("big", "exec", named(b"helpers", b"remove")), done(2))
     tally.want("it is absent", backend.get("big"), None)
+
+
+def try_greatest(backend, tally, images):
+    """Data up to osd_max_object_size, and what lies past the places that the OSD's calls have."""
+    end, far = 1000, 1 << 32
+    call = lambda method, data=b"", **words: backend.call("most", "exec", named(b"helpers", method, data), **words)
+    backend.put("most", Object(b"text"), images)
+    for what, method, place, steps, code in (
+        ("a write up to it", b"write", end - 4, 8, 4),
+        ("a write past it", b"write", end - 3, 8, -27),
+        ("a write far past it", b"write", far, 8, -27),
+        ("a length past it", b"truncate", end + 1, 3, -27),
+        ("a length past it where a write may end", b"truncate", 2**31, 3, -27),
+    ):
+        data = number(place) + (b"abcd" if method == b"write" else b"")
+        tally.want(what, call(method, data, most=end), (0, frame(code, steps)))
+    tally.want("a write past 31 bits", call(b"write", number(2**31 - 3) + b"abcd", most=far), (0, frame(-27, 8)))
+    place = number(2**31) + number(4)
+    tally.want("data past 31 bits", call(b"read", place, size=far), (-27, b""))
+    tally.want("the length of it", call(b"stat", size=far), (0, frame(far, 2)))
+    backend.put("most", Object(b"t" * 2000), images)
+    tally.want("a read past the setting", call(b"read", number(1999) + number(9), most=end)[1][16:], b"t")
+    tally.want("a write in more than it", call(b"write", number(0) + b"abcd", most=end), (0, frame(4, 8)))
 
 
 def sizes(images):
@@ -215,7 +240,7 @@ def try_coded(tally, images):
         ("lock by another", "exec", named(b"lock", b"lock", YOU), (0, frame(-16, 19))),
         ("an xattr is read", "query", named(b"helpers", b"getxattr", b"x"), (0, frame(1, 8, b"1"))),
         ("data is read", "query", named(b"helpers", b"read", number(0) + number(4)), (-95, b"")),
-        ("its length", "query", named(b"helpers", b"stat"), (-95, b"")),
+        ("its length", "query", named(b"helpers", b"stat"), (0, frame(4, 2))),
         ("data is written", "exec", named(b"helpers", b"write", number(0) + b"abcd"), (-95, b"")),
         ("a key is set", "exec", named(b"count", b"count"), (-95, b"")),
         ("an xattr goes", "exec", named(b"helpers", b"rmxattr", b"x"), (-95, b"")),
@@ -238,6 +263,8 @@ def main(words):
     try_past(backend, tally, images)
     try_classes(backend, tally, images)
     try_images(backend, tally)
+    if words[1] == "stand-in":
+        try_greatest(backend, tally, images)
     if words[1] == "cluster":
         try_steps(backend, tally, images)
         try_coded(tally, images)

@@ -68,7 +68,11 @@ const row ROWS[] = {
     {"one key twice", ".", nullptr, SET_K SET_K2, 0, "set keys 6b", ". k:w"},
     {"keys around an xattr", ".", nullptr, SET_K SET_A SET_M, 0, "set keys 6b,set xattr 61,set keys 6d",
      ". a=1 k:v m:v"},
-    {"a key before the object is removed", ". a=1", nullptr, SET_K "02", 0, "set keys 6b,remove", "-"},
+    {"a key before the object is removed", ". a=1", nullptr, SET_K "02", 0, "remove", "-"},
+    {"removed twice", "abc a=1", nullptr, "02 01" SET_A "02 01" SET_B, 0, "remove,create,set xattr 62", ". b=1"},
+    {"removed twice, and not made again", "abc a=1", nullptr, SET_B "02 01" SET_A "02", 0, "remove", "-"},
+    {"made and removed", "-", nullptr, "01" SET_A "02", 0, "", "-"},
+    {"made, removed and made", "-", nullptr, "01" SET_A "02 01" SET_K, 0, "create,set keys 6b", ". k:v"},
     {"an xattr twice", ".", nullptr, SET_A SET_A2, 0, "set xattr 61,set xattr 61", ". a=2"},
     // xattrs that go
     {"what only this call set", "x b=1", nullptr, SET_A RM_A, 0, "", "x b=1"},
@@ -116,7 +120,8 @@ const row ROWS[] = {
     {"a value that passes the end", ".", nullptr, "03 0100 61 0101 31", BROKEN, "", ""},
     {"a length that is cut", ".", nullptr, SET_A "07 00000000000000", BROKEN, "", ""},
     {"a write that is cut", ".", nullptr, "08" N(00) L(02) "61", BROKEN, "", ""},
-    {"a length past the limit", ".", nullptr, "07 0100010000000000", BROKEN, "", ""},
+    {"a length past the limit", ".", nullptr, "07 0000008000000000", BROKEN, "", ""},
+    {"a write past the limit", ".", nullptr, "08 ffffff7f00000000" L(01) "61", BROKEN, "", ""},
     {"a place past the limit", ".", nullptr, "08 0000000001000000" L(01) "61", BROKEN, "", ""},
 };
 
@@ -132,7 +137,7 @@ const row SHOWN[] = {
     {"the header goes", ". k:v !hd", nullptr, RM_HEADER, 0, "set header", ". k:v"},
     {"the header without bytes", ". !hd", nullptr, "03" HEADER "0000", 0, "set header", "."},
     {"the header goes and is set", ". !hd", nullptr, RM_HEADER SET_HEADER, 0, "set header,set header", ". !nw"},
-    {"the header, and the object goes", ". !hd", nullptr, SET_HEADER "02", 0, "set header,remove", "-"},
+    {"the header, and the object goes", ". !hd", nullptr, SET_HEADER "02", 0, "remove", "-"},
     {"the header of an object that is made again", ". a=1 !hd", nullptr, "02 01" SET_HEADER SET_A, 0,
      "remove,create,set header,set xattr 61", ". a=1 !nw"},
     {"the header, and an xattr goes", ". a=1 b=2 !hd", nullptr, SET_HEADER RM_A SET_K, 0,

@@ -40,7 +40,7 @@ def rows():
         ("it asks again", holding(LONG), b"lock", LONG, 0, 43, holding(LONG)),
         ("another in its 64th byte", holding(LONG), b"lock", LONG[:63] + b"!", -16, 43, holding(LONG)),
         ("a value that is no owner", foreign, b"lock", ME, -34, 17, foreign),
-        ("no room for an xattr", full, b"lock", ME, -28, 22, full),
+        ("beside 32 xattrs", full, b"lock", ME, 0, 22, Object(b"", {**XATTRS, b"lock": ME})),
         ("unlock: no owner", mine, b"unlock", b"", -22, 3, mine),
         ("unlock: an absent object", None, b"unlock", ME, -2, 14, None),
         ("unlock: nobody has had it", free, b"unlock", ME, -61, 14, free),

@@ -41,6 +41,8 @@ def rows():
     written = Object(b"text", {b"x": b"1", b"new": b"v"}, {b"k": b"2"})
     timed = Object(b"text", {b"x": b"1", b"time": b"time"}, {b"k": b"2"})
     many = lambda count: Object(b"", {b"%02d" % n: b"v" for n in range(count)})
+    headed = lambda count: Object(b"", many(count).xattrs, {b"head": b"v", b"header": b"v"})
+    more = Object(b"", {**many(100).xattrs, b"100": b"v"})
     return [
         ("a change of an absent object", None, "count", "count", b"", 1, number(1), counted),
         ("a read", text, "helpers", "read", number(1) + number(2), 2, b"ex", text),
@@ -68,7 +70,7 @@ def rows():
         ("rule set 3: two texts", text, "third", "order", b"\2ab".ljust(64, b"\0") + b"\2b", 1, b"", text),
         ("rule set 3: a value that is too long", text, "third", "set", b"x" * 4097, -27, b"", text),
         ("rule set 3: the longest value", text, "third", "set", b"x" * 4096, 0, b"", longest),
-        ("an object that is too long", Object(bytes(65537)), "helpers", "stat", b"", -27, b"", Object(bytes(65537))),
+        ("more data", Object(bytes(65537)), "helpers", "stat", b"", 65537, b"", Object(bytes(65537))),
         # the environment: its names, what can't be set, and that its entries count
         *((f"after {name}", text, "third", "next", name, len(after), after, text) for name, after in NAMES),
         ("the same bytes twice", text, "environment", "same", b"", 1, b"", text),
@@ -81,9 +83,13 @@ def rows():
         ("an object is made", None, "environment", "made", b"", 1, b"", Object(b"", {b"time": b"time"})),
         ("no object is made", text, "environment", "made", b"", 0, b"", timed),
         ("27 xattrs", many(27), "helpers", "getxattr", b"26", 1, b"v", many(27)),
-        ("a 28th, for the method", many(27), "helpers", "setxattr", setter(b"28"), -28, b"", many(27)),
-        ("a header as a 28th", many(27), "environment", "header", b"v", -28, b"", many(27)),
-        ("28 xattrs", many(28), "helpers", "getxattr", b"26", -7, b"", many(28)),
+        ("a 28th is set", many(27), "helpers", "setxattr", setter(b"27", b"v"), 0, b"", many(28)),
+        ("a header as a 28th", many(27), "environment", "header", b"v", 1, b"v", headed(27)),
+        ("28 xattrs", many(28), "helpers", "getxattr", b"26", 1, b"v", many(28)),
+        ("the time beside 28", many(28), "environment", "same", b"", 1, b"", many(28)),
+        ("the first of 100", many(100), "third", "next", b"\0version", 2, b"00", many(100)),
+        ("the last of 100", many(100), "third", "next", b"98", 2, b"99", many(100)),
+        ("a 101st is set", many(100), "helpers", "setxattr", setter(b"100", b"v"), 0, b"", more),
     ]
 
 
@@ -156,11 +162,12 @@ def try_stand_in(backend, tally, images, folder):
     for name in ("cut", "none", "a_link"):
         tally.want(f"a call of {name}", backend.call("o", "stat", cls=name), (-95, b""))
     for what, words, result in (
-        ("that needs data, behind another step", {"step": 1}, -114),
         ("of no client", {"kind": 4}, -87),
         ("by a number that is too large", {"number": 1 << 32}, -87),
     ):
         tally.want(f"a call {what}", backend.call("o", "stat", cls="helpers", **words), (result, b""))
+    found = backend.call("o", "read", number(0) + number(1), cls="helpers", step=1)
+    tally.want("a call that reads data, behind another step", found, (-114, b""))
     backend.call("o", "stat", cls="helpers")
     line = "10 helpers.stat: code 4, steps 2, bytes: input 0, output 0, edits 0"
     tally.want("the log of a call", backend.log, [line])
@@ -200,7 +207,8 @@ def try_environment(backend, tally, header_of, set_header):
     set_header("env", b"h" * 4096)
     tally.want("the longest header", entry(backend, "env", b"header"), b"h" * 4096)
     set_header("env", b"h" * 4097)
-    tally.want("a byte too many", entry(backend, "env", b"time"), -7)
+    tally.want("a byte too many", entry(backend, "env", b"header"), -7)
+    tally.want("the time beside it", len(entry(backend, "env", b"time")), 8)
     tally.want("where no xattr is asked for", backend.call("env", "stat", cls="helpers"), (4, b""))
     backend.put("env", None)
     data = setter(b"\0header", b"v")
@@ -228,6 +236,9 @@ def try_stood_in(backend, tally):
     lines = ["origin", "stat", "random 16", "create", "set xattr 74696d65"]
     steps = "10 environment.made: code 1, steps 42, bytes: input 0, output 0, edits 13"
     tally.want("its reads and changes", (backend.trace, backend.log), (lines, [steps]))
+    backend.put("o", Object(b"text", {b"x": b"1"}))
+    tally.want("made behind a removal", backend.call("o", "made", cls="environment", step=1, left=None), (1, b""))
+    tally.want("what it is then", backend.get("o"), Object(b"", {b"time": b"time"}))
     backend.put("o", None)
     tally.want("its header", entry(backend, "o", b"header", step=1, left=left), -61)
 
@@ -368,7 +379,8 @@ def try_coded(tally):
     coded = osd.Cluster(sys.argv[3], "coded")
     coded.put("o", Object(b"text", {b"x": b"1"}))
     tally.want("erasure-coded: an xattr", coded.call("o", "getxattr", b"x", cls="helpers"), (1, b"1"))
-    tally.want("erasure-coded: the length", coded.call("o", "stat", cls="helpers"), (-95, b""))
+    tally.want("erasure-coded: the length", coded.call("o", "stat", cls="helpers"), (4, b""))
+    tally.want("erasure-coded: data", coded.call("o", "read", number(0) + number(4), cls="helpers"), (-95, b""))
     tally.want("erasure-coded: a key", coded.call("o", "add", number(1), cls="counter"), (-95, b""))
     tally.want("erasure-coded: the time", len(entry(coded, "o", b"time")), 8)
     tally.want("erasure-coded: no header", entry(coded, "o", b"header"), -61)

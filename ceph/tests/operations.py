@@ -77,25 +77,26 @@ def operate(backend, steps):
     return operation.operate(), [result.value for result in operation.results]
 
 
-# What a method sees behind a step: the length by `stat`, whether the object is there by an exclusive `create`, and the
-# lengths of an xattr `x`, of a key `k` and of an entry of the call's environment. -114: there is data, which isn't read
+# What a method sees behind a step: the length by `stat`, data, whether the object is there by an exclusive `create`, and
+# the lengths of an xattr `x`, of a key `k` and of an entry of the call's environment. -114: there is data, which isn't read
 # there; -17: it is there; 0: it wasn't; -2: it isn't; -61: it has none of that name.
-SEES = [(b"stat", b""), (b"create", ONE), (b"getxattr", b"x"), (b"map_get", b"k"), (b"getxattr", b"\0time")]
+SEES = [(b"stat", b""), (b"read", bytes(8) + ONE), (b"create", ONE), (b"getxattr", b"x"), (b"map_get", b"k")]
+SEES.append((b"getxattr", b"\0time"))
 TEXT = Object(b"text", {b"x": b"1"}, {b"k": b"2"})
 STEPS = [
-    (None, ("create",), [0, -17, -61, -61, 8]),
-    (None, ("write_full", b"other"), [-114, -17, -61, -61, 8]),
-    (None, ("truncate", 2), [-2, 0, -2, -2, -2]),
-    (None, ("setxattr", b"x", b"12345"), [0, -17, -61, -61, 8]),
-    (None, ("omap_set", b"k", b"12345"), [0, -17, -61, -61, 8]),
-    (TEXT, ("create",), [-114, -17, 1, 1, 8]),
-    (TEXT, ("write_full", b"other"), [-114, -17, 1, 1, 8]),
-    (TEXT, ("write_full", b""), [0, -17, 1, 1, 8]),
-    (TEXT, ("truncate", 2), [-114, -17, 1, 1, 8]),
-    (TEXT, ("truncate", 0), [0, -17, 1, 1, 8]),
-    (TEXT, ("setxattr", b"x", b"12345"), [-114, -17, 1, 1, 8]),
-    (TEXT, ("omap_set", b"k", b"12345"), [-114, -17, 1, 1, 8]),
-    (TEXT, ("remove",), [-2, 0, -2, -2, -2]),
+    (None, ("create",), [0, 0, -17, -61, -61, 8]),
+    (None, ("write_full", b"other"), [5, -114, -17, -61, -61, 8]),
+    (None, ("truncate", 2), [-2, -2, 0, -2, -2, -2]),
+    (None, ("setxattr", b"x", b"12345"), [0, 0, -17, -61, -61, 8]),
+    (None, ("omap_set", b"k", b"12345"), [0, 0, -17, -61, -61, 8]),
+    (TEXT, ("create",), [4, -114, -17, 1, 1, 8]),
+    (TEXT, ("write_full", b"other"), [5, -114, -17, 1, 1, 8]),
+    (TEXT, ("write_full", b""), [0, 0, -17, 1, 1, 8]),
+    (TEXT, ("truncate", 2), [2, -114, -17, 1, 1, 8]),
+    (TEXT, ("truncate", 0), [0, 0, -17, 1, 1, 8]),
+    (TEXT, ("setxattr", b"x", b"12345"), [4, -114, -17, 1, 1, 8]),
+    (TEXT, ("omap_set", b"k", b"12345"), [4, -114, -17, 1, 1, 8]),
+    (TEXT, ("remove",), [-2, -2, 0, -2, -2, -2]),
 ]
 
 

@@ -20,7 +20,7 @@ sys.path.insert(0, here)
 import model  # noqa: E402
 
 STALLED = 300  # seconds, in which a test's next call is answered, also on a machine that others use
-REPLY_LIMIT = 64  # osd_max_write_op_reply_len, as it is shipped
+REPLY_LIMIT, OBJECT_LIMIT = 64, 128 << 20  # osd_max_write_op_reply_len and osd_max_object_size, as they are shipped
 SAME = object()  # what earlier steps left is what was before
 # Where the stand-in's calls come from, in an OSD's memory: type 3, a nonce, IPv4's family, port, address.
 SENDER = struct.pack("<IIH", 3, 123456, 2) + b"\0\7" + bytes((10, 1, 2, 3)) + bytes(8)
@@ -79,6 +79,8 @@ class StandIn:
         cls="bpf",
         step=0,
         limit=REPLY_LIMIT,
+        most=OBJECT_LIMIT,
+        size=0,
         kind=8,
         number=None,
         sender=SENDER,
@@ -88,10 +90,12 @@ class StandIn:
         left=SAME,
     ):
         """One call. Where it isn't the first step of its operation, `left` is what the earlier steps left: the object
-        with its classes and header.
+        with its classes and header. `most` is osd_max_object_size, and `size` the data's length as the OSD says it, if not
+        as it is.
         """
         caller = self.client if number is None else number
-        fields = self._sender(kind, caller, sender) + struct.pack("<IIIII", step, limit, failing, growth, new)
+        fields = self._sender(kind, caller, sender)
+        fields += struct.pack("<IIQQIII", step, limit, most, size, failing, growth, new)
         asked = self._call(cls, method, data, fields, self.whole(oid))
         if step:
             asked += self._object(self.whole(oid) if left is SAME else left)
@@ -119,7 +123,7 @@ class StandIn:
         """How many of such calls, made by threads at once, are answered other than by one alone. A call is the object,
         class, method and request.
         """
-        fields = self._sender(8, self.client, SENDER) + struct.pack("<IIIII", 0, REPLY_LIMIT, 0, 0, 0)
+        fields = self._sender(8, self.client, SENDER) + struct.pack("<IIQQIII", 0, REPLY_LIMIT, OBJECT_LIMIT, 0, 0, 0, 0)
         made = [self._call(cls, method, data, fields, self.whole(oid)) for oid, cls, method, data in calls]
         self._write(b"\1" + struct.pack("<III", threads, times, len(made)) + b"".join(made))
         return struct.unpack("<I", self._read(4))[0]
@@ -288,13 +292,18 @@ def some_object(chance):
         random_name(chance): chance.randbytes(chance.randrange(size)) for _ in range(chance.randrange(most))
     }
     whole = model.Object(chance.randbytes(chance.choice([0, 7, 64, 500, 4000])), pairs(5, 40), pairs(8, 40))
-    past = chance.random()  # now and then past a limit
+    past = chance.random()  # now and then large, or with what no call may meet
+    many = lambda *counts: {b"%04d" % n: b"v" for n in range(chance.choice(counts))}
     if past < 0.04:
-        whole.data = chance.randbytes(65537)
+        whole.data = chance.randbytes(chance.choice([8192, 65536, 65537, 300000]))
     elif past < 0.07:
-        whole.xattrs.update({b"%04d" % n: b"v" for n in range(33)})
+        whole.xattrs.update(many(26, 27, 28, 31, 32, 33, 40))
     elif past < 0.09:
-        whole.keys[b"k" * 65] = b"v"
+        whole.keys.update(many(16, 17, 100, 1024, 1025, 3000))
+    elif past < 0.11:
+        chance.choice([whole.xattrs, whole.keys])[chance.choice([b"a", b"d", b"k" * 65])] = chance.randbytes(4097)
+    elif past < 0.12:
+        chance.choice([whole.xattrs, whole.keys])[chance.choice([b"c", b"k"]) * 65] = b"v"
     return whole
 
 

@@ -1,6 +1,6 @@
 #!/usr/bin/env python3
 """The classes of examples/ceph in place of Ceph's own: random calls, each beside the model of examples/ceph/check.py;
-and the lock as Ceph's clients call it, librados and the command `rados`.
+and the lock as Ceph's clients call it, librados and the commands `rados` and `rbd`.
 
     ports.py IMAGES CONF CALLS
 
@@ -301,6 +301,42 @@ def try_rados(tally, conf, session):
     tally.want("rados lock info, of no locker", (found, names), ([0, "exclusive", "", []], []))
 
 
+def try_rbd(tally, conf, session):
+    """The command `rbd`: its own class is Ceph's, the lock of an image's header is ours."""
+
+    def rbd(*words):
+        whole = ["rbd", "-c", conf, "-p", "bpf", *words]
+        ended = subprocess.run(whole, stdout=subprocess.PIPE, stderr=subprocess.DEVNULL, timeout=300)
+        return ended.returncode, json.loads(ended.stdout) if "json" in words else None
+
+    def lockers(image):
+        return sorted((each["id"], each["locker"]) for each in rbd("lock", "ls", image, "--format", "json")[1])
+
+    image = ("--size", "4M", "--image-feature")
+    tally.want("rbd create", rbd("create", "told", *image, "layering")[0], 0)
+    tally.want("rbd lock ls, of none", lockers("told"), [])
+    tally.want("rbd lock add", rbd("lock", "add", "told", "mine")[0], 0)
+    tally.want("rbd lock add, of another session", rbd("lock", "add", "told", "mine")[0], 16)
+    [(cookie, locker)] = lockers("told")
+    tally.want("rbd lock ls", cookie, "mine")
+    header = "rbd_header." + rbd("info", "told", "--format", "json")[1]["id"]
+    value = session.get(header).xattrs[b"lock.rbd_lock"]
+    tally.want("the header's lock", [*check.read_lock(check.Decoder(value, 4000))[0]] != [], True)
+    tally.want("rbd lock rm", rbd("lock", "rm", "told", "mine", locker)[0], 0)
+    for cookie in "ab":
+        tally.want(f"rbd lock add, shared {cookie}", rbd("lock", "add", "--shared", "tag", "told", cookie)[0], 0)
+    tally.want("rbd lock ls, shared", [cookie for cookie, _ in lockers("told")], ["a", "b"])
+    # librbd takes this image's lock itself before it writes, and gives it back.
+    tally.want("rbd create, with an exclusive lock", rbd("create", "own", *image, "layering,exclusive-lock")[0], 0)
+    write = ("--io-type", "write", "--io-size", "4K", "--io-total", "64K")
+    tally.want("rbd bench", rbd("bench", "own", *write)[0], 0)
+    tally.want("rbd snap create", rbd("snap", "create", "own@one")[0], 0)
+    tally.want("it is unlocked", lockers("own"), [])
+    tally.want("rbd lock add, by hand", rbd("lock", "add", "own", "mine")[0], 0)
+    tally.want("rbd lock rm, by hand", rbd("lock", "rm", "own", *lockers("own")[0])[0], 0)
+    tally.want("rbd resize", rbd("resize", "own", "--size", "8M")[0], 0)
+
+
 def main(words):
     folder, conf, calls = words
     tally = osd.Tally("Ceph's classes in C, under their names")
@@ -309,6 +345,7 @@ def main(words):
     try_librados(tally, sessions)
     try_durations(tally, sessions)
     try_rados(tally, conf, sessions[0])
+    try_rbd(tally, conf, sessions[0])
     for session in sessions:
         session.close()
     tally.end()

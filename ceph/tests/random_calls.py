@@ -30,8 +30,7 @@ def random_input(chance, method, whole):
     name = chance.choice(names) if names and chance.random() < 0.6 else osd.random_name(chance)
     if chance.random() < 0.03:
         return chance.randbytes(chance.choice([0, 1, 9, 65, 5000]))
-    # No object of 65,536 bytes comes so: in hexadecimal it is too long for a word of a command. refusals.py has it.
-    place = chance.choice([0, 1, 64, 500, 3000, 65000, 65537, -1])
+    place = chance.choice([0, 1, 64, 500, 3000, 65000, 65537, 200000, -1])
     return {
         b"code": lambda: number(
             chance.choice([0, 5, -1, -11, -16, -115, -4095, -4096, 2**31 - 1, 2**31, -(2**63)])
@@ -103,7 +102,7 @@ class Caller:
         self.made += 1
         if steps:
             return
-        is_within = not expected.limits(before, expected.model.PARTS)
+        is_within = not expected.limits(before)
         if self.radoscls and is_within and not (way in expected.READS and held is None) and way != "native":
             self.beside(what, image, method, data, before, found, result, after)
 
@@ -152,20 +151,20 @@ class Caller:
         self.tally.want(f"the log of {what}", levels in (["10"], ["5"]), bool(is_asked))
         if found[0] < 0 or not method:
             return
-        parts, (whole, classes) = expected.model.parts_of(method), held or (None, {})
+        (whole, classes), caller = held or (None, {}), self.backend.number()
         left = steps.get("left")
         seen = expected.shown(whole, left and left[0]) if steps else whole
-        words = parts, seen, edits, classes, is_native, header
-        is_made = is_native and not seen and expected.asks_for_object(method, data, self.backend.number())
-        wanted = expected.trace(*words)
+        environment = self.environment(header) if is_native else None
+        is_made = is_native and not seen and expected.asks_for_object(method, data, caller)
+        wanted = expected.trace(method, data, seen, caller, bool(steps), edits, classes, environment, header)
         wanted[1:1] = ["random 16"] if is_made else []
         self.tally.want(f"reads and changes of {what}", trace, wanted)
         length = len(expected.model.spelled(edits[is_made is True :]))
         self.tally.want(f"edits of {what}", self.backend.log[0].rsplit(" ", 1)[1], str(length))
 
     def beside(self, what, image, method, data, before, found, result, after):
-        """The same call by `radoscls run`."""
-        if result == -61:
+        """The same call by `radoscls run`, where the limits of a flat form don't matter to it."""
+        if result == -61 or not expected.is_flat(image, method, data, before, self.backend.number()):
             return
         lines = run_lines(self.radoscls, image, method, data, before, self.backend.number())
         if result in (-38, -90) or lines[0].startswith("call"):

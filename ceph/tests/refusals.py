@@ -38,11 +38,7 @@ def rows(images):
     helpers, lock = images[b"helpers"], images[b"lock"]
     text, bare = Object(b"text", {b"x": b"1", b"bpfx": b"3"}, {b"k": b"2"}), Object()
     cut, loop, wild, long = lock[:40], looping(), wild_image(), large_image()
-    all_xattrs, all_keys, big = (
-        Object(b"", entries(32)),
-        Object(b"", {}, entries(1024)),
-        Object(b"", {b"n": bytes(4096)}),
-    )
+    big, long_value, long_name = Object(b"", {b"n": bytes(4096)}), {b"n": bytes(4097)}, {b"n" * 65: b"v"}
     no_lines = b"image refused: it has more than 65536 bytes"
     over = lambda **parts: Object(parts.get("data", b""), parts.get("xattrs", {}), parts.get("keys", {}))
     h = lambda method, data=b"": named(b"helpers", method, data)
@@ -95,20 +91,22 @@ def rows(images):
         ("unload: no bytes", text, "unload", b"", -22, b""),
         ("list: bytes", text, "list", b"x", -22, b""),
         ("no such method of the class bpf", text, "none", b"", -95, b""),
-        # the object's limits, tested before anything runs, of the parts that the method needs
-        ("65,537 bytes of data", over(data=bytes(65537)), "exec", h(b"stat"), -27, b""),
-        ("65,536 bytes of data", over(data=bytes(65536)), "exec", h(b"stat"), 0, frame(65536, 2)),
-        ("33 xattrs", over(xattrs=entries(33)), "exec", h(b"getxattr", b"0000"), -7, b""),
-        ("32 xattrs", all_xattrs, "exec", h(b"getxattr", b"0031"), 0, frame(1, 8, b"v")),
-        ("a 33rd, for the method", all_xattrs, "exec", h(b"setxattr", setter(b"new")), 0, frame(-28, 15)),
-        ("1,025 keys", over(keys=entries(1025)), "exec", h(b"map_get", b"0000"), -7, b""),
-        ("1,024 keys", all_keys, "exec", h(b"map_get", b"1023"), 0, frame(1, 8, b"v")),
-        ("a 1,025th, for the method", all_keys, "exec", h(b"map_set", setter(b"new")), 0, frame(-28, 15)),
-        ("an xattr's name of 65 bytes", over(xattrs={b"n" * 65: b"v"}), "exec", h(b"getxattr", b"x"), -7, b""),
-        ("an xattr of 4,097 bytes", over(xattrs={b"n": bytes(4097)}), "exec", h(b"getxattr", b"x"), -7, b""),
+        # what no call may meet, and what it may have beside it
+        ("65,537 bytes of data", over(data=bytes(65537)), "exec", h(b"stat"), 0, frame(65537, 2)),
+        ("33 xattrs", over(xattrs=entries(33)), "exec", h(b"getxattr", b"0032"), 0, frame(1, 8, b"v")),
+        ("1,025 keys", over(keys=entries(1025)), "exec", h(b"map_get", b"1024"), 0, frame(1, 8, b"v")),
         ("an xattr of 4,096 bytes", big, "exec", h(b"getxattr", b"n"), 0, frame(4096, 8, bytes(4096))),
-        ("a key of 65 bytes", over(keys={b"n" * 65: b"v"}), "exec", h(b"map_get", b"x"), -7, b""),
-        ("a value of 4,097 bytes", over(keys={b"n": bytes(4097)}), "exec", h(b"map_get", b"x"), -7, b""),
+        ("an xattr of 4,097 bytes", over(xattrs=long_value), "exec", h(b"getxattr", b"n"), -7, b""),
+        ("another beside it", over(xattrs=long_value), "exec", h(b"getxattr", b"x"), 0, frame(-61, 4)),
+        ("another beside a name of 65 bytes", over(xattrs=long_name), "exec", h(b"getxattr", b"x"), 0, frame(-61, 4)),
+        ("a key of 4,097 bytes", over(keys=long_value), "exec", h(b"map_get", b"n"), -7, b""),
+        ("that goes", over(keys=long_value), "exec", h(b"map_rm", b"n"), -7, b""),
+        ("another beside it", over(keys=long_value), "exec", h(b"map_get", b"x"), 0, frame(-61, 4)),
+        ("the keys from it on", over(keys=long_value), "exec", h(b"map_next"), -7, b""),
+        ("the keys above it", over(keys=long_value), "exec", h(b"map_next", b"n"), 0, frame(-61, 4)),
+        ("a key of 65 bytes", over(keys=long_name), "exec", h(b"map_next"), -7, b""),
+        ("one before it", over(keys={b"a": b"", **long_name}), "exec", h(b"map_next"), 0, frame(1, 8, b"a")),
+        ("another beside it", over(keys=long_name), "exec", h(b"map_get", b"x"), 0, frame(-61, 4)),
         # a removed xattr takes the whole object through the OSD's calls
         (
             "rmxattr beside 1,025 keys",
@@ -118,6 +116,7 @@ def rows(images):
             -7,
             b"",
         ),
+        ("rmxattr beside 32 other xattrs", over(xattrs={b"x": b"1", **entries(32)}), "exec", h(b"rmxattr", b"x"), -7, b""),
         (
             "rmxattr beside 65,537 bytes",
             over(data=bytes(65537), xattrs={b"x": b"1"}),
@@ -293,7 +292,10 @@ def try_stand_in(backend, tally, images):
         output = b"" if result < 0 else frame(0, 7, struct.pack("<Q", caller))
         tally.want(f"caller {kind} {caller}", found, (result, output))
     for way in ("exec", "query", "run", "see"):
-        tally.want(f"{way} of data as the 2nd step", backend.call("o", way, h(b"stat"), step=1), (-114, b""))
+        place = number(0) + number(1)
+        tally.want(f"{way} of data as the 2nd step", backend.call("o", way, h(b"read", place), step=1), (-114, b""))
+    tally.want("the length as the 2nd step", backend.call("o", "see", h(b"stat"), step=1), (4, b""))
+    tally.want("no data as the 2nd step", backend.call("o", "see", h(b"read", number(4) + number(1)), step=1), (0, b""))
     tally.want("an xattr is read as the 2nd step", backend.call("o", "see", h(b"getxattr", b"x"), step=1), (1, b"1"))
     tally.want("one goes as the 2nd step", backend.call("o", "exec", h(b"rmxattr", b"x"), step=1), (-114, b""))
     tally.want("one comes and goes as the 2nd", backend.call("o", "exec", h(b"scratch", b"n"), step=1), (-114, b""))
@@ -321,7 +323,7 @@ def try_failing(backend, tally, images, whole):
     """
     h = lambda method, data=b"": named(b"helpers", method, data)
     asked = [(b"mix", b"\0\1ababcb\1" + bytes(24)), (b"rmxattr", b"x"), (b"create", number(0)), (b"remove", b"")]
-    asked.append((b"map_rm", b"k"))
+    asked += [(b"map_rm", b"k"), (b"map_next", b""), (b"read", number(0) + number(4))]
     asked = [("exec", h(*each)) for each in asked]
     asked += [("unload", load_request(b"lock")), ("load", load_request(b"n", images[b"lock"])), ("list", b"")]
     asked += [

@@ -12,8 +12,8 @@
 //                       once; the answer is u32 how many were answered other than by one thread
 //     call:    bytes class, bytes method, bytes request, u8 the caller's type, u64 its number, bytes
 //              its address in the OSD's memory, u64 the time in nanoseconds, u64 the version, u32
-//              step of the operation, u32 osd_max_write_op_reply_len, and, of which 0 is none: u32
-//              which call of the OSD's fails, u32 which growth of the library's memory, u32 which
+//              step of the operation, u32 osd_max_write_op_reply_len, u64 osd_max_object_size, and, of which 0 is
+//              none: u64 the length of the data that the OSD says without having it, u32 which call of the OSD's fails, u32 which growth of the library's memory, u32 which
 //              `operator new` of the plug-in; the object as it was before the operation; and, if it isn't the
 //              first step, the object as the earlier steps left it
 //     object:  u8 0, or u8 1, bytes data, bytes omap header, and the xattrs and the omap: u32 count,
@@ -79,6 +79,7 @@ struct state {
     uint8_t drawn = 0; // random bytes
     unsigned step = 0, reply_limit = 0, failing = 0, calls = 0, refused_growth = 0, growths = 0;
     unsigned refused_new = 0, news = 0;
+    uint64_t object_limit = uint64_t(128) << 20, said_size = 0;
     std::string misuse, trace, log;
 };
 thread_local state now;
@@ -257,7 +258,7 @@ int cls_cxx_stat(cls_method_context_t, uint64_t *size, time_t *) {
         return -EIO;
     if (!now.left.present)
         return -ENOENT;
-    *size = now.left.data.size();
+    *size = now.said_size ? now.said_size : now.left.data.size();
     return 0;
 }
 
@@ -265,6 +266,8 @@ int cls_cxx_read(cls_method_context_t, int at, int length, ceph::bufferlist *to)
     outside here;
     if (length <= 0)
         blame("a read of no bytes, which an OSD takes for all");
+    if (at < 0)
+        blame("a read from a place that the OSD's calls don't reach");
     if (now.step)
         blame("data is read behind another step, which can lose the object");
     if (reads("read " + std::to_string(at) + " " + std::to_string(length)))
@@ -291,6 +294,15 @@ int cls_cxx_getxattrs(cls_method_context_t, std::map<std::string, ceph::bufferli
     return 0;
 }
 
+// Of an object that isn't there as of a key that isn't.
+int cls_cxx_map_get_val(cls_method_context_t, const std::string &key, ceph::bufferlist *to) {
+    outside here;
+    if (reads("key " + hex(key)))
+        return -EIO;
+    int result = get(now.before.omap, key, to);
+    return result < 0 ? -ENOENT : 0;
+}
+
 int cls_cxx_map_get_vals(cls_method_context_t, const std::string &from, const std::string &, uint64_t most,
                          std::map<std::string, ceph::bufferlist> *all, bool *more) {
     outside here;
@@ -299,7 +311,8 @@ int cls_cxx_map_get_vals(cls_method_context_t, const std::string &from, const st
     // Of an object that an earlier step made: after a step that set a key another answer than after others.
     if (!now.before.present && (!now.left.present || !now.left.omap.empty()))
         return -ENOENT;
-    auto at = from.empty() ? now.before.omap.begin() : now.before.omap.upper_bound(from);
+    // A key without bytes is never listed.
+    auto at = now.before.omap.upper_bound(from);
     for (; at != now.before.omap.end() && all->size() < most; ++at)
         give(&(*all)[at->first], at->second);
     *more = at != now.before.omap.end();
@@ -326,6 +339,8 @@ int cls_cxx_create(cls_method_context_t, bool exclusive) {
 
 int cls_cxx_remove(cls_method_context_t) {
     outside here;
+    if (now.trace.find("remove\n") != std::string::npos)
+        blame("a second removal in an operation, at which an OSD forgets the first one");
     if (changes("remove"))
         return -EIO;
     if (!now.after.present)
@@ -340,6 +355,8 @@ int cls_cxx_write(cls_method_context_t, int at, int length, ceph::bufferlist *fr
         return -EIO;
     if (from->length() != unsigned(length) || !length)
         blame("a write of another length, or of none");
+    if (at < 0 || uint64_t(at) + uint64_t(length) > now.object_limit)
+        return -EFBIG;
     now.after.present = true;
     if (now.after.data.size() < size_t(at + length))
         now.after.data.resize(at + length);
@@ -353,6 +370,8 @@ int cls_cxx_truncate(cls_method_context_t, int size) {
         return -EIO;
     if (!now.after.present)
         return -ENOENT;
+    if (size < 0 || uint64_t(size) > now.object_limit)
+        return -EFBIG;
     now.after.data.resize(size);
     return 0;
 }
@@ -407,6 +426,8 @@ namespace ceph {
 namespace common {
 template <> const Option::size_t ConfigProxy::get_val<Option::size_t>(std::string_view key) const {
     outside here;
+    if (key == "osd_max_object_size")
+        return {now.object_limit};
     if (key != "osd_max_write_op_reply_len")
         blame("a setting that the OSD doesn't have");
     return {now.reply_limit};
@@ -495,6 +516,8 @@ one_call get_call() {
     made.with.version = get_number(8);
     made.with.step = unsigned(get_number(4));
     made.with.reply_limit = unsigned(get_number(4));
+    made.with.object_limit = get_number(8);
+    made.with.said_size = get_number(8);
     made.with.failing = unsigned(get_number(4));
     made.with.refused_growth = unsigned(get_number(4));
     made.with.refused_new = unsigned(get_number(4));

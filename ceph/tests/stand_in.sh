@@ -27,7 +27,7 @@ flags=(-std=c++17 -g1 -O0 -fPIC -Wall -Wextra -Werror "-fsanitize=$sanitizers" -
     "-I$SILLARNICA_INCLUDE" "${of_objects[@]}")
 
 jobs=()
-for file in "$plugin"/{engine,classes,native,bpf,call,edits,object,environment,sum,stub} \
+for file in "$plugin"/{engine,classes,native,bpf,call,part,edits,object,environment,sum,stub} \
     "${programs[@]/#/$plugin/../tests/}"; do
     object=$out/$(basename "$file").o
     is_old=
@@ -41,7 +41,7 @@ done
 for job in "${jobs[@]}"; do wait "$job"; done
 
 $compiler -shared "-fsanitize=$sanitizers" -o "$classes/sillarnica_engine.so" \
-    "$out"/{engine,classes,native,bpf,call,edits,object,environment,sum}.o "$SILLARNICA_ARCHIVE" "$SILLARNICA_LIBC" \
+    "$out"/{engine,classes,native,bpf,call,part,edits,object,environment,sum}.o "$SILLARNICA_ARCHIVE" "$SILLARNICA_LIBC" \
     -Wl,--wrap=malloc,--wrap=realloc,--wrap=clock_gettime -Wl,-soname,sillarnica_engine.so \
     -Wl,--version-script="$plugin/engine.map"
 $compiler -shared "-fsanitize=$sanitizers" -o "$classes/libcls_bpf.so" "$out/stub.o" "$classes/sillarnica_engine.so" \

@@ -96,10 +96,11 @@ INLINE struct pair next(struct operation *o)
     return p;
 }
 
-METHOD(cmp_rm_keys, rw, IN_CAP, 0)
+/* Sets or removes the keys of which the comparison holds; only a set one is compared with the other value. */
+INLINE s64 change(const u8 *in, u64 in_len, int sets)
 {
     struct operation o;
-    s64 error = begin(&o, in, in_len, 0);
+    s64 error = begin(&o, in, in_len, sets);
     if (error)
         return error;
     UNROLL for (int i = 0; i < KEYS; i++)
@@ -108,7 +109,8 @@ METHOD(cmp_rm_keys, rw, IN_CAP, 0)
             if (p.result < 0 && p.result != -ENODATA && p.result != -EIO)
                 return p.result;
             if (p.result > 0) {
-                s64 done = cls_map_rm(in + p.key.at, p.key.length);
+                s64 done = sets ? cls_map_set(in + p.key.at, p.key.length, in + p.value.at, p.value.length)
+                                : cls_map_rm(in + p.key.at, p.key.length);
                 if (done < 0)
                     return done;
             }
@@ -116,24 +118,14 @@ METHOD(cmp_rm_keys, rw, IN_CAP, 0)
     return 0;
 }
 
+METHOD(cmp_rm_keys, rw, IN_CAP, 0)
+{
+    return change(in, in_len, 0);
+}
+
 METHOD(cmp_set_vals, rw, IN_CAP, 0)
 {
-    struct operation o;
-    s64 error = begin(&o, in, in_len, 1);
-    if (error)
-        return error;
-    UNROLL for (int i = 0; i < KEYS; i++)
-        if (i < (int)o.count) {
-            struct pair p = next(&o);
-            if (p.result < 0 && p.result != -ENODATA && p.result != -EIO)
-                return p.result;
-            if (p.result > 0) {
-                s64 done = cls_map_set(in + p.key.at, p.key.length, in + p.value.at, p.value.length);
-                if (done < 0)
-                    return done;
-            }
-        }
-    return 0;
+    return change(in, in_len, 1);
 }
 
 METHOD(cmp_vals, r, IN_CAP, 0)
