@@ -44,6 +44,13 @@ typedef long long s64;
 
 #include "errno.h"
 
+/* Of C's library: clang writes them out for a small constant length, and no other way. cls_copy takes any length. */
+void *memcpy(void *to, const void *from, unsigned long length);
+void *memmove(void *to, const void *from, unsigned long length);
+void *memset(void *to, int byte, unsigned long length);
+int memcmp(const void *a, const void *b, unsigned long length);
+unsigned long strlen(const char *text);
+
 /* Two sections have what radoscls-cc wants to know: caps.NAME and method.NAME. */
 #define METHOD_IS(name, flags, in_cap, out_cap)                                                                           \
     static const u16 caps_##name[3] __attribute__((section("caps." #name), used)) = {flags, in_cap, out_cap};             \
@@ -55,6 +62,7 @@ typedef long long s64;
 #else
 
 #include <errno.h>
+#include <string.h>
 
 struct native_method {
     const char *name;
@@ -81,8 +89,8 @@ s64 native_call(const char *name, u64 by, const void *input, u64 in_len, void *o
    Names and keys have 1 to 64 bytes, values at most 4096, an object's data at most 65536. `room` is how much may be written.
    ENOENT: no object. ENODATA: no such xattr or key. ERANGE: longer than the room. */
 HELPER(1, cls_stat, void)                                                     /* the length of the data */
-HELPER(2, cls_read, u64 place, void *to, u64 room)                            /* how many bytes there were from place on */
-HELPER(3, cls_write, u64 place, const void *bytes, u64 length)                /* length; makes the object */
+HELPER(2, cls_read, u64 offset, void *to, u64 room)                           /* how many bytes there were from offset on */
+HELPER(3, cls_write, u64 offset, const void *bytes, u64 length)               /* length; makes the object */
 HELPER(4, cls_truncate, u64 length)                                           /* 0; cuts the data, or extends it by zeros */
 HELPER(5, cls_remove, void)                                                   /* 0; the object is gone */
 HELPER(6, cls_getxattr, const void *name, u64 length, void *to, u64 room)     /* the value's length */
@@ -148,6 +156,39 @@ INLINE u64 is_made(void) { return cls_getxattr("\0made", 5, "", 0) == 0; }
         OPAQUE(x);                                                                                                        \
         (x) &= (mask);                                                                                                    \
     } while (0)
+
+/* What BPF has no instructions for, and clang can't make of others. */
+
+/* a / b and a % b of signed numbers, toward zero. A quotient by 0 is 0, and the rest then a. */
+INLINE s64 signed_quotient(s64 a, s64 b)
+{
+    u64 size = b < 0 ? -(u64)b : b;
+    u64 q = size ? (a < 0 ? -(u64)a : a) / size : 0;
+    return (a < 0) == (b < 0) ? q : -q;
+}
+INLINE s64 signed_rest(s64 a, s64 b) { return (u64)a - (u64)signed_quotient(a, b) * b; }
+
+/* How many zeros stand above the highest one of a number's 64 bits, and below the lowest one: 64 of 0. */
+INLINE u64 leading_zeros(u64 x)
+{
+    UNROLL for (int i = 1; i < 64; i *= 2) x |= x >> i;
+    OPAQUE(x);
+    return 64 - __builtin_popcountll(x);
+}
+INLINE u64 trailing_zeros(u64 x)
+{
+    u64 below = x - 1;
+    OPAQUE(below);
+    return __builtin_popcountll(below & ~x);
+}
+
+/* The upper 64 bits of a product: 0 if it has no more than 64. */
+INLINE u64 high_product(u64 a, u64 b)
+{
+    u64 low_a = a & 0xffffffff, low_b = b & 0xffffffff, cross = (a >> 32) * low_b;
+    u64 middle = (low_a * low_b >> 32) + (cross & 0xffffffff) + low_a * (b >> 32);
+    return (a >> 32) * (b >> 32) + (cross >> 32) + (middle >> 32);
+}
 
 /* A word at a place, whatever the place: methods' code has no alignment. clang doesn't know that, and would take bytes. */
 #ifdef __bpf__
