@@ -15,7 +15,7 @@
 enum { PLACE = 1 << 24, BEFORE = 64, BEHIND = 16 };
 struct call { struct slice image, method, object, input; uint64_t caller; };
 struct found { int32_t result; struct sillarnica_refusal why; struct sillarnica_answer said; size_t room; };
-enum { FORM = FIELDS, OUT, TEXT, KEPT, PLACES };
+enum { FORM = FIELDS, OUT, TEXT, KEPT, SAID, PLACES };
 
 static uint8_t *ends[PLACES]; /* of memory; behind each is none */
 static struct class_of class;
@@ -126,7 +126,7 @@ static int is_same(const struct found *first, const struct found *f) {
 /* ---- what it should answer */
 
 static const char *const ERRORS[] = { "", "Truncated", "Magic", "Opcode", "Register", "NonzeroField", "WideHalf", "Name", "Order", "Flags",
-	"Limit", "Trailing" };
+	"Limit", "Trailing", "NoMemory", "Head" };
 static const char *const RULES[] = { "", "Backward", "Target", "FallsOff", "LocalCall", "UnsetRead", "WritesR10", "PointerArithmetic",
 	"PointerCompare", "PointerStored", "Bounds", "ReadOnlyRegion", "UnknownHelper", "HelperArgument", "WriteHelperInReader",
 	"ReturnsPointer", "NoMemory", "PointerBytes" };
@@ -323,6 +323,106 @@ static void on_parts(const struct call *c, const struct found *first, const stru
 	want(is_same(first, &f), "another answer on the parts alone, or for another client");
 }
 
+/* ---- calls on parts */
+
+struct part_found { struct found of; struct sillarnica_want want; };
+
+/* Makes the call, and looks at what it wrote. */
+static struct part_found ask_part(const struct call *c, struct sillarnica_verified *held, const struct sillarnica_limits *limits, size_t room) {
+	struct part_found f;
+	uint8_t *out = ends[OUT] - room;
+	memset(&f, 0xa5, sizeof f), memset(out - BEFORE, 0x5a, room + BEFORE);
+	f.of.room = room, fresh = (uint8_t)~fresh;
+	f.of.result = INSIDE(sillarnica_verified_call_part(held, c->method.at, c->method.len, c->object.at, c->object.len, c->caller, limits,
+		c->input.at, c->input.len, &f.of.said, &f.want, out, room));
+	size_t used = f.of.result == 0 ? f.of.said.output_len + f.of.said.edits_len : 0;
+	want(used <= room && is_filled(out + used, 0x5a, room - used), "of a part: the rest of the buffer changed");
+	want(is_filled(out - BEFORE, 0x5a, BEFORE), "of a part: what is before the buffer changed");
+	if (f.of.result != 0 && f.of.result != -34) want(is_filled(&f.of.said, 0xa5, sizeof f.of.said), "of a part: the answer changed");
+	if (f.of.result != -11) return want(is_filled(&f.want, 0xa5, sizeof f.want), "of a part: the want changed"), f;
+	want(f.want.length >= 3 && f.want.length <= sizeof f.want.bytes, "the length of a need");
+	want(is_filled(f.want.bytes + f.want.length, 0xa5, sizeof f.want.bytes - f.want.length), "the rest of the want changed");
+	return f;
+}
+
+static int is_same_part(const struct part_found *a, const struct part_found *b) {
+	return a->of.result == b->of.result && !memcmp(&a->of.said, &b->of.said, sizeof a->of.said) && !memcmp(&a->want, &b->want, sizeof a->want);
+}
+
+static int are_limits(const struct sillarnica_limits *l) {
+	return !(l->bytes >> 63) && l->xattr_name >= 1 && l->xattr_name <= NAME && l->key_name >= 1 && l->key_name <= NAME;
+}
+
+/* With whatever is handed in as part and limits. */
+static void on_any_part(const struct call *c, struct sillarnica_verified *held, const struct method *m, struct sillarnica_limits limits, size_t room) {
+	int counted = (limits.xattrs != SILLARNICA_ANY_NUMBER) + 2 * (limits.keys != SILLARNICA_ANY_NUMBER);
+	int refused = c->caller >> 32 || !are_limits(&limits) || !is_part(c->object, counted);
+	int wants = !m ? -95 : c->input.len > m->in_cap ? -7 : refused ? -22 : 0;
+	struct part_found f = ask_part(c, held, &limits, room), again;
+	if (wants) want(f.of.result == wants, "the number of a refused call on a part");
+	else want(f.of.result == 0 || f.of.result == -34 || f.of.result == -11 || f.of.result == -28, "the number of a call on a part");
+	if (f.of.result == -34) {
+		size_t used = f.of.said.output_len + f.of.said.edits_len;
+		if (used >= PLACE / 2) return;
+		f = ask_part(c, held, &limits, used), want(f.of.result == 0, "a call on a part again, with more room");
+	}
+	if (f.of.result == 0) memcpy(ends[SAID] - f.of.room, ends[OUT] - f.of.room, f.of.room);
+	again = ask_part(c, held, &limits, f.of.room);
+	want(is_same_part(&f, &again), "the same call on a part again");
+	want(f.of.result || !memcmp(ends[SAID] - f.of.room, ends[OUT] - f.of.room, f.of.room), "its bytes");
+}
+
+/* By rounds, from what is known: the answer on the whole object, after no more needs than the method's calls allow. In one of the
+ * rounds memory is refused. */
+static void by_rounds(const struct call *c, struct sillarnica_verified *held, const struct found *first, struct known *known,
+	const struct sillarnica_limits *limits, unsigned most, long number) {
+	struct call other = *c;
+	for (unsigned rounds = 0;; rounds++) {
+		struct slice part = { ends[FORM] - PLACE / 2, write_part(&before, known, ends[FORM] - PLACE / 2) };
+		other.object = placed(FORM, part);
+		long had = granted;
+		struct part_found f = ask_part(&other, held, limits, first->room), refused;
+		if (rounds == (unsigned)number % (most + 1)) {
+			refuse(number, had), refused = ask_part(&other, held, limits, first->room), growths = -1;
+			want(refused.of.result == -12 || is_same_part(&refused, &f), "an answer on a part where memory is refused");
+			f = ask_part(&other, held, limits, first->room);
+		}
+		if (f.of.result != -11) return want(is_same(first, &f.of), "another answer by rounds");
+		struct slice need = { f.want.bytes, f.want.length };
+		want(rounds < most, "more needs than calls of helpers");
+		want(learn(known, &before, need), "a need of what was known, or isn't there");
+	}
+}
+
+/* Calls on parts, by a handle of its own; by rounds where there is an answer on the whole object, as `first` is it. */
+static void on_parts_by_rounds(const struct call *c, const struct found *first, const struct method *m, struct slice chosen, size_t room) {
+	static struct known known;
+	struct sillarnica_limits limits = { UINT64_C(1) << 31, SILLARNICA_ANY_NUMBER, SILLARNICA_ANY_NUMBER, NAME, NAME };
+	struct sillarnica_limits whole = { DATA, XATTRS, KEYS, NAME, NAME }, any = { DATA, SILLARNICA_ANY_NUMBER, SILLARNICA_ANY_NUMBER, NAME, NAME };
+	struct sillarnica_verified held;
+	struct sillarnica_refusal why;
+	struct slice none = { NULL, 0 };
+	if (chosen.len) memcpy(&limits, chosen.at, chosen.len < sizeof limits ? chosen.len : sizeof limits);
+	want(INSIDE(sillarnica_verified_open(c->image.at, c->image.len, &why, &held)) == 0, "a handle for parts");
+	on_any_part(c, &held, m, limits, room);
+	if (first->result == 0) {
+		unsigned calls = 0;
+		for (unsigned i = 0; i < m->slots; i += is_wide(m->code + 8 * i) ? 2 : 1) calls += m->code[8 * i] == 0x85;
+		long number = chosen.len ? chosen.at[0] : 0;
+		/* nothing is known; or all, and then nothing is needed; or names alone */
+		memset(&known, 0, sizeof known);
+		if (before.parts[0].count + calls <= XATTRS && before.parts[1].count + calls <= KEYS)
+			by_rounds(c, &held, first, &known, &any, 2 * calls, number);
+		memset(&known, 0, sizeof known), memset(known.blocks, 1, sizeof known.blocks);
+		learn_names(&known, 0, none, none), learn_names(&known, 1, none, none);
+		by_rounds(c, &held, first, &known, &whole, 0, number);
+		memset(known.blocks, 0, sizeof known.blocks);
+		by_rounds(c, &held, first, &known, &whole, calls, number);
+	}
+	is_inside = 1, sillarnica_verified_close(&held), is_inside = 0;
+	want(ask_part(c, &held, &limits, room).of.result == -9, "a closed handle for parts");
+}
+
 int LLVMFuzzerInitialize(int *count, char ***words);
 int LLVMFuzzerTestOneInput(const uint8_t *at, size_t len);
 
@@ -373,6 +473,9 @@ int LLVMFuzzerTestOneInput(const uint8_t *at, size_t len) {
 	struct found again = ask(&c, NULL, first.room);
 	want(is_same(&first, &again), "the same call again");
 	by_handle(&c, &first, result, &why, room);
+	struct slice chosen = { NULL, 0 };
+	if (cut.fields[CHOICES].len > 7) chosen.at = cut.fields[CHOICES].at + 7, chosen.len = cut.fields[CHOICES].len - 7;
+	if (result == 0) on_parts_by_rounds(&c, &first, m, chosen, room);
 	with_refused_memory(&c, &first, result, m, (long)number_at(choices + 4, 2));
 	want(held_memory == 0, "the library kept memory");
 	return 0;

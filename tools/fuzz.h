@@ -1,10 +1,11 @@
-/* Of the files of the fuzzer: fuzz.c makes calls, fuzz_change.c changes them, fuzz_model.c and fuzz_machine.c say what the pages
- * say of them, in plain C after docs/IMAGE.md, docs/MACHINE.md, docs/ASSEMBLY.md and the header, with nothing of the library's. Of
- * the verifier they have rules 1 to 4 alone. */
+/* Of the files of the fuzzer: fuzz.c makes calls, fuzz_change.c changes them, fuzz_model.c, fuzz_machine.c and fuzz_parts.c say what
+ * the pages say of them, in plain C after docs/IMAGE.md, docs/MACHINE.md, docs/ASSEMBLY.md and the header, with nothing of the
+ * library's. Of the verifier they have rules 1 to 4 alone. */
 #include <stddef.h>
 #include <stdint.h>
 
-enum { METHODS = 32, DATA = 65536, XATTRS = 32, KEYS = 1024, NAME = 64, VALUE = 4096, CAPACITY = 65535, STACK = 512, LAYOUTS = 12, LISTED = 1 << 22 };
+enum { METHODS = 32, DATA = 65536, XATTRS = 32, KEYS = 1024, NAME = 64, VALUE = 4096, CAPACITY = 65535, STACK = 512, LAYOUTS = 12, LISTED = 1 << 22,
+	INTERVALS = 1025 };
 
 struct slice { const uint8_t *at; size_t len; };
 
@@ -14,7 +15,8 @@ enum { IMAGE, METHOD, OBJECT, CALLER, INPUT, CHOICES, FIELDS };
 struct cut_input { struct slice fields[FIELDS]; };
 struct cut_input cut_input(struct slice from);
 
-struct method { struct slice name; unsigned flags, in_cap, out_cap, slots; const uint8_t *code; };
+/* In rule set 3 its loops have so many bytes behind its code. */
+struct method { struct slice name; unsigned flags, in_cap, out_cap, slots; const uint8_t *code; size_t loops; };
 struct class_of { unsigned rules, count; struct method methods[METHODS]; };
 struct entry { struct slice name, value; };
 struct part { size_t count; struct entry at[KEYS]; };
@@ -66,3 +68,14 @@ int make_edits(struct object *o, struct slice edits);
 /* Runs a method on an object, in one of so many layouts. NULL; or why the run is stuck, so that the method isn't safe. */
 const char *run_method(const struct method *m, struct object *o, uint32_t caller, struct slice input, unsigned layout,
 	struct outcome *to);
+
+/* Whether bytes are a part; which has all xattrs if `counted` has 1, and all keys if it has 2. */
+int is_part(struct slice bytes, int counted);
+/* What a host knows of an object: blocks, and intervals of xattrs and keys, in order and apart; `high` of length 0 is the end. */
+struct interval { uint8_t low[NAME + 2], high[NAME + 2]; size_t low_len, high_len; };
+struct known { uint8_t blocks[256]; size_t count[2]; struct interval intervals[2][INTERVALS]; };
+void learn_names(struct known *k, int kind, struct slice low, struct slice high);
+/* Fetches what a need names: whether it is a need, of what the object has and wasn't known. */
+int learn(struct known *k, const struct object *o, struct slice need);
+/* Writes the part that says what is known, and gives its length. */
+size_t write_part(const struct object *o, const struct known *k, uint8_t *to);

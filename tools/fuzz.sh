@@ -6,7 +6,7 @@
 # SECONDS is 60 if it isn't given: for so long both run side by side, after some 20 seconds in which they are built. ARCHIVE and
 # RADOSCLS are what tools/embed.sh takes.
 #
-# - tools/fuzz.c makes calls in C of whatever images, objects and inputs, beside a model of its own (tools/fuzz_machine.c), and
+# - tools/fuzz.c makes calls in C of whatever images, objects, parts and inputs, beside a model of its own (tools/fuzz_machine.c), and
 #   learns of each input what code of the library it ran (tools/fuzz_blocks.c);
 # - ceph/tests/fuzz.cc makes calls of the plug-in, over the stand-in of an OSD. It is left out without Debian's packages of Ceph.
 #
@@ -35,7 +35,7 @@ has_fuzzer() {
 build_library() {
     "$top/tools/library.sh" "$work/library" "$archive" &&
         clang "${flags[@]}" -fsanitize=fuzzer -no-pie -I "$work/library" -Wl,--wrap=malloc,--wrap=realloc,--wrap=free,-Map="$work/map" \
-            "$top"/tools/fuzz{,_blocks,_change,_machine,_model}.c "$work/library/libsillarnica.a" -o "$work/library/fuzz" &&
+            "$top"/tools/fuzz{,_blocks,_change,_machine,_model,_parts}.c "$work/library/libsillarnica.a" -o "$work/library/fuzz" &&
         python3 "$top/tools/fuzz_blocks.py" "$work/library/fuzz" "$work/map" libsillarnica.a > "$work/blocks"
 }
 

@@ -142,7 +142,7 @@ static void change_declaration(uint8_t *code) {
 	else code[-4] = (uint8_t)capacity, code[-3] = (uint8_t)(capacity >> 8 & (chance(4) ? 31 : 255));
 }
 
-/* Gives an image another rule set. In set 3 the number of heads, 0, stands behind each method's code. */
+/* Gives an image another rule set. In set 3 a method's loops stand behind its code: their number, 0, where it has none. */
 static void change_rules(const struct class_of *class) {
 	unsigned rules = 1 + (class->rules + chance(2)) % 3;
 	uint8_t *image = fields[IMAGE];
@@ -154,11 +154,38 @@ static void change_rules(const struct class_of *class) {
 			memmove(behind + 2, behind, (size_t)(end - behind));
 			behind[0] = behind[1] = 0, lengths[IMAGE] += 2;
 		} else {
-			memmove(behind, behind + 2, (size_t)(end - behind) - 2);
-			lengths[IMAGE] -= 2;
+			memmove(behind, behind + m->loops, (size_t)(end - behind) - m->loops);
+			lengths[IMAGE] -= m->loops;
 		}
 	}
 	image[3] = (uint8_t)('0' + rules);
+}
+
+static void put_number(uint8_t **to, size_t n, int bytes) {
+	for (; bytes; bytes--, n >>= 8) *(*to)++ = (uint8_t)n;
+}
+
+/* Gives a method of rule set 3 other loops: none, or one head or two with a place or two. */
+static void change_loops(const struct method *m) {
+	static const unsigned budgets[] = { 1, 64, 1000, 1048576, 0, 1048577 };
+	uint8_t loops[96], *to = loops, *behind = fields[IMAGE] + (m->code - fields[IMAGE]) + 8 * m->slots, *end = fields[IMAGE] + lengths[IMAGE];
+	unsigned heads = chance(3), slot = chance(m->slots + 1);
+	put_number(&to, heads, 2);
+	if (heads) put_number(&to, budgets[chance(chance(4) ? 4 : 6)], 4);
+	for (; heads; heads--, slot += chance(3)) {
+		unsigned places = chance(3), number = chance(12);
+		put_number(&to, slot, 2), put_number(&to, places, 1);
+		for (; places; places--, number += chance(70)) {
+			unsigned kind = chance(chance(8) ? 7 : 8);
+			put_number(&to, number, 1), put_number(&to, kind, 1);
+			if (kind > 1 && kind < 7) put_number(&to, chance(20), 8), put_number(&to, (size_t)0 - chance(2) + chance(20), 8);
+		}
+	}
+	size_t len = (size_t)(to - loops);
+	if (lengths[IMAGE] - m->loops + len > LONGEST) return;
+	memmove(behind + len, behind + m->loops, (size_t)(end - behind) - m->loops);
+	memcpy(behind, loops, len);
+	lengths[IMAGE] = lengths[IMAGE] - m->loops + len;
 }
 
 static void new_image(void) {
@@ -187,7 +214,7 @@ static void change_image(void) {
 	unsigned at = chance(m->slots), cut = 1 + chance(m->slots - at < 4 ? m->slots - at : 4);
 	/* the method that is called is mostly the one that is changed */
 	if (chance(4)) memcpy(fields[METHOD], m->name.at, m->name.len), lengths[METHOD] = m->name.len;
-	switch (chance(9)) {
+	switch (chance(10)) {
 	case 0: add_some(&c), put_slots(code, m->slots, at, 0, &c); break;
 	case 1: add_some(&c), put_slots(code, m->slots, at, cut, &c); break;
 	case 2: add_arithmetic(&c, chance(11), chance(11)), put_slots(code, m->slots, at, chance(2), &c); break;
@@ -195,6 +222,7 @@ static void change_image(void) {
 	case 4: make_code(&c), put_slots(code, m->slots, 0, m->slots, &c); break;
 	case 5: change_declaration(code); break;
 	case 6: change_rules(&class); break;
+	case 7: if (class.rules == 3) change_loops(m); break;
 	default: change_slot(code + 8 * at);
 	}
 }
@@ -224,14 +252,44 @@ static void new_object(void) {
 	lengths[OBJECT] = (size_t)(p - fields[OBJECT]);
 }
 
+/* A part, of a few blocks and names. */
+static void new_part(void) {
+	static const unsigned lengths_of_data[] = { 0, 1, 500, 4095, 4096, 4097, 9000 };
+	unsigned size = lengths_of_data[chance(7)], blocks = 0;
+	uint8_t *p = fields[OBJECT], *count;
+	*p++ = 1;
+	for (int i = 0; i < 8; i++) *p++ = (uint8_t)(i < 4 ? size >> (8 * i) : 0);
+	count = p, memset(p, 0, 4), p += 4;
+	for (unsigned b = 0; b * 4096 < size; b++) {
+		unsigned length = size - b * 4096 < 4096 ? size - b * 4096 : 4096;
+		if (chance(2)) continue;
+		*p++ = (uint8_t)b, memset(p, 0, 7), p += 7, memset(p, (int)chance(256), length), p += length, blocks++;
+	}
+	*count = (uint8_t)blocks;
+	for (int i = 0; i < 2; i++) {
+		/* all names, none, or those from one letter to below another, some of which are entries */
+		unsigned kind = chance(3), entries = kind ? chance(3) : 0;
+		*p++ = kind != 0, *p++ = 0;
+		if (kind == 1) memset(p, 0, 4), p += 4;
+		if (kind == 2) *p++ = 1, *p++ = 0, *p++ = 'a', *p++ = 1, *p++ = 0, *p++ = (uint8_t)('b' + chance(8));
+		*p++ = (uint8_t)entries, *p++ = 0;
+		for (unsigned n = 0; n < entries; n++) *p++ = 1, *p++ = 0, *p++ = (uint8_t)('a' + n), some_bytes(&p, 2, chance(9));
+	}
+	lengths[OBJECT] = (size_t)(p - fields[OBJECT]);
+}
+
 static void change_object(void) {
 	if (chance(2)) new_object();
+	else if (chance(2)) new_part();
 	else if (chance(4)) lengths[OBJECT] = LLVMFuzzerMutate(fields[OBJECT], lengths[OBJECT], LONGEST);
 	else fields[OBJECT][0] = 0, lengths[OBJECT] = 1;
 }
 
 static void change_choices(void) {
-	lengths[CHOICES] = 7;
+	static const uint8_t limits[24] = { 0, 0, 0, 128, 0, 0, 0, 0, 255, 255, 255, 255, 255, 255, 255, 255, 64, 0, 0, 0, 64 };
+	if (lengths[CHOICES] < 31) memcpy(fields[CHOICES] + 7, limits, 24);
+	if (chance(2)) fields[CHOICES][7 + chance(24)] = (uint8_t)(chance(2) ? chance(70) : chance(256));
+	lengths[CHOICES] = 31;
 	for (int i = 0; i < 7; i++) if (chance(2)) fields[CHOICES][i] = (uint8_t)(i == 2 || i == 5 ? chance(2) : chance(256));
 }
 

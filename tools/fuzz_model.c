@@ -101,8 +101,41 @@ static uint32_t read_number(struct slice *rest, int n, unsigned low, unsigned hi
 	return *to < low || *to > high ? refusal : 0;
 }
 
+static int begins(const struct method *m, unsigned slot) {
+	unsigned i = 0;
+	while (i < slot && i < m->slots) i += is_wide(m->code + 8 * i) ? 2 : 1;
+	return i == slot && i < m->slots;
+}
+
+/* Reads a place of a head, whose number is at least so great. */
+static uint32_t read_place(struct slice *rest, unsigned *least) {
+	const uint8_t *at = cut(rest, 2), *bounds;
+	if (!at) return 1;
+	if (at[0] < *least || at[0] > 74 || at[0] == 10 || at[1] > 6) return 13;
+	*least = at[0] + 1u;
+	if (at[1] < 2) return 0;
+	if (!(bounds = cut(rest, 16))) return 1;
+	size_t a = number_at(bounds, 8), b = number_at(bounds + 8, 8);
+	return (at[1] == 3 ? (int64_t)a <= (int64_t)b : a <= b) ? 0 : 13;
+}
+
+/* Reads the loops behind a method's code. */
+static uint32_t read_loops(struct slice *rest, const struct method *m, int64_t *slot) {
+	unsigned heads = 0, budget = 0, at = 0, places = 0;
+	uint32_t why = read_number(rest, 2, 0, 64, 10, &heads);
+	if (!why && heads) why = read_number(rest, 4, 1, 1048576, 10, &budget);
+	for (unsigned least = 0; !why && heads; heads--) {
+		if ((why = read_number(rest, 2, least, 65535, 13, &at)) == 0 && !begins(m, at)) why = 13;
+		least = at + 1;
+		if (!why) why = read_number(rest, 1, 0, 255, 1, &places);
+		for (unsigned number = 0; !why && places; places--) why = read_place(rest, &number);
+		if (why == 13) *slot = at;
+	}
+	return why;
+}
+
 static uint32_t read_method(struct slice *rest, unsigned rules, const struct method *before, struct method *to, int64_t *slot) {
-	unsigned length = 0, heads = 0, capacity = rules == 3 ? CAPACITY : 4096;
+	unsigned length = 0, capacity = rules == 3 ? CAPACITY : 4096;
 	uint32_t why = read_number(rest, 1, 1, NAME, 7, &length);
 	if (why) return why;
 	to->name.len = length;
@@ -117,7 +150,10 @@ static uint32_t read_method(struct slice *rest, unsigned rules, const struct met
 		if ((why = slot_refusal(to->code + 8 * i, to->slots - i))) return why;
 	}
 	*slot = -1;
-	return rules == 3 ? read_number(rest, 2, 0, 0, 10, &heads) : 0;
+	size_t behind = rest->len;
+	why = rules == 3 ? read_loops(rest, to, slot) : 0;
+	to->loops = behind - rest->len;
+	return why;
 }
 
 struct where read_class(struct slice image, struct class_of *to) {
