@@ -8,9 +8,10 @@ all if none is given. It writes files of `radoscls cluster --stats` into a folde
 and prints a table for each load. Every call of a run must be replied to.
 
 The first three have a line for each number of sessions and of replicas, and a column for each number
-of workers. A cluster has three nodes, 64 groups and four queues. A rate is the greatest of five runs,
-as `--stats` tells it. Processor time is the least of five runs, less that of reading the file, and
-has the start and printing a line for each call in it.
+of workers; a cell that would have more threads than this machine has processors is left out, since it
+would measure who waits for one. A cluster has three nodes, 64 groups and four queues. A rate is the
+greatest of five runs, as `--stats` tells it. Processor time is the least of five runs, less that of
+reading the file, and has the start and printing a line for each call in it.
 
 `failover` has a line for each log and map, and a column for each number of sessions. These fill the
 log of one group, on three nodes with one worker; then a map leaves out the primary, or brings it back
@@ -29,7 +30,7 @@ TOP = Path(__file__).resolve().parent.parent
 # The calls of a run, of all its sessions; a group's log holds 65,536.
 CALLS = 16_000
 RUNS = 5
-SESSIONS = (1, 4, 16)
+SESSIONS = (1, 2, 4)
 REPLICAS = (1, 3)
 WORKERS = (1, 2, 4)
 OBJECTS = "abcdefghijklmnop"
@@ -153,14 +154,21 @@ class Program:
         return f"{millis:.1f}/{calling:.0f}; {nudges}; {messages / sessions:.0f}"
 
 
+def cell(program, load, sessions, replicas, workers):
+    """A cell of the first three."""
+    if sessions + workers > len(os.sched_getaffinity(0)):
+        return "-"
+    rate, micros = program.measure(lines_of(load, sessions, replicas, workers))
+    return f"{rate:,}; {micros:.1f} µs"
+
+
 def print_calls(program, name):
     """The table of one of the first three."""
     print(f"{name}, sessions, replicas | 1 worker | 2 | 4", flush=True)
     for replicas in REPLICAS:
         for sessions in SESSIONS:
-            cells = [program.measure(lines_of(LOADS[name], sessions, replicas, w)) for w in WORKERS]
-            figures = [f"{rate:,}; {micros:.1f} µs" for rate, micros in cells]
-            print(f"{sessions}, {replicas} | " + " | ".join(figures), flush=True)
+            cells = [cell(program, LOADS[name], sessions, replicas, workers) for workers in WORKERS]
+            print(f"{sessions}, {replicas} | " + " | ".join(cells), flush=True)
 
 
 def print_failovers(program):

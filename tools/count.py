@@ -4,17 +4,20 @@
     tools/count.py [BLOCK | --check]
 
 The blocks are the comment lines of crates.txt; of BLOCK each crate is counted, and nothing else. --check says where lines are over
-120 columns and which files are silent; the status is 1 if there is one. Lines are those of
-src/, specs/ and proofs/; an edit is a file of must-fail/ or wrong/. A word has a letter or a digit. A file of src/ is silent if neither
-a first line `//!` nor a type of its name says what it is for; those of tests and of bench may be."""
+120 columns, which files are silent, which items have a library's name, and which of tools/ docs/CONTRIBUTING.md leaves out; the status
+is 1 if there is one. Lines are of src/, specs/ and proofs/; an edit is a file of must-fail/ or wrong/. A word has a letter or a digit.
+A file of src/ is silent if neither a first line `//!` nor a type says what it is for that has its name or ends with it, as `DataEdit`
+in edit.rt; those of tests and of bench may be."""
 import re
 import sys
+from fnmatch import fnmatch
 from pathlib import Path
 
 TOP = Path(__file__).resolve().parent.parent
 KINDS = {"src": "*.rt", "specs": "*.antt", "proofs": "*.antt"}
 OTHERS = ("README.md", "examples/README.md", "CHANGELOG.md")
 COLUMNS = 120
+ITEM = re.compile(r"(?m)^\s*(?:pub(?:\([^)]*\))? )?(?:mod|struct|enum|trait|type)\s+(\w+)")
 FUNCTION = re.compile(r'\s*(pub(\([^)]*\))? )?(const )?(unsafe )?(extern "C" )?fn \w')
 
 
@@ -39,7 +42,7 @@ def lines_of(crates, folder, pattern):
 def is_silent(file):
     """True if neither its first line nor a type of its name says what a file of src/ is for."""
     text, name = file.read_text(encoding="utf-8"), file.stem.replace("_", "")
-    return not text.startswith("//!") and not re.search(rf"\b(struct|enum|trait) {name}\b", text, re.IGNORECASE)
+    return not text.startswith("//!") and not re.search(rf"\b(struct|enum|trait) \w*{name}\b", text, re.IGNORECASE)
 
 
 def is_wide(line):
@@ -51,14 +54,50 @@ def silent_files(crates):
             for file in sorted((TOP / "crates" / crate / "src").rglob("*.rt")) if is_silent(file)]
 
 
+def unlisted_tools():
+    """The files of tools/ that the tables of CONTRIBUTING's section `Scripts` don't name."""
+    page = (TOP / "docs/CONTRIBUTING.md").read_text(encoding="utf-8")
+    section = page.split("\n## Scripts\n")[1].split("\n## ")[0]
+    names = [name for row in re.findall(r"(?m)^(`.*?) \| ", section) for name in re.findall(r"`([^`]+)`", row)]
+    return [file for file in sorted((TOP / "tools").iterdir())
+            if file.is_file() and not any(fnmatch(file.name, name) for name in names)]
+
+
+def below():
+    """The libraries below each crate, the kit's among them."""
+    named = {}
+    for line in (TOP / "crates.txt").read_text(encoding="utf-8").split("\n"):
+        if line and not line.startswith("#"):
+            crate, libraries = line.split(":")
+            named[crate.split()[0]] = set(libraries.split())
+    found = {}
+
+    def all_of(crate):
+        if crate not in found:
+            found[crate] = named.get(crate, set()).union(*(all_of(it) for it in named.get(crate, ())))
+        return found[crate]
+
+    return {crate: all_of(crate) for crate in named}
+
+
+def taken_names(crates):
+    """The items of a crate that have the name of a library below it: `rt ci` refuses them, `rt check` doesn't."""
+    libraries = below()
+    return [f"{file.relative_to(TOP)}: {name} is the name of a library" for crate in crates
+            for file in sorted((TOP / "crates" / crate / "src").rglob("*.rt"))
+            for name in ITEM.findall(file.read_text(encoding="utf-8")) if name in libraries[crate]]
+
+
 def check():
-    """Says which lines are over 120 columns, and which files are silent; returns the status."""
+    """Says where lines are too wide, which files are silent, which names taken, which tools unlisted; returns the status."""
     crates = [crate for _, crates in blocks() for crate in crates]
     found = [f"{file.relative_to(TOP)}:{number}: over {COLUMNS} columns" for crate in crates for kind in ("src", "specs")
              for file in sorted((TOP / "crates" / crate / kind).rglob(KINDS[kind]))
              for number, line in enumerate(file.read_text(encoding="utf-8").splitlines(), 1) if is_wide(line)]
     found += [f"{file.relative_to(TOP)}: it doesn't say what it is for" for file in silent_files(crates)]
-    print("\n".join(found or [f"no line over {COLUMNS} columns, and no silent file"]))
+    found += taken_names(crates)
+    found += [f"{file.relative_to(TOP)}: docs/CONTRIBUTING.md doesn't say what it is" for file in unlisted_tools()]
+    print("\n".join(found or [f"no line over {COLUMNS} columns, no silent file, no name of a library, and no unlisted tool"]))
     return int(bool(found))
 
 

@@ -8,7 +8,11 @@ Without a word it prints a count of each; with one, the places:
 arguments   functions of six arguments or more, without `self`
 types       names of types that are declared in two crates
 unused      public functions that no other file of a crate or test names
-copies      places where six lines or more stand that stand elsewhere too, without imports, contracts and lone brackets
+copies      places where six lines or more stand that stand elsewhere too, and at the end how many lines they have
+
+Of copies only statements count: no imports, comments, contracts and lone brackets, no lines of a constant text (a class in
+assembly is data), and no six lines with one between them that is a row of a table (an arm of a match in one line, a field or a
+variant of a type, an argument in a function's head), since rows of two tables have to be alike.
 
 Product are all blocks of crates.txt but `bench` and `tests`.
 """
@@ -22,6 +26,10 @@ ARGUMENTS, LINES = 6, 6
 HEAD = re.compile(r'(?m)^\s*(?:pub(?:\([^)]*\))? )?(?:const )?(?:unsafe )?(?:extern "C" )?fn (\w+)')
 TYPE = re.compile(r"(?m)^\s*pub (?:struct|enum|trait) (\w+)")
 PUBLIC = re.compile(r'(?m)^\s*pub fn (\w+)')
+BODY = re.compile(r"(?m)^\s*(?:pub(?:\([^)]*\))? )?(?:struct|enum) (\w+)[^;({]*(?={)")
+TEXT = re.compile(r'(?s)\bconst \w+: &str = "(.*?)";')
+ROW = re.compile(r"[^=]+ => [^{]*,$")
+SILENT = ("//", "use ", "ghost ", "#[", "ensures", "requires", "mod ", "pub mod ")
 
 
 def sources(blocks):
@@ -78,24 +86,50 @@ def unused_calls(product, everything):
             if words[name] <= len(files) and not re.search(rf'extern "C" fn {name}\b', product[file])]
 
 
+def heads(text):
+    """The numbers of the lines of a head that lists its arguments a line each, or that are a struct or an enum."""
+    found = set()
+    for start, opening in [(it.end(1), "(") for it in HEAD.finditer(text)] + [(it.end(1), "{") for it in BODY.finditer(text)]:
+        at, depth = text.index(opening, start), 0
+        for end in range(at, len(text)):
+            depth += text[end] in "([{"
+            depth -= text[end] in ")]}"
+            if depth == 0:
+                break
+        first, last = (text.count("\n", 0, it) + 1 for it in (start, end))
+        found.update(range(first, last + 1) if first < last else ())
+    return found
+
+
 def plain_lines(text):
-    """The lines of a file that say something, by number: no imports, comments, contracts and lone brackets."""
+    """The lines of a file that say something, by number, with None in place of one that is a row of a table."""
+    rows = heads(text)
+    text = TEXT.sub(lambda it: "\n" * it.group(0).count("\n"), text)
     for number, line in enumerate(text.split("\n"), 1):
         line = line.strip()
-        if re.search(r"\w", line) and not line.startswith(("//", "use ", "ghost ", "#[", "ensures", "requires", "mod ", "pub mod ")):
-            yield number, line
+        if re.search(r"\w", line) and not line.startswith(SILENT):
+            yield number, None if number in rows or ROW.match(line) else line
 
 
-def copied_places(product):
+def copied_lines(product):
+    """The numbers of the lines, by file, that stand in six which stand elsewhere too."""
     places = defaultdict(list)
     for file, text in product.items():
         lines = list(plain_lines(text))
         for at in range(len(lines) - LINES + 1):
-            places["\n".join(line for _, line in lines[at:at + LINES])].append((file, lines[at][0]))
-    starts = sorted({place for several in places.values() if len(several) > 1 for place in several})
-    # Of a run of such places the first alone.
-    return [f"{file}:{number}" for i, (file, number) in enumerate(starts)
-            if i == 0 or starts[i - 1][0] != file or number > starts[i - 1][1] + LINES]
+            six = lines[at:at + LINES]
+            if all(line for _, line in six):
+                places[tuple(line for _, line in six)].append((file, [number for number, _ in six]))
+    found = defaultdict(set)
+    for several in places.values():
+        for file, numbers in several if len(several) > 1 else ():
+            found[file].update(numbers)
+    return found
+
+
+def copied_places(product):
+    found = copied_lines(product)
+    return [f"{file}:{min(numbers)}: {len(numbers)} lines up to {max(numbers)}" for file, numbers in sorted(found.items())]
 
 
 def main(words):
@@ -114,6 +148,7 @@ def main(words):
         print("\n".join(found[words[0]]))
     else:
         print("\n".join(f"{name:<10} {len(places):>4}" for name, places in found.items()))
+        print(f"{'copied':<10} {sum(len(it) for it in copied_lines(product).values()):>4} lines")
     return 0
 
 

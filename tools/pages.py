@@ -5,7 +5,7 @@ of a block is one line, and so is each word in backticks. A line is printed for 
 count; a difference is shown on standard error. A command that a page has and no row below names is
 a difference too. The status is 0 if nothing differs and nothing was left out, but for commands
 whose program isn't here if RADOSCLS was given. Files are copies, in a folder that is deleted."""
-import os, re, shutil, subprocess, sys, tempfile
+import fnmatch, os, re, shutil, subprocess, sys, tempfile
 from collections import Counter
 from pathlib import Path
 
@@ -15,9 +15,9 @@ NAMES = (r"(radoscls|rt|clang|llvm-[a-z]*|sh|cc|python3|bash|cat|cd|rm|find|for|
          r"|tools.*sh$|rt run$")
 # What other parts of the gate run: tests of the program (forms, with words in capitals),
 # tools/embed.sh, tools/release_test.sh, `rt ci`.
-ELSEWHERE = re.compile(r"radoscls (verify|run|test|asm|pack|dis|sim|cluster) .*[A-Z].*|tools/try\.sh"
+ELSEWHERE = re.compile(r"radoscls (verify|run|test|asm|pack|dis|heads|sim|cluster) .*[A-Z].*|tools/try\.sh"
                        r"|tools/(test|edits|changed|library|embed|fuzz|refuse|pages|release|release_test)\b.*|cc -I lib host.*|cc host.c .*"
-                       r"|radoscls verify --all|cd crates/radoscls && rt run .*|rt run|rt try --test|\./out/bench --dry")
+                       r"|radoscls verify --(all|loops)|cd crates/radoscls && rt run .*|rt run|rt try --test|\./out/bench --dry")
 
 
 def blocks(text):
@@ -260,7 +260,7 @@ def try_examples(pages):
     pages.row("radoscls test hello.txt hello.test", "all", 1, 1)
     pages.row("radoscls verify --explain", "all", 1, 9, instead="radoscls verify --explain ../refused.txt", status=1)
     pages.row("radoscls run count.txt count --key n=050000000000000000 --show", "all", 1, 6)
-    pages.row("radoscls run count.txt count --trace --key n=050000000000000000", "all", 1, 16)
+    pages.row("radoscls run lock.txt lock --trace --caller 2 --xattr lock=0100000000000000", "all", 1, 20)
     pages.row("radoscls run swap.txt swap --object 0500 --input 05000000000000000700000000000000 --show", "all", 1, 5)
     pages.row("radoscls cluster queue.cluster --class queue=queue.txt", "some", 2, 2)
     pages.on("docs/PROGRAM.md", pages.work / "examples")
@@ -269,7 +269,7 @@ def try_examples(pages):
     pages.row(count, instead=f"{count} | grep 'Reply 1 0 1 0100000000000000'")
     # two instructions, `mov r0, 0` and `exit`
     (pages.folder / "sum.bin").write_bytes(bytes.fromhex("b700000000000000" "9500000000000000"))
-    for command in ("verify", "run", "test", "asm", "pack", "dis", "sim", "cluster"):
+    for command in ("verify", "run", "test", "asm", "pack", "dis", "heads", "sim", "cluster"):
         for example in re.findall(r"^  (radoscls .*)$", pages.run(f"radoscls {command} --help").stderr, re.M):
             ended = pages.run(example)
             pages.settle(example, ended.returncode == 0, "status 0", ended)
@@ -379,7 +379,7 @@ def try_links(pages):
                 at = ("crates/" if first in crates else "") + re.sub(r"NAME|\*", "*", path)
                 found = any(TOP.glob(at))
             elif not slash and re.search(r"\.(rt|antt|py|sh|md|sim|cluster|edit)$", path):
-                found = path in bare
+                found = bool(fnmatch.filter(bare, path))
             if not found:
                 pages.settle(f"the path {path}", False)
 

@@ -18,15 +18,17 @@ import process_rows
 from process_classes import CLASS_ROWS
 from process_clusters import CLUSTER_ROWS
 from process_explained import EXPLAINED_ROWS
+from process_loops import LOOP_ROWS
 from process_objects import OBJECT_ROWS
-from process_rows import CLOSED, FILES, FULL, LINKS, MODES, NEW, UNREAD
+from process_reports import REPORT_ROWS
+from process_rows import CLOSED, FILES, FULL, LINKS, MODES, NEW, TERMINAL, UNREAD
 from process_sim import SIM_ROWS
 from process_tests import TEST_ROWS
 from process_traces import TRACE_ROWS
 from process_words import WORD_ROWS
 
-ROWS = [*process_rows.ROWS, *WORD_ROWS, *CLASS_ROWS, *OBJECT_ROWS, *EXPLAINED_ROWS, *TEST_ROWS, *TRACE_ROWS, *SIM_ROWS,
-        *CLUSTER_ROWS]
+ROWS = [*process_rows.ROWS, *WORD_ROWS, *CLASS_ROWS, *LOOP_ROWS, *OBJECT_ROWS, *REPORT_ROWS, *EXPLAINED_ROWS,
+        *TEST_ROWS, *TRACE_ROWS, *SIM_ROWS, *CLUSTER_ROWS]
 
 # A run has five minutes: the largest class takes seconds.
 SECONDS = 300
@@ -105,6 +107,17 @@ def sink_of(where, room=None):
     return os.open(FULL, os.O_WRONLY)
 
 
+def shown_on(terminal):
+    """What was written to a terminal, None if there is none."""
+    if terminal is None:
+        return None
+    os.set_blocking(terminal, False)
+    try:
+        return os.read(terminal, 1 << 16)
+    except BlockingIOError:
+        return b""
+
+
 def prepare(row):
     """In the process: closes its streams, and limits its files, its memory and its stack. A write
     past that limit fails, or ends the process, and a new thread whose stack has no place fails; a
@@ -125,19 +138,20 @@ def prepare(row):
 def run(program, folder, row):
     """What a row gives on standard output and error, None of one that isn't read; and its status,
     of a signal below 0."""
-    sinks = [sink_of(row.to, row.room), sink_of(row.err_to)]
+    terminal, err_to = os.openpty() if row.err_to == TERMINAL else (None, sink_of(row.err_to))
+    sinks = [sink_of(row.to, row.room), err_to]
     words = (word if isinstance(word, bytes) else word.encode() for word in row.words)
     try:
         ended = subprocess.run(
             ["radoscls", *words], executable=program, cwd=folder, env={}, input=row.stdin,
             stdout=sinks[0], stderr=sinks[1], timeout=SECONDS, preexec_fn=lambda: prepare(row))
         out = ended.stdout if row.room is None else os.pread(sinks[0], row.room + 1, 0)
-        return out, ended.stderr, ended.returncode
+        return out, ended.stderr if terminal is None else shown_on(terminal), ended.returncode
     except subprocess.TimeoutExpired:
         return b"", b"", f"none after {SECONDS} seconds"
     finally:
-        for sink in sinks:
-            if sink != subprocess.PIPE:
+        for sink in (*sinks, terminal):
+            if sink not in (None, subprocess.PIPE):
                 os.close(sink)
 
 
@@ -174,11 +188,15 @@ def count_differences(program, folder, rows):
     for row in rows:
         before = state_of(folder)
         found = run(program, folder, row)
+        after = row.then and run(program, folder, row.then)
         written = take_written(folder, before)
         names = differences(row, found, written)
         if names:
-            bad += 1
             tell(row, found, written, names)
+        later = row.then and differences(row.then, after, {})
+        if later:
+            tell(row.then, after, {}, later)
+        bad += bool(names or later)
     return bad
 
 

@@ -2,7 +2,7 @@
 import re
 
 from process_classes import HELLO
-from process_rows import FILES, NUMBERS, OPENED, OPENING, Row, bytes_of, figures, lines_of, rows_of
+from process_rows import FILES, NUMBERS, OPENED, OPENING, TERMINAL, Row, bytes_of, figures, lines_of, rows_of
 
 # Tenants' classes: one that writes five bytes, one of rule set 2 that stores a pointer, and the same
 # in set 1.
@@ -124,6 +124,12 @@ def called(table):
         yield from rows_of(f"cluster - / {NUMBERS.strip()} / {asked}\n{answer}")
 
 
+def told(count):
+    """Whether a text is how far a run of that many calls was, each time over the last, which stays; a
+    run of less than a second tells nothing."""
+    return lambda text: re.fullmatch(f"((\ranswered [0-9]+ of {count})+\ranswered {count} of {count}\r\n)?", text)
+
+
 def measured(count, holds):
     """Whether a text is what --stats writes of that many calls, numbers that fit one another too: no
     call is longer than all of them, or than the run, half of the calls take no longer than 99 of 100,
@@ -162,6 +168,8 @@ SHOWN = (
      r"client 1 call 1 group 0 request \xc3\xa9 other lock - refused 5 NoClass"),
     (64, "client 1 b \x1b[2J\\ \x01\u00e9\x1f~\x7f\u20ac -",
      r"client 1 call 0 group 37 request b \x1b[2J\ \x01\xc3\xa9\x1f~\x7f\xe2\x82\xac - refused 5 NoClass"))
+REFUSED = lines_of("client 1 call 0 refused 7 InputTooLong / client 1 call 1 refused 5 NoClass / "
+                   "client 1 call 2 refused 6 NoMethod")
 LOCK, PLACE = "client 1 a lock lock -\n", "client 1 call {0} place {0} code 0 output -\n"
 LINES = "client 1 a lock lock -\nclient 1 a lock unlock -\nclient 2 b lock lock -\nmap 0 1 2\nclient 2 c lock lock -\n"
 
@@ -231,4 +239,25 @@ CLUSTER_ROWS = [
     calls(LOCK * 40 + "map 0\n", "".join(map(PLACE.format, range(40))), words="cluster --stats -",
           first=cluster(groups=1, shards=1, workers=1, tries=100000000),
           err=measured(40, lambda it: it["messages"] >= 200)),
+    # --follow: the same lines as they come, in the file's order; also of calls above a refused map
+    calls("client 1 a lock lock -\nclient 2 b lock lock -\nclient 1 a lock unlock -\n",
+          PLACE.format(0) + PLACE.format(1) + "client 2 call 0 place 0 code 0 output -\n", words="cluster - --follow",
+          err=PLACE.format(0) + "client 2 call 0 place 0 code 0 output -\n" + PLACE.format(1)),
+    *(calls(lines_of(asked), lines_of(printed), first=cluster(groups=groups, tries=100000000),
+            words="cluster --show --follow -", err=lines_of(printed)) for groups, asked, printed in SHOWN[1:2]),
+    calls(LOCK * 200, "".join(map(PLACE.format, range(200))), words="cluster --follow -",
+          err="".join(map(PLACE.format, range(200)))),
+    Row("cluster map.calls --follow", "line 3: refused 1 NoneUp\n", PLACE.format(0), 1),
+    Row("cluster refused --strict --follow", REFUSED, REFUSED, 1),
+    Row("cluster calls --follow --stats", PLACE.format(0) + PLACE.format(1),
+        lambda text: text.startswith(PLACE.format(0)) and figures(2)(text[len(PLACE.format(0) + PLACE.format(1)):])),
+    Row("cluster calls --follow", PLACE.format(0) + PLACE.format(1),
+        (PLACE.format(0) + PLACE.format(1)).replace("\n", "\r\n"), err_to=TERMINAL),
+    # on a terminal, without --stats, how far it is, in one line
+    Row("cluster calls", PLACE.format(0) + PLACE.format(1), "", err_to=TERMINAL),
+    Row("cluster map.calls", "line 3: refused 1 NoneUp\n", "", 1, err_to=TERMINAL),
+    Row("cluster calls --stats", PLACE.format(0) + PLACE.format(1),
+        lambda text: figures(2)(text.replace("\r", "")), err_to=TERMINAL),
+    Row("cluster -", "".join(map(PLACE.format, range(40_000))), told(40_000), err_to=TERMINAL, slow=True,
+        stdin=(NUMBERS + LOCK * 40_000).encode()),
 ]

@@ -1,7 +1,7 @@
 """Rows of tools/process.py on what --explain adds below a line."""
 import struct
 
-from process_rows import Row, lines_of, rows_of
+from process_rows import CALLS, NUMBERS, Row, lines_of, rows_of
 
 # Classes, and what is known of each where it is refused.
 EXPLAINED = r"""
@@ -67,7 +67,7 @@ pack out f:r:0:0:code F:r:0:5000:code --explain
     a method's name has 1 to 64 of a-z, 0-9 and _
 pack out f:r:0:5000:code --explain
 => 1 image refused after 0 methods: 10 Limit // method f, IN 0, OUT 5000, code //
-    a class has 1 to 32 methods, of 1 to 4096 slots; IN and OUT are at most 4096, by rule set 3 65535
+    1 to 32 methods of 1 to 4096 slots; IN, OUT to 4096, by rule set 3 65535; 64 heads, budget to 1048576
 """
 
 # Honest mistakes: texts, what is explained of each, and the change that it leads to, which is accepted.
@@ -655,6 +655,66 @@ sim missing --explain
 sim locks.sim --class a=missing --explain
 => 1 cannot read // missing: No such file or directory (os error 2)
 """
+
+# Bad and refused lines of a cluster file, by what is wrong first.
+CLUSTER_MISTAKES = r"""
+cluster - --explain / {first} / clients 1 a lock lock -
+=> 1 line 2: bad // - line 2: clients 1 a lock lock - //
+    `clients` begins no line here; the nearest word that does is `client` //
+    wanted: first `client` or `map`; `cluster` begins the first line alone // see docs/PROGRAM.md, cluster
+cluster - --explain / {first} / {first}
+=> 1 line 2: bad // - line 2: {first} // `cluster` begins no line here //
+    wanted: first `client` or `map`; `cluster` begins the first line alone // see docs/PROGRAM.md, cluster
+cluster - --explain / map 0
+=> 1 line 1: bad // - line 1: map 0 // `map` begins no line here // wanted: first `cluster` //
+    see docs/PROGRAM.md, cluster
+cluster - --explain / {first} / client 1 a lock lock
+=> 1 line 2: bad // - line 2: client 1 a lock lock // words are missing // form: `client C OBJECT CLASS METHOD HEX` //
+    see docs/PROGRAM.md, cluster
+cluster - --explain / {first} 1
+=> 1 line 1: bad // - line 1: {first} 1 // `1` is one word too many //
+    form: `cluster nodes N replicas N groups N shards N workers N tries N` // see docs/PROGRAM.md, cluster
+cluster - --explain / cluster nodes 17 groups 64 replicas 3 shards 4 workers 4 tries 1
+=> 1 line 1: bad // - line 1: cluster nodes 17 groups 64 replicas 3 shards 4 workers 4 tries 1 //
+    `groups` stands in place of `replicas` // form: `cluster nodes N replicas N groups N shards N workers N tries N` //
+    see docs/PROGRAM.md, cluster
+cluster - --explain / {first} / map 0 01
+=> 1 line 2: bad // - line 2: map 0 01 // `01` is no number: decimal digits, no sign and no leading zero //
+    form: `map N ..` // see docs/PROGRAM.md, cluster
+cluster bad.calls --explain
+=> 1 line 3: bad // bad.calls line 3: client 3 a lock lock - //
+    client `3` is out of range: 1 to 2, those above and the next, at most 64 //
+    form: `client C OBJECT CLASS METHOD HEX` // see docs/PROGRAM.md, cluster
+cluster limit.calls --explain
+=> 1 line 1: refused 1 Limit //
+    limit.calls line 1: cluster nodes 17 replicas 3 groups 64 shards 4 workers 4 tries 100000000 //
+    nodes `17` is out of range: 1 to 16 // form: `cluster nodes N replicas N groups N shards N workers N tries N` //
+    see docs/PROGRAM.md, cluster
+cluster - --explain / cluster nodes 3 replicas 3 groups 48 shards 4 workers 4 tries 1
+=> 1 line 1: refused 1 Limit // - line 1: cluster nodes 3 replicas 3 groups 48 shards 4 workers 4 tries 1 //
+    groups `48` is out of range: 1, 2, 4, .. 64 //
+    form: `cluster nodes N replicas N groups N shards N workers N tries N` // see docs/PROGRAM.md, cluster
+cluster - --explain / {first} / map 0 3
+=> 1 line 2: refused 2 Limit // - line 2: map 0 3 // node `3` is out of range: 0 to 2 // form: `map N ..` //
+    see docs/PROGRAM.md, cluster
+cluster - --explain / {first} / client 1 a lock lock 0x
+=> 1 line 2: bad // - line 2: client 1 a lock lock 0x //
+    `0x` isn't in hexadecimal: two digits a byte, or - for no byte // form: `client C OBJECT CLASS METHOD HEX` //
+    see docs/PROGRAM.md, cluster
+cluster map.calls --explain
+=> 1 line 3: refused 1 NoneUp // map.calls line 3: map // no node is up: name one or more // form: `map N ..` //
+    see docs/PROGRAM.md, cluster
+cluster - --explain / {first} / map 2 0 2
+=> 1 line 2: refused 2 Limit // - line 2: map 2 0 2 // node `2` stands twice // form: `map N ..` //
+    see docs/PROGRAM.md, cluster
+cluster missing --explain
+=> 1 cannot read // missing: No such file or directory (os error 2)
+cluster calls --explain --class a=missing
+=> 1 cannot read // class a, missing // missing: No such file or directory (os error 2)
+cluster calls --explain --class a=two.img --class b=word.txt --class c=missing
+=> 1 line 2: 1 Word // class b, word.txt // line 2: foo r1 // wanted: first an instruction's word, or a label `name:`,
+    `.method` or `.rules` // see docs/ASSEMBLY.md, 1 Word
+""".replace("{first}", NUMBERS.strip())
 LONG_NAME = "a" * 256
 # What can't be seen in a line, what a terminal obeys, and a name that is too long.
 SIM_LINES = [
@@ -667,6 +727,15 @@ SIM_LINES = [
     (f"req 1 1 1 {LONG_NAME} lock lock -\n".encode(),
      f"line 1: req 1 1 1 {LONG_NAME} lock lock - // the object's name has 256 bytes: at most 255 // "
      "form: `req N CLIENT NUMBER OBJECT CLASS METHOD HEX`"),
+]
+# The same of a cluster file, below its first line.
+CLUSTER_LINES = [
+    (b"map 0\r\n", r"map 0\x0d // the line ends with CR LF: end each line with LF alone // form: `map N ..`"),
+    (b"\xef\xbb\xbfmap 0\n", r"\xef\xbb\xbfmap 0 // the text begins with a byte order mark: leave it out"),
+    (b"\n", " // words are missing"),
+    (f"client 1 {LONG_NAME} lock lock -\n".encode(),
+     f"client 1 {LONG_NAME} lock lock - // the object's name has 256 bytes: at most 255 // "
+     "form: `client C OBJECT CLASS METHOD HEX`"),
 ]
 
 
@@ -762,8 +831,8 @@ IMAGES = [
      "bytes, flags 4, IN 0, OUT 0, slots 2 // flags are 1 (r), 2 (w) or 3 (rw)"),
     (image_of(method_of(b"f", EXIT, slots=0)),
      "0 methods: 10 Limit // 33 bytes, the first: 52 43 4c 31 01 00 00 00 // method 0, at byte 8: `f` of 1 "
-     "bytes, flags 1, IN 0, OUT 0, slots 0 // a class has 1 to 32 methods, of 1 to 4096 slots; IN and OUT are "
-     "at most 4096, by rule set 3 65535"),
+     "bytes, flags 1, IN 0, OUT 0, slots 0 // 1 to 32 methods of 1 to 4096 slots; IN, OUT to 4096, by rule "
+     "set 3 65535; 64 heads, budget to 1048576"),
     (image_of(method_of(b"f", EXIT)) + b"\0",
      "1 methods: 11 Trailing // 34 bytes, the first: 52 43 4c 31 01 00 00 00 // 1 methods end at byte 33 // "
      "bytes follow the last method"),
@@ -773,6 +842,9 @@ EXPLAINED_ROWS = [
     *rows_of(EXPLAINED), *mistakes(MISTAKES), *mistakes(TEXT_MISTAKES), *rows_of(EACH_LINE), *rows_of(SIM_MISTAKES),
     *(Row("sim - --explain", lines_of(f"line 1: bad // {said} // see docs/PROGRAM.md, sim"), "", 1, stdin=text)
       for text, said in SIM_LINES),
+    *rows_of(CLUSTER_MISTAKES), Row("cluster calls --explain", CALLS),
+    *(Row("cluster - --explain", lines_of(f"line 2: bad // - line 2: {said} // see docs/PROGRAM.md, cluster"), "", 1,
+          stdin=NUMBERS.encode() + text) for text, said in CLUSTER_LINES),
     *(Row("verify - --explain", lines_of(said), "", 1, stdin=text) for text, said in UNSEEN),
     *(Row("verify - --all --explain", lines_of(f"image refused after {said} // {IMAGE_WANTED}"), "", 1, stdin=image)
       for image, said in IMAGES),

@@ -1,5 +1,5 @@
 """Rows of tools/process.py on the object beside a call: what words and texts spell, and what is saved."""
-from process_rows import FILES, Row, lines_of, ran, rows_of
+from process_rows import EXAMPLES, FILES, Row, lines_of, ran, rows_of
 
 # The object beside a call that leaves it as it is: what words spell, in the order of the names'
 # bytes, with names that would be read as others in hexadecimal; which refusal comes first.
@@ -96,8 +96,54 @@ FULL_SHOWN = ran(0, "-", 2, "65536 32 1024", "data " + "6f" * 65536,
                  *(f"xattr {n:064} " + "a5" * 4096 for n in range(32)),
                  *(f"key {n:064} " + "a5" * 4096 for n in range(1024)))
 
+# By an OSD's limits: a method for each call on an object (its steps are counted in the text), a class
+# that sets xattrs named by one byte, and objects past the profile's. Numbers in inputs are little-endian.
+with open(f"{EXAMPLES}/embed/parts.txt", "rb") as text:
+    FILES["parts.txt"] = text.read()
+SETS = "stb [r10-1], {}\nmov r1, r10\nadd r1, -1\nmov r2, 1\nmov r3, r1\nmov r4, 1\ncall 7\n"
+for count in (32, 33):
+    FILES[f"sets{count}.txt"] = ".method f w 0 0\n" + "".join(map(SETS.format, range(65, 65 + count))) + "exit\n"
+FILES["200000"] = b"\7" * 199996 + b"tail"
+FORTY = " ".join(f"--xattr x{n:02}={n:02}" for n in range(40))
+LARGE_ROWS = [
+    # data read at its end, written at the last place of it, and past that
+    Row("run parts.txt read --limits ceph --object @200000 --input 3c0d030064000000",
+        ran(4, "7461696c", 12, "200000 0 0")),
+    Row("run parts.txt read --limits profile --object @200000 --input 3c0d030064000000",
+        "object refused: 4 TooBig\n", "", 1),
+    Row("run parts.txt write --limits ceph --input ffffff0779", ran(1, "-", 9, "134217728 0 0")),
+    Row("run parts.txt write --limits ceph --input 0000000879", ran(-27, "-", 9, "absent")),
+    Row("run parts.txt write --limits profile --input ffffff0779", ran(-27, "-", 9, "absent")),
+    # 40 xattrs: one of them, and one more
+    Row(f"run parts.txt getx --limits ceph {FORTY} --input 783339", ran(1, "39", 8, "0 40 0")),
+    Row(f"run parts.txt getx --limits ceph {FORTY} --input 79", ran(-61, "-", 4, "0 40 0")),
+    Row(f"run parts.txt putx --limits ceph {FORTY} --input 016105", ran(0, "-", 14, "0 41 0")),
+    Row(f"run parts.txt putx {FORTY} --input 016105", "object refused: 5 TooMany\n", "", 1),
+    # a key, set and saved, found and listed
+    Row("run parts.txt put --limits ceph --input 016b76 --save out", ran(0, "-", 14, "0 0 1"),
+        wrote={"out": b"data -\nkey k 76\n"}),
+    Row("run parts.txt get --limits ceph --load - --input 6b --show", ran(1, "76", 8, "0 0 1", "data -", "key k 76"),
+        stdin=b"data -\nkey k 76\n"),
+    Row("run parts.txt next --limits ceph --load - --input -", ran(1, "6b", 8, "0 0 1"),
+        stdin=b"data -\nkey k 76\n"),
+    Row("run parts.txt next --limits ceph --load - --input 6b30393939", ran(5, "6b31303030", 8, "0 0 2000"),
+        stdin=b"data -\n" + b"".join(b"key k%04d 00\n" % n for n in range(2000))),
+    Row("run parts.txt remove --limits ceph --object 00 --save out", ran(0, "-", 2, "absent"), wrote={"out": b""}),
+    # 32 xattrs can be set by one call, and no more
+    Row("run sets32.txt f --limits ceph", ran(0, "-", 225, "0 32 0")),
+    Row("run sets33.txt f --limits ceph --save out", "call refused: 4 Full\n", "", 1),
+    # refusals are those without the option
+    Row("run two.img f --limits ceph --object 0", "object is not hex\n", "", 1),
+    Row("run two.img f --limits ceph --key =00", "object refused: 6 Range\n", "", 1),
+    Row("run two.img f --limits ceph --xattr a=" + "00" * 4097, "object refused: 4 TooBig\n", "", 1),
+    Row("run two.img f --limits ceph --load -", "object line 2: bad\n", "", 1, stdin=b"data -\nkey k\n"),
+    Row("run two.img g --limits ceph", "call refused: 1 NoMethod\n", "", 1),
+    Row("run two.img f --limits ceph --input 00", "call refused: 2 InputTooLong\n", "", 1),
+]
+
 OBJECT_ROWS = [
     *rows_of(OBJECTS),
+    *LARGE_ROWS,
     Row(["run", "two.img", "f", "--caller", "4294967295", "--input", ""], ran(0, "-", 2, "absent")),
     # objects that words spell
     Row(["run", "two.img", "f", "--key", "0x3078=01", "--key", "0x613d=02", "--key", "a b=03", "--show"],

@@ -54,6 +54,21 @@ call 13
 mov r0, r6
 exit
 """
+# A method with a loop, which adds the bytes of its input, and what it declares of the loop: its jump back is at slot 8.
+BARE_TEXT = """.rules 3
+.method s r 16 0
+mov r0, 0
+mov r4, 0
+jge r4, r2, +6
+mov r5, r1
+add r5, r4
+ldxb r5, [r5+0]
+add r0, r5
+add r4, 1
+ja -7
+exit
+"""
+LOOP_TEXT = BARE_TEXT.replace("16 0\n", "16 0\n.budget 100\n").replace("jge", ".head r0 any, r4 0 16\njge")
 # A class whose text is longer than any image: its 32 methods have 4,096 instructions each.
 LARGER_TEXT = "".join(f".method m{n:02} r 0 0\n" + "mov r0, 0\n" * 4095 + "exit\n" for n in range(32))
 # The longest text that there may be.
@@ -108,6 +123,8 @@ FILES = {
     "bad.calls": NUMBERS + "client 1 a lock lock -\nclient 3 a lock lock -\n",
     "map.calls": NUMBERS + "client 1 a lock lock -\nmap\n",
     "limit.calls": NUMBERS.replace("nodes 3", "nodes 17"),
+    "loop.txt": LOOP_TEXT,
+    "bare.txt": BARE_TEXT,
     "three.txt": TWO_TEXT + ".method g r 0 0\nexit\n" + TWO_TEXT.replace(" f ", " h "),
     "held": "data 6162\nxattr a 01\nkey k -\n",
     "bad.held": "data 6162\nxattr a\n",
@@ -141,24 +158,26 @@ NEW = ".radoscls-"
 
 # What each command takes, as docs/PROGRAM.md has it: places, and options with their values.
 COMMANDS = {
-    "verify": (["<IN>"], {"--all": "", "--explain": ""}),
+    "verify": (["<IN>..."], {"--all": "", "--loops": "", "--json": "", "--explain": ""}),
     "run": (["<IN>", "<METHOD>"], {
         "--input": " <HEX>", "--input-text": " <TEXT>", "--input-u64": " <N,..>", "--caller": " <N>", "--object": " <HEX>", "--xattr": " <NAME=HEX>",
-        "--key": " <KEY=HEX>", "--load": " <FILE>", "--save": " <FILE>", "--show": "",
-        "--trace": "", "--explain": ""}),
-    "asm": (["<IN>", "<OUT>"], {"--explain": ""}),
+        "--key": " <KEY=HEX>", "--limits": " <LIMITS>", "--load": " <FILE>", "--save": " <FILE>", "--show": "",
+        "--trace": "", "--json": "", "--explain": ""}),
+    "asm": (["<IN>", "<OUT>"], {"--all": "", "--explain": ""}),
     "pack": (["<OUT>", "<METHOD>..."], {"--rules": " <N>", "--explain": ""}),
     "dis": (["<IN>"], {"--slots": "", "--explain": ""}),
+    "heads": (["<IN>", "<OUT>"], {"--budget": " <N>"}),
     "sim": (["<FILE>"], {"--class": " <NAME=IMAGE>", "--trace": "", "--explain": ""}),
-    "cluster": (["<FILE>"], {"--class": " <NAME=IMAGE>", "--show": "", "--stats": "", "--strict": ""}),
+    "cluster": (["<FILE>"], {"--class": " <NAME=IMAGE>", "--show": "", "--stats": "", "--strict": "",
+        "--explain": "", "--follow": ""}),
 }
 # Words that each command does, and a value of each option that is right.
 DONE = {
     "verify": "verify two.img", "run": "run keep.img keep", "asm": "asm two.txt out",
-    "pack": "pack out f:r:0:0:code", "dis": "dis two.img", "sim": "sim locks.sim",
+    "pack": "pack out f:r:0:0:code", "dis": "dis two.img", "heads": "heads two.txt out", "sim": "sim locks.sim",
     "cluster": "cluster calls",
 }
-RIGHT = {"--input": "00", "--input-text": "a", "--input-u64": "5", "--caller": "1", "--object": "00", "--rules": "1", "--load": "held",
+RIGHT = {"--input": "00", "--input-text": "a", "--input-u64": "5", "--caller": "1", "--object": "00", "--rules": "1", "--budget": "1", "--limits": "ceph", "--load": "held",
          "--save": "out"}
 OF_ALL = "--help", "--version"
 # The program says the number alone, without the `-dev` that VERSION has between releases.
@@ -234,15 +253,16 @@ class Row:
     standard output takes, if it is a file, and each file that is written; `killed` is true if a
     write of more ends the process. `space` is how many megabytes the process has, if each of its
     threads wants 256; `stack` is how many kilobytes its first thread has. `slow` is true if checks of
-    memory make it take minutes."""
+    memory make it take minutes. `then` is a row of words that come after these, while what they wrote
+    is still there; of it the streams and the status are compared."""
 
     def __init__(self, words, out="", err="", status=0, stdin=b"", wrote=(), to=None, err_to=None,
-                 room=None, space=None, killed=False, stack=None, slow=False):
+                 room=None, space=None, killed=False, stack=None, slow=False, then=None):
         self.words = words.split() if isinstance(words, str) else words
         self.out, self.err, self.status = out, err, status
         self.stdin, self.wrote, self.room, self.space = stdin, dict(wrote), room, space
         self.to, self.err_to, self.killed, self.stack = to, err_to, killed, stack
-        self.slow = slow
+        self.slow, self.then = slow, then
 
 
 def lines_of(text=""):
@@ -263,8 +283,9 @@ def rows_of(table):
         yield Row(words, lines_of(*printed), "", int(status), stdin=lines_of(text).encode())
 
 
-# Streams that take nothing: a full device, a pipe that nobody reads, a closed one.
-FULL, UNREAD, CLOSED = "/dev/full", "unread", "closed"
+# Streams that take nothing: a full device, a pipe that nobody reads, a closed one. A terminal, for
+# standard error, is read.
+FULL, UNREAD, CLOSED, TERMINAL = "/dev/full", "unread", "closed", "terminal"
 RAN = ran(0, "-", 2, "absent")
 SLOTS = ".method f r 0 0\nmov r0, 0 ; slot 0\nexit ; slot 1\n"
 CALLED = "client 1 call 0 place 0 code 0 output -\n"
@@ -598,7 +619,7 @@ ROWS = [
     Row("asm two.txt", "", usage(NOT_GIVEN + "  <OUT>\n"), 2),
     Row("pack out", "", usage(NOT_GIVEN + "  <METHOD>...\n"), 2),
     *(Row(DONE[name] + " more", "", usage("unexpected argument 'more' found\n"), 2)
-      for name in COMMANDS if name != "pack"),
+      for name in COMMANDS if name not in ("verify", "pack")),
     # by clap: options of other commands and of none; without a value, with one too many, twice
     *(Row(f"{DONE[name]} {option}", "", usage(f"unexpected argument '{option}' found\n"), 2)
       for name, (_, options) in COMMANDS.items()
@@ -631,6 +652,7 @@ ROWS = [
           for value in ("two", "=two.img", "lock=two.img")),
         ("cluster calls --class obj=two.img", "obj=two.img", "--class <NAME=IMAGE>"),
         ("cluster calls --class a=two.img --class a=empty", "a=empty", "--class <NAME=IMAGE>"),
+        *((f"run two.img f --limits {limits}", limits, "--limits <LIMITS>") for limits in ("Ceph", "osd", "1")),
         ("run two.img f --save -", "-", "--save <FILE>"),
         ("run two.img f --save two.img", "two.img", "--save <FILE>"),
         ("run two.txt f --load kept --save two.txt", "two.txt", "--save <FILE>"),

@@ -6,6 +6,8 @@
 # ARCHIVE and RADOSCLS are what tools/archive.py and `rt ci` leave. FOLDER gets
 #
 #     bin/radoscls                                its manual page and completion below share/
+#     bin/radoscls-cc                             from C to a class; <sillarnica/class.h> and the helpers in plain C
+#                                                 lie in share/radoscls
 #     lib/libsillarnica.so.N, lib/libsillarnica.a N is the number of the library's calls; lib/pkgconfig/sillarnica.pc
 #     include/sillarnica.h
 #     python/                                     `pip install --no-index --no-build-isolation FOLDER/python`
@@ -37,6 +39,12 @@ mkdir -p "$out"/{bin,lib/pkgconfig,include,share/man/man1,share/bash-completion/
 install -m 755 "$radoscls" "$out/bin/radoscls"
 gzip -9nc "$top/tools/radoscls.1" > "$out/share/man/man1/radoscls.1.gz"
 install -m 644 "$top/tools/radoscls.bash" "$out/share/bash-completion/completions/radoscls"
+
+# what makes a class of C. The headers lie apart from all others, where clang looks for them; a plain compiler has them too
+mkdir "$out/share/radoscls"
+install -m 755 "$top/tools/radoscls-cc" "$out/bin/radoscls-cc"
+cp -r "$top"/examples/c/{include,class_native.c} "$out/share/radoscls"
+ln -s ../share/radoscls/include/sillarnica "$out/include/sillarnica"
 
 # the library: one archive, and of it a shared object that has these calls alone
 "$top/tools/library.sh" "$out/lib" "$archive" > /dev/null
@@ -76,13 +84,14 @@ package() {
     mkdir -p "$tree/DEBIAN"
     install -D -m 644 "$top/LICENSE" "$tree/usr/share/doc/$name/copyright"
     install -D -m 644 "$out/BUILT" "$tree/usr/share/doc/$name/BUILT"
-    cat > "$tree/DEBIAN/control" << END
+    grep -v '^Suggests: $' > "$tree/DEBIAN/control" << END
 Package: $name
 Version: $debian
 Architecture: $([ "$name" = python3-sillarnica ] && echo all || echo "$architecture")
 Maintainer: ${DEBFULLNAME:-Sillarnica} <${DEBEMAIL:-sillarnica@localhost}>
 Installed-Size: $(du -sk "$tree" | cut -f 1)
 Depends: $depends
+Suggests: ${5-}
 Section: $([ "${name#lib}" = "$name" ] && echo utils || echo libs)
 Priority: optional
 Description: $summary
@@ -96,9 +105,13 @@ tree=$(mktemp -d)
 chmod 755 "$tree"
 libc=$(objdump -T "$out/bin/radoscls" "$out/lib/$shared" 2> /dev/null | sed -n 's/.*GLIBC_\([0-9.]*\).*/\1/p' | sort -V | tail -n 1)
 install -D -m 755 "$out/bin/radoscls" "$tree/usr/bin/radoscls"
+install -m 755 "$out/bin/radoscls-cc" "$tree/usr/bin/radoscls-cc"
 cp -r "$out/share" "$tree/usr/share"
-package radoscls "libc6 (>= ${libc:-2.34})" "RADOS object classes in verified BPF: the program" \
-    "radoscls makes classes, tells whether their methods are safe, and calls them on an object, in a group of nodes or on a cluster in threads."
+mkdir "$tree/usr/include"
+cp -d "$out/include/sillarnica" "$tree/usr/include"
+package radoscls "libc6 (>= ${libc:-2.34}), python3" "RADOS object classes in verified BPF: the program" \
+    "radoscls makes classes, tells whether their methods are safe, and calls them on an object, in a group of nodes or on a cluster in threads.
+ radoscls-cc makes a class of C." "clang (>= 1:14)"
 mkdir -p "$tree"
 install -D -m 644 "$out/lib/$shared" "$tree/usr/lib/$triplet/$shared"
 package "libsillarnica$face" "libc6 (>= ${libc:-2.34})" "verified classes in BPF: the shared library" \

@@ -8,7 +8,7 @@ import sys
 import threading
 
 import sillarnica
-from sillarnica import Class, Edit, Object
+from sillarnica import Class, Edit, Limits, Object
 
 top = pathlib.Path(sys.argv[1])
 # the version by the file VERSION, in the package and in what pip knows of it (Debian's package has nothing for pip)
@@ -25,6 +25,32 @@ def raised(kind, call, *words, **named):
     except kind as error:
         return error
     raise AssertionError(f"{kind.__name__} isn't raised")
+
+
+class Kept:
+    """A store of one object."""
+
+    def __init__(self, object):
+        self.object, self.read_bytes = object, 0
+
+    def size(self):
+        return None if self.object is None else len(self.object.data)
+
+    def read(self, at, length):
+        self.read_bytes += length
+        return self.object.data[at : at + length]
+
+    def xattr(self, name):
+        return self.object.xattrs.get(name)
+
+    def key(self, name):
+        return self.object.keys.get(name)
+
+    def xattrs_from(self, place, most):
+        return sorted(it for it in self.object.xattrs.items() if it[0] >= place)[:most]
+
+    def keys_from(self, place, most):
+        return sorted(it for it in self.object.keys.items() if it[0] >= place)[:most]
 
 
 with Class.open(top / "examples" / "count.img") as counter:
@@ -54,6 +80,12 @@ with Class.open(top / "examples" / "count.img") as counter:
     for it in threads:
         it.join()
     assert codes == [1] * 400
+    # an object past the limits of a flat form
+    large = Kept(Object(bytes(5 << 20), {b"x%d" % number: b"" for number in range(50)}, {b"k%d" % number: b"" for number in range(2000)}))
+    assert counter.call_on(large, "count")[::3] == (1, [Edit("set_key", b"n", one)]) and large.read_bytes == 0
+    raised(sillarnica.Full, counter.call_on, large, "count", limits=Limits(keys=5000))
+    for past in (Limits(1 << 63), Limits(xattr_name=0), Limits(key_name=65)):
+        raised(sillarnica.Malformed, counter.call_on, large, "count", limits=past)
 raised(ValueError, counter.call, "count")
 counter.close()
 why = raised(sillarnica.Refused, Class, b"RCL1")
@@ -63,6 +95,14 @@ why = raised(sillarnica.Refused, Class, unsafe)
 assert (str(why), why.kind, why.number, why.slot) == ("refused method 0 slot 0: 5 UnsetRead", 2, 5, 0), why
 with Class.open(top / "examples" / "embed" / "parts.img") as parts:
     assert [it.name for it in parts.methods] == PARTS, parts.methods
+    # on an object that is kept elsewhere each method answers what it answers on the whole
+    full = Object(bytes(range(200)), {b"a": b"x", b"b": b"yy"}, {b"n": bytes(8), b"k": b"v", b"z": b"q"})
+    for it in parts.methods:
+        for object in (None, Object(), full):
+            for text in {b"", bytes(min(8, it.in_cap)), b"\1" * it.in_cap}:
+                for limits in (Limits(65536, 32, 1024), Limits(65536)):
+                    done = parts.call_on(Kept(object), it.name, text, limits=limits)
+                    assert done == parts.call(it.name, text, object)[:4], (it.name, object, text, done)
 # in rule set 3 something follows a method's code: two methods that answer 0
 zero = bytes([1, 0, 0, 0, 0, 2, 0]) + b"\xb7" + bytes(7) + b"\x95" + bytes(7) + bytes(2)
 with Class(b"RCL3" + bytes([2, 0, 0, 0]) + b"\1f" + zero + b"\1g" + zero) as third:

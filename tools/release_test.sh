@@ -4,8 +4,8 @@
 #     tools/release_test.sh [ARCHIVE [RADOSCLS]]
 #
 # Sums are right; each package, pkg-config and Python say the version of the file VERSION; a host in C is built by pkg-config,
-# shared and static; the shared object has the library's calls alone; the Python package goes into a fresh environment by pip,
-# without a network; as root, the Debian packages go into an empty root by dpkg, and the program, the library and Python run
+# shared and static; the shared object has the library's calls alone; a class in C becomes an image by clang, and a program by
+# the host's compiler; the Python package goes into a fresh environment by pip, without a network; as root, the Debian packages go into an empty root by dpkg, and the program, the library and Python run
 # from there. It prints a line for each step; the status is 0 if all are well.
 set -uo pipefail
 top=$(cd "$(dirname "$0")/.." && pwd)
@@ -58,6 +58,22 @@ calls_alone() {
     [ -z "$others" ] || { echo "it exports $others"; return 1; }
 }
 
+# what docs/FROM_C.md prints of the class that it shows; the files of a folder like /usr
+in_c() {
+    local from=$1
+    cp "$top/examples/c/account.c" "$work" && cd "$work" || return 1
+    "$from/bin/radoscls-cc" account.c -o account.img | grep -c '^[a-z]* ok [0-9]*$' | diff - <(echo 3) || return 1
+    diff <("$from/bin/radoscls" run account.img deposit --input 6400000000000000 | head -n 2) - << 'LINES' || return 1
+code 0
+output 6400000000000000
+LINES
+    cc -I "$from/include" account.c "$from/share/radoscls/class_native.c" -o account || return 1
+    diff <(./account deposit 6400000000000000) - << 'LINES'
+code 0
+output 6400000000000000
+LINES
+}
+
 # runs `python3 tools/release_test.py` by an interpreter, away from the tree
 python() { (cd "$work" && "$@" "$top/tools/release_test.py" "$top"); }
 
@@ -76,6 +92,7 @@ output 726f6f74
 steps 14
 object 4 0 0
 LINES
+    if [ -n "$clang" ]; then (in_c "$root/usr") || return 1; fi
     PYTHONPATH=$root/usr/lib/python3/dist-packages LD_LIBRARY_PATH=$(echo "$root"/usr/lib/*-linux-gnu) python /usr/bin/env python3
 }
 
@@ -83,6 +100,8 @@ step "sums" sums
 step "versions" versions
 step "a host in C, by pkg-config and by the archive" host
 step "the shared object has its calls alone" calls_alone
+clang=$(type -P "${CLANG:-clang}")
+if [ -n "$clang" ]; then (step "a class in C" in_c "$made"; exit $bad) || bad=1; else echo "not run: a class in C, which takes clang"; fi
 step "Python, by pip" in_a_venv
 if [ "$(id -u)" = 0 ]; then step "Debian packages, in an empty root" in_a_root; else echo "not run: the Debian packages, which dpkg installs as root"; fi
 exit $bad

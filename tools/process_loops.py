@@ -1,0 +1,106 @@
+"""Rows of tools/process.py on classes whose methods may loop.
+
+What `heads` finds is told by the verdict alone: of the image that it wrote only the places, the kinds and the bounds
+are left open."""
+from process_rows import (BARE_TEXT, CLOSED, FULL, LOOP_TEXT, NO_IMAGE, TWO, TWO_TEXT, UNSAFE, Row, bytes_of, rows_of,
+                          usage)
+
+# What is printed of the texts after the words.
+LOOPS = r"""
+verify - --loops / .rules 3 / .method s r 16 0 / .budget 100 / mov r0, 0 / mov r4, 0 / .head r0 any, r4 0 16 /
+    jge r4, r2, +6 / mov r5, r1 / add r5, r4 / ldxb r5, [r5+0] / add r0, r5 / add r4, 1 / ja -7 / exit
+=> 0 s ok 10 budget 100
+verify - --loops / .rules 3 / .method s r 16 0 / .budget 100 / mov r0, 0 / mov r4, 0 / .head r4 0 16 /
+    jge r4, r2, +6 / mov r5, r1 / add r5, r4 / ldxb r5, [r5+0] / add r0, r5 / add r4, 1 / ja -7 / exit
+=> 1 refused method 0 slot 8: 1 Backward
+verify - --loops --explain / .rules 3 / .method s r 16 0 / .budget 100 / mov r0, 0 / mov r4, 0 / .head r4 0 16 /
+    jge r4, r2, +6 / mov r5, r1 / add r5, r4 / ldxb r5, [r5+0] / add r0, r5 / add r4, 1 / ja -7 / exit
+=> 1 refused method 0 slot 8: 1 Backward
+verify loop.txt
+=> 1 refused method 0 slot 8: 1 Backward
+verify loop.txt --explain
+=> 1 refused method 0 slot 8: 1 Backward // method s, IN 16, OUT 0 // ja -7 //
+    wanted: a jump forward: the distance is at least 0 // see docs/VERIFIER.md, 1 Backward //
+    jumps go forward: write a loop out, with an exit where it may end early //
+    in rule set 3 a loop may be declared: radoscls heads IN OUT, then verify --loops // line 13: ja -7
+verify bare.txt
+=> 1 refused method 0 slot 8: 1 Backward
+verify bare.txt --loops
+=> 1 refused method 0 slot 8: 1 Backward
+verify --explain bare.txt --loops
+=> 1 refused method 0 slot 8: 1 Backward // no head is declared at its target: radoscls heads IN OUT finds heads
+verify - --loops --explain / .rules 3 / .method f r 0 0 / exit / .method s r 0 0 / mov r0, 0 / ja -2 / exit
+=> 1 refused method 0 slot 0: 5 UnsetRead
+verify - --loops --explain / .method f r 0 0 / mov r0, 0 / exit / .method g r 0 0 / mov r0, 0 / ja -2 / exit
+=> 1 refused method 1 slot 1: 1 Backward // no head is declared at its target: radoscls heads IN OUT finds heads
+verify - --loops / .rules 3 / .method f r 0 0 / mov r0, 0 / exit / .method g r 0 0 / .budget 1048576 / mov r0, 0 /
+    .head / ja -1
+=> 0 f ok 2 / g ok 2 budget 1048576
+verify two.img --loops
+=> 0 f ok 2
+verify --loops unset.img --explain
+=> 1 refused method 0 slot 0: 5 UnsetRead
+verify --loops word.txt
+=> 1 line 2: 1 Word
+verify --loops missing
+=> 1 cannot read
+verify --loops missing --explain
+=> 1 cannot read // missing: No such file or directory (os error 2)
+verify --loops loop.txt two.img
+=> 0 loop.txt: s ok 10 budget 100 / two.img: f ok 2
+verify --loops bare.txt missing loop.txt
+=> 1 bare.txt: refused method 0 slot 8: 1 Backward / missing: cannot read / loop.txt: s ok 10 budget 100
+heads - out / .method f r 0 0 / mov r0, 0 / ja -2 / exit
+=> 1 f: loops need rule set 3
+heads - out / .rules 2 / .method f r 0 0 / mov r0, 0 / exit / .method g r 0 0 / jeq r2, 0, -1 / exit
+=> 1 g: loops need rule set 3
+heads - out / .rules 3 / .method f r 0 0 / mov r0, 0 / ja +1 / exit / ja -2
+=> 1 f slot 3: no head found
+heads missing out
+=> 1 cannot read
+heads word.txt out
+=> 1 line 2: 1 Word
+heads bare.txt missing/out
+=> 1 cannot write
+heads bare.txt folder
+=> 1 cannot write
+"""
+# The method of BARE_TEXT as an image has it, and what stands before its heads.
+METHOD = bytes_of("""52434c33 0100 0000 01 73 01 1000 0000 0a00
+    b700000000000000 b704000000000000 3d24060000000000 bf15000000000000 0f45000000000000
+    7155000000000000 0f50000000000000 0704000001000000 0500f9ff00000000 9500000000000000""")
+MANY = ".rules 3\n.method f r 0 0\nmov r0, 0\n" + "jeq r0, 1, -1\n" * 65 + "exit\n"
+NO_MORE = "the argument '--loops' cannot be used with '--all' or '--json'\n\nUsage: radoscls verify "
+
+
+class Headed:
+    """Equal to the image of BARE_TEXT's method with that budget, and one head, at slot 2."""
+
+    def __init__(self, budget):
+        self.start = METHOD + bytes_of("0100") + budget.to_bytes(4, "little") + bytes_of("0200")
+
+    def __eq__(self, image):
+        return image.startswith(self.start) and len(image) > len(self.start)
+
+
+def finds(words, budget, stdin=b""):
+    """The row of `heads` that finds one for BARE_TEXT's method, and then of the verdict on what it wrote."""
+    verdict = Row("verify --loops out", f"s ok 10 budget {budget}\n")
+    return Row(f"heads {words}", wrote={"out": Headed(budget)}, stdin=stdin, then=verdict)
+
+
+LOOP_ROWS = [
+    *rows_of(LOOPS),
+    finds("bare.txt out", 131072), finds("loop.txt out", 131072), finds("- out", 131072, BARE_TEXT.encode()),
+    *(finds(f"bare.txt out --budget {budget}", budget) for budget in (1, 4096, 1048576)),
+    # no jump goes back: no heads
+    Row("heads two.txt out", wrote={"out": TWO}), Row("heads two.img two.img", wrote={"two.img": TWO}),
+    Row("heads - out", wrote={"out": b"RCL3" + TWO[4:] + bytes(2)}, stdin=(".rules 3\n" + TWO_TEXT).encode()),
+    Row("heads - out", "f: more than 64 heads\n", "", 1, stdin=MANY.encode()),
+    Row("heads empty out", NO_IMAGE, "", 1),
+    *(Row("verify loop.txt --loops", None, "", 1, to=to) for to in (FULL, CLOSED)),
+    Row("verify loop.txt two.img --loops", "loop.txt: s ok 10 bu", "", 1, room=20),
+    *(Row(f"heads {words}", None, "", 1, to=FULL) for words in ("missing out", "- out")),
+    *(Row(f"verify two.img --loops {more}", "", usage(NO_MORE), 2)
+      for more in ("--all", "--json", "loop.txt --json", "--explain --all")),
+]
