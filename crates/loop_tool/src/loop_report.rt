@@ -6,6 +6,7 @@ use crate::asked::LoopsAsked;
 use crate::load::load_by_loops;
 use crate::note::note_of;
 use bpf_decode::Method;
+use class_reports::told_text;
 use loop_classes::{LoopClass, LoopClassMethod, MethodRun};
 use loop_heads::Loops;
 use program_files::{Failed, Files};
