@@ -1,7 +1,7 @@
 //! Texts and images at their limits.
 
 use bpf_asm::{AsmError, AsmFault, assemble, assemble_class, disassemble_class};
-use bpf_decode::{ClassImage, IMAGE_LIMIT, Insn, Method, RuleSet, read_image, write_image};
+use bpf_decode::{ClassImage, IMAGE_LIMIT, Method, RuleSet, read_image, write_image};
 use loop_bytes::LOOPS_LIMIT;
 use loop_heads::{BUDGET_LIMIT, Head, HeadPlace, Loops, PLACE_LIMIT, PlaceKind};
 use std::alloc::Global;
@@ -93,10 +93,7 @@ fn all_places(alloc: Global) -> Option<Loops> {
 fn largest_method(alloc: Global, number: u32) -> Option<Method> {
     let mut name = "m".repeat(alloc, 62).ok()?;
     write!(name, "{number}").ok()?;
-    let mut code = Vec::new(alloc);
-    for _ in 0..4096 {
-        code.push(Insn::Exit).ok()?;
-    }
+    let code = assemble(alloc, &"exit\n".repeat(alloc, 4096).ok()?).ok()?;
     let method = Method::new(name, 3, 65_535, 65_535, code);
     Some(method.with_loops(all_places(alloc)))
 }
