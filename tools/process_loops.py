@@ -15,7 +15,7 @@ verify - --loops / .rules 3 / .method s r 16 0 / .budget 100 / mov r0, 0 / mov r
 => 1 refused method 0 slot 8: 1 Backward
 verify - --loops --explain / .rules 3 / .method s r 16 0 / .budget 100 / mov r0, 0 / mov r4, 0 / .head r4 0 16 /
     jge r4, r2, +6 / mov r5, r1 / add r5, r4 / ldxb r5, [r5+0] / add r0, r5 / add r4, 1 / ja -7 / exit
-=> 1 refused method 0 slot 8: 1 Backward
+=> 1 refused method 0 slot 8: 1 Backward // at its target, slot 2, radoscls heads IN OUT declares .head r0 any, r4 0 16
 verify loop.txt
 => 1 refused method 0 slot 8: 1 Backward
 verify loop.txt --explain
@@ -28,11 +28,16 @@ verify bare.txt
 verify bare.txt --loops
 => 1 refused method 0 slot 8: 1 Backward
 verify --explain bare.txt --loops
-=> 1 refused method 0 slot 8: 1 Backward // no head is declared at its target: radoscls heads IN OUT finds heads
+=> 1 refused method 0 slot 8: 1 Backward // no head is declared at its target: radoscls heads IN OUT finds heads //
+    at its target, slot 2, radoscls heads IN OUT declares .head r0 any, r4 0 16
 verify - --loops --explain / .rules 3 / .method f r 0 0 / exit / .method s r 0 0 / mov r0, 0 / ja -2 / exit
 => 1 refused method 0 slot 0: 5 UnsetRead
 verify - --loops --explain / .method f r 0 0 / mov r0, 0 / exit / .method g r 0 0 / mov r0, 0 / ja -2 / exit
-=> 1 refused method 1 slot 1: 1 Backward // no head is declared at its target: radoscls heads IN OUT finds heads
+=> 1 refused method 1 slot 1: 1 Backward // no head is declared at its target: radoscls heads IN OUT finds heads //
+    g: loops need rule set 3
+verify - --loops --explain / .rules 3 / .method f r 0 0 / mov r0, 0 / ja +1 / exit / ja -2
+=> 1 refused method 0 slot 3: 1 Backward // no head is declared at its target: radoscls heads IN OUT finds heads //
+    f slot 3: no head found
 verify - --loops / .rules 3 / .method f r 0 0 / mov r0, 0 / exit / .method g r 0 0 / .budget 1048576 / mov r0, 0 /
     .head / ja -1
 => 0 f ok 2 / g ok 2 budget 1048576

@@ -15,3 +15,4 @@ mod thresholds;
 
 pub use find_error::FindError;
 pub use finder::find_heads;
+pub use targets::back_target;

@@ -56,7 +56,7 @@ fn least_target(code: &[Option<Insn>], least: usize) -> Option<BackJump>
     let mut first: Option<BackJump> = None;
     for (slot, begun) in code.iter().enumerate() {
         if let Some(insn) = begun {
-            if let Some(target) = target_back(slot, insn) {
+            if let Some(target) = back_target(slot, insn) {
                 if target >= least {
                     first = Some(nearer(first, BackJump { slot, target }));
                 }
@@ -83,8 +83,8 @@ fn nearer(first: Option<BackJump>, jump: BackJump) -> BackJump
     }
 }
 
-/// The target of an instruction that jumps back.
-fn target_back(slot: usize, insn: &Insn) -> Option<usize>
+/// The target of the instruction at a slot, if it jumps back.
+pub fn back_target(slot: usize, insn: &Insn) -> Option<usize>
     requires { slot < 2 ^ 32 }
     ensures { MatchOption result ((q : ℕ) → jumps_back_to slot insn.now q ≡ false)
         (λ target. (q : ℕ) → jumps_back_to slot insn.now q ≡ (target == q)) }

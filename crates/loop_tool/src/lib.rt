@@ -6,6 +6,7 @@
 #![tactic(auto)]
 
 mod asked;
+mod found;
 mod heads;
 mod load;
 mod loop_report;

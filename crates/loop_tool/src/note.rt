@@ -3,7 +3,8 @@
 ghost use Rattle.std.specs.Prelude.{string_bytes};
 ghost use Rattle.class_tool.specs.Note.{IsNote};
 
-use bpf_decode::ClassImage;
+use crate::found::found_note;
+use bpf_decode::{ClassImage, Method};
 use class_tool::Explain;
 use program_files::{About, Failed, Failure, Files};
 use std::alloc::{AllocError, Global};
@@ -12,24 +13,33 @@ use verifier::{Refusal, Rule};
 /// The note of a jump back in a method that declares no loops.
 const NO_HEAD: &str = "  no head is declared at its target: radoscls heads IN OUT finds heads\n";
 
-/// True if the refused instruction jumps back, and its method declares no loops.
-fn wants_heads(class: &ClassImage, refusal: &Refusal) -> bool {
-    match class.methods().get(refusal.method) {
-        Some(method) => refusal.rule == Rule::Backward && method.loops().is_none(),
-        None => false,
+/// The note of a jump back that is refused.
+fn jump_note(
+    alloc: Global,
+    class: &ClassImage,
+    method: &Method,
+    refusal: &Refusal,
+) -> Result<String, AllocError> {
+    let mut note = String::new(alloc);
+    if method.loops().is_none() {
+        note.push_str(NO_HEAD)?;
     }
+    let found = found_note(alloc, class, method, refusal)?;
+    note.push_str(&found)?;
+    Ok(note)
 }
 
-/// The note of a class that is refused by its loops.
+/// The note of a class that is refused by its loops: of a jump back alone there is one.
 fn refusal_note(
     alloc: Global,
     class: &ClassImage,
     refusal: &Refusal,
 ) -> Result<String, AllocError> {
-    if wants_heads(class, refusal) {
-        String::from_str(alloc, NO_HEAD)
-    } else {
-        Ok(String::new(alloc))
+    match class.methods().get(refusal.method) {
+        Some(method) if refusal.rule == Rule::Backward => {
+            jump_note(alloc, class, method, refusal)
+        }
+        Some(_) | None => Ok(String::new(alloc)),
     }
 }
 
