@@ -101,7 +101,7 @@ class Pages:
 
     def plain(self, line):
         """A line without what another clang's code changes: instructions, and steps."""
-        return re.sub(r"^(steps|[a-z]+ ok) \d+$", r"\1 N", line) if self.any_code else line
+        return re.sub(r"^(steps|[a-z]+ ok) \d+\b", r"\1 N", line) if self.any_code else line
 
     def answers(self, command, *wanted, given="", status=0):
         """Compares what a command prints, without its steps, with lines worked out by hand."""
@@ -170,7 +170,7 @@ def try_mistakes(pages):
             pages.is_read(text_of(code), "", asm)
     pages.is_read(".method f r 0 0\nmov r0, 0\nexit\r\n", "line 3: 1 Word\n", asm)
     pages.is_read(".method f r 0 0\r\nmov r0, 0\r\nexit\r\n", "line 1: 2 Operand\n", asm)
-    paths = [path for kind in ("txt", "test") for path in (TOP / "examples").glob(f"*.{kind}")]
+    paths = [path for kind in ("*.txt", "*.test", "loops/*.txt") for path in (TOP / "examples").glob(kind)]
     texts = [code_of(path.read_text().split("\n")) for path in paths]
     for block in blocks(pages.text):
         if not re.match(r"radoscls |refused |client |m5 |slot 0 ", block[0]):
@@ -258,6 +258,13 @@ def try_examples(pages):
     pages.row("radoscls verify hello.txt", "all", 1, 1)
     pages.row("radoscls run hello.txt hello", "all", 2, 5)
     pages.row("radoscls test hello.txt hello.test", "all", 1, 1)
+    pages.row("radoscls verify loops/sum.txt --loops", "all", 1, 1)
+    pages.row("radoscls run loops/sum.txt sum --loops --input 0102ff", "all", 2, 5)
+    # without its two lines of loops, as in one's own text
+    bare = (pages.folder / "loops/sum.txt").read_text()
+    (pages.folder / "mine.txt").write_text(re.sub(r"(?m)^\.(budget|head).*\n", "", bare))
+    pages.row("radoscls heads mine.txt mine.img", "none")
+    pages.row("radoscls dis mine.img")
     pages.row("radoscls verify --explain", "all", 1, 9, instead="radoscls verify --explain ../refused.txt", status=1)
     pages.row("radoscls run count.txt count --key n=050000000000000000 --show", "all", 1, 6)
     pages.row("radoscls run lock.txt lock --trace --caller 2 --xattr lock=0100000000000000", "all", 1, 20)
@@ -298,6 +305,9 @@ def try_c(pages):
         method = shown(pages.text, "so a method asks for an object:", 1, 9)
         (pages.work / "touch.c").write_text("\n".join(["#include <sillarnica/class.h>", *method]) + "\n")
         pages.row(touched, instead=f"{tool} touch.c -o touch.img")
+        looped = "tools/radoscls-cc examples/loops/adler.c -o adler.img --loops"
+        pages.row(looped, "all", 1, 1, instead=looped.replace("tools/radoscls-cc", tool))
+        pages.row("radoscls run adler.img adler --loops --input-text hello", "some", 1, 1)
         pages.answers("radoscls run touch.img touch", "code -55", "output -", "object absent")
         pages.answers(touched, "code 0", "output -", "object 0 2 0")
     pages.on("docs/FROM_C.md", pages.work, "cc")
