@@ -65,16 +65,44 @@ fn call_found(
     match method.run() {
         MethodRun::Plain(method) => call_method(alloc, method, object, caller, input),
         MethodRun::Looped(method, run) => {
-            if input.len() > usize::from(method.in_cap()) {
-                return Err(CallError::InputTooLong);
-            }
-            let budgeted = BudgetedMethod {
-                caps: run.caps(),
-                budget: run.budget(),
-                ops: run.ops(),
-            };
-            let answer = answered(alloc, &budgeted, object, caller, input)?;
-            outcome(alloc, object, answer)
+            let looped = Looped { method, run };
+            call_looped(alloc, &looped, object, caller, input)
         }
     }
+}
+
+/// A method with loops, and how it runs.
+#[derive(Clone, Copy)]
+struct Looped<'a> {
+    method: &'a Method,
+    run: &'a LoopMethod,
+}
+
+/// Runs a method with loops by its budget.
+fn call_looped(
+    alloc: Global,
+    looped: &Looped<'_>,
+    object: Option<&Object>,
+    caller: u32,
+    input: &[u8],
+) -> Result<Outcome, CallError>
+    requires method { IsMethod looped.now.method.now }
+    requires runs { RunsBy looped.now.method.now looped.now.run.now looped.now.method.now.loops }
+    ensures ok { IfOk result (λ o. AnswersBudget looped.now.method.now looped.now.run.now.budget
+        (option_copied object.entry) caller input.now o) }
+    ensures short { IfOk result (λ _. length input.now ≤ looped.now.method.now.in_cap) }
+    ensures too_long { (result ≡ Err CallError.InputTooLong) ↔ (looped.now.method.now.in_cap < length input.now) }
+    ensures found { IfErr result (λ e. e ≢ CallError.NoMethod) }
+{
+    let (method, run) = (looped.method, looped.run);
+    if input.len() > usize::from(method.in_cap()) {
+        return Err(CallError::InputTooLong);
+    }
+    let budgeted = BudgetedMethod {
+        caps: run.caps(),
+        budget: run.budget(),
+        ops: run.ops(),
+    };
+    let answer = answered(alloc, &budgeted, object, caller, input)?;
+    outcome(alloc, object, answer)
 }
