@@ -23,6 +23,8 @@ pub use action_result::ActionResult;
 pub use class_trace::RunStart;
 pub use each::{Verdicts, verify_each};
 pub use explain::Explain;
+pub use input::decode_input;
+pub use run::{begun, keep, report_beside};
 pub use run_report::{Holdings, RunReport};
 pub use tool::find;
 pub use traced::traced_call;

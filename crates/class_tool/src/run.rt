@@ -96,8 +96,10 @@ fn call_and_log(
     log(alloc, class, asked, input, &outcome)
 }
 
-/// The report of a call's own outcome.
-fn report_beside(
+/// The report of a call's own outcome, without a trace.
+///
+/// Refused is want of memory alone.
+pub fn report_beside(
     alloc: Global,
     asked: &MethodCall<'_>,
     outcome: &Outcome,
@@ -129,8 +131,12 @@ fn call_beside(
     Ok(report_beside(alloc, asked, &outcome)?)
 }
 
-/// The object before a call: that of the file that is named for it, or else that of words.
-fn begun<F: ReadableFiles>(
+/// The object before a call: that of the file that is named for it, or else that of words; `None` if
+/// neither is there.
+///
+/// Refused, the first that applies: a file that can't be read or is no text, its first bad line, or
+/// the first word that spells no part of an object; and want of memory.
+pub fn begun<F: ReadableFiles>(
     alloc: Global,
     files: &F,
     asked: &MethodCall<'_>,
@@ -209,8 +215,10 @@ fn run<F: ReadableFiles>(
     Ok(run_safe(alloc, files, class, &source, asked)?)
 }
 
-/// Saves the object after a call if a file is named for it.
-fn keep<F: Files>(
+/// Saves the object after a call if a file is named for it, as `object_texts::save` does.
+///
+/// Refused is a write that fails, or want of memory.
+pub fn keep<F: Files>(
     alloc: Global,
     files: &mut F,
     asked: &MethodCall<'_>,

@@ -93,8 +93,8 @@ impl RunReport {
         })
     }
 
-    /// The report with the lines of the call's instructions.
-    pub(crate) fn with_trace(self, traced: String) -> RunReport
+    /// The report with those lines of the call's instructions.
+    pub fn with_trace(self, traced: String) -> RunReport
         ensures { result ≡ record self { traced = traced } }
     {
         RunReport { traced, ..self }
