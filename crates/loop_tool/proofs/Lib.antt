@@ -1,3 +1,4 @@
+mod Called
 mod Headed
 mod Noted
 mod Told

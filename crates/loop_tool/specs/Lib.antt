@@ -1,7 +1,8 @@
 -- A reader must believe Safe (the class of a file by its heads, and why there is none), Reports (what is told of
--- files), Heads (the image with heads that is written, and why not), and Places and NoHeads (the line on a method for
--- which no heads are found).
+-- files), LoopRun (a call by its loops, and why it failed), Heads (the image with heads that is written, and why not),
+-- and Places and NoHeads (the line on a method for which no heads are found).
 pub mod Heads
+pub mod LoopRun
 pub mod WriteHeadsError
 pub mod NoHeads
 pub mod Places

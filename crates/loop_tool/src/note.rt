@@ -6,12 +6,16 @@ ghost use Rattle.class_tool.specs.Note.{IsNote};
 use crate::found::found_note;
 use bpf_decode::{ClassImage, Method};
 use class_tool::Explain;
+use interp::CallError;
 use program_files::{About, Failed, Failure, Files};
 use std::alloc::{AllocError, Global};
 use verifier::{Refusal, Rule};
 
 /// The note of a jump back in a method that declares no loops.
 const NO_HEAD: &str = "  no head is declared at its target: radoscls heads IN OUT finds heads\n";
+
+/// The note of a call of no method.
+const NO_METHOD: &str = "  wanted: a method of the class; `radoscls verify --loops` lists them\n";
 
 /// The note of a jump back that is refused.
 fn jump_note(
@@ -43,23 +47,21 @@ fn refusal_note(
     }
 }
 
-/// The note of a failure: what `verify` says of it, but for a verdict.
+/// The note of a failure: what is said of it without loops, but for a verdict and a method's name.
 fn any_note<F: Files>(alloc: Global, files: &F, failed: &Failed) -> Result<String, AllocError> {
     match (failed.failure, &failed.about) {
         (Failure::Verdict(refusal), About::Class(source)) => {
             refusal_note(alloc, source.class(), &refusal)
         }
+        (Failure::Call(CallError::NoMethod), _) => String::from_str(alloc, NO_METHOD),
         _ => failed.note(alloc, files.fault(alloc)),
     }
 }
 
-/// The note below a failure's line, if it is asked for; none if memory for it is refused.
-pub(crate) fn note_of<F: Files>(
-    alloc: Global,
-    files: &F,
-    failed: &Failed,
-    is_explained: bool,
-) -> String
+/// The note below the line of a failure of a class whose methods may loop, if it is asked for; none
+/// if memory for it is refused. It is what is said of the failure where no method loops, but for a
+/// verdict: of that it says only what heads a jump back wants.
+pub fn note_of<F: Files>(alloc: Global, files: &F, failed: &Failed, is_explained: bool) -> String
     ensures { IsNote is_explained (string_bytes result) }
 {
     if !is_explained {
