@@ -1,8 +1,8 @@
 -- The command line: `verify IN .. [--all] [--loops] [--json] [--explain]`, `run IN METHOD [--caller N]
 -- [--input HEX] [--input-text TEXT] [--input-u64 N,..] [--object HEX] [--xattr NAME=HEX ..] [--key KEY=HEX ..]
--- [--limits LIMITS] [--load FILE] [--save FILE] [--show] [--trace] [--json] [--explain]`, `test IN FILE [--trace]
--- [--explain]`, `asm IN OUT [--all] [--explain]`, `pack OUT METHOD .. [--rules N] [--explain]`, `dis IN [--slots]
--- [--explain]`, `heads IN OUT [--budget N]`, `sim FILE [--class NAME=IMAGE ..] [--trace] [--explain]`, and
+-- [--limits LIMITS] [--loops] [--load FILE] [--save FILE] [--show] [--trace] [--json] [--explain]`, `test IN FILE
+-- [--trace] [--explain]`, `asm IN OUT [--all] [--explain]`, `pack OUT METHOD .. [--rules N] [--explain]`, `dis IN
+-- [--slots] [--explain]`, `heads IN OUT [--budget N]`, `sim FILE [--class NAME=IMAGE ..] [--trace] [--explain]`, and
 -- `cluster FILE [--class NAME=IMAGE ..] [--show] [--stats] [--strict] [--explain] [--follow]`.
 use Rattle.std.specs.Prelude.{[], ◌∷◌, Some, true, codes}
 use Rattle.clap.specs.Lexer.{usize_max}
@@ -46,7 +46,7 @@ explain_rule = flag_rule (codes "explain")
 abbrev pub json_rule : Rule
 json_rule = flag_rule (codes "json")
 
--- the flag that has loops judged by the heads that methods declare
+-- the flag that has loops judged by the heads that methods declare, and run by their budgets
 abbrev pub loops_rule : Rule
 loops_rule = flag_rule (codes "loops")
 
@@ -71,9 +71,9 @@ abbrev pub object_line : App
 object_line = with_rule (with_rule (with_rule call_line (value_rule (codes "object"))) (each_rule (codes "xattr")))
     (each_rule (codes "key"))
 
--- by limits
+-- by limits, or by loops
 abbrev pub limits_line : App
-limits_line = with_rule object_line (option_rule (codes "limits") (codes "profile"))
+limits_line = with_rule (with_rule object_line (option_rule (codes "limits") (codes "profile"))) loops_rule
 
 -- or a file, and into a file
 abbrev pub run_line : App

@@ -100,14 +100,15 @@ fn object_command<'a>(alloc: Global) -> Result<Command<'a>, AllocError>
     with_arg(with_arg(with_arg(of_call, object), xattr), key)
 }
 
-/// The subcommand of a call, by limits.
+/// The subcommand of a call, by limits or by loops.
 fn limits_command<'a>(alloc: Global) -> Result<Command<'a>, AllocError>
     ensures line { IfOk result (λ c. app_of c ≡ limits_line) }
     ensures local { IfOk result (λ c. (out-Command c).has_globals ≡ false) }
 {
     let of_object = object_command(alloc);
     let limits = option(alloc, "limits", "LIMITS", "profile", help::LIMITS);
-    with_arg(of_object, limits)
+    let loops = flag(alloc, "loops", help::RUN_LOOPS);
+    with_arg(with_arg(of_object, limits), loops)
 }
 
 fn run_command<'a>(alloc: Global) -> Result<Command<'a>, AllocError>

@@ -17,6 +17,7 @@ pub(crate) const RUN: &str = "Examples:
   radoscls run count.img count --save kept.txt
   radoscls run count.img count --load kept.txt --save kept.txt
   radoscls run count.img count --limits ceph
+  radoscls run loops/sum.txt sum --loops --input 0102ff
   radoscls run count.img count --json";
 
 pub(crate) const TEST: &str = "Examples:
@@ -70,6 +71,10 @@ pub(crate) const INPUT_U64: &str =
 /// For the help of `run`.
 pub(crate) const LIMITS: &str =
     "What the object may hold: 'profile', or 'ceph' for 134217728 bytes, and any number of xattrs and keys";
+
+/// For the help of `run`.
+pub(crate) const RUN_LOOPS: &str =
+    "Judges the class by the heads that methods declare, and runs their loops by their budgets";
 
 /// For the help of `run`.
 pub(crate) const LOAD: &str =

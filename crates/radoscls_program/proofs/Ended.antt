@@ -7,17 +7,21 @@ use Rattle.radoscls_program.specs.Clustered.{ClusterEnds}
 use Rattle.radoscls_program.specs.declared.task.ClusterTask.{ClusterTask}
 use Rattle.class_tool.specs.declared.action.Action.{Action}
 use Rattle.class_tool.specs.declared.action_result.ActionResult.{ActionResult}
+use Rattle.class_tool.specs.declared.action_result.ActionResult.TheVariants.{Ran}
+use Rattle.class_tool.specs.declared.run_report.RunReport.{RunReport}
 use Rattle.program_files.specs.declared.failed.Failed.{Failed}
 use Rattle.program_files.specs.declared.failure.Failure.TheVariants.{NoMemory}
 use Rattle.pg_log.specs.Log.{Classes}
 use Rattle.sim.specs.Simulating.{Plays}
 use Rattle.sim.specs.declared.file.SimulationEnd.TheVariants as ending
-use Rattle.radoscls_program.specs.Program.{Ends, Found, IsDone, IsNamed, IsRefused, IsUnstarted, Responds, Starts, TaskEnds, run_by}
+use Rattle.radoscls_program.specs.Program.{Ends, Found, IsDone, IsNamed, IsRefused, IsUnstarted, LoopCallEnds, Responds, Starts, TaskEnds, run_by}
 use Rattle.radoscls_program.specs.Asked.{AreFor, AreForNone}
+use Rattle.radoscls_program.specs.Shown.{ShowsAnswer}
 use Rattle.radoscls_program.specs.Status.{code_of}
 use Rattle.radoscls_program.specs.Streams.{IsPrinted, Stream, failure_line}
 use Rattle.radoscls_program.specs.declared.status.ExitStatus.{ExitStatus}
 use Rattle.radoscls_program.specs.declared.status.ExitStatus.TheVariants.{Done, Refused, Usage}
+use Rattle.radoscls_program.specs.declared.task.GivenCall.{GivenCall}
 use Rattle.radoscls_program.specs.declared.task.Task.{Task}
 use Rattle.radoscls_program.specs.declared.task.Task.TheVariants as task
 use Rattle.radoscls_program.specs.declared.task.Telling.{Telling}
@@ -63,10 +67,16 @@ ended before after old new words (task.Loops asked) Refused named judged =
     inr (inr (inr (inr (inr (inr (inr (inr (inr (inl (record { asked = asked; named = named; left = judged.0; ended = judged.1 }))))))))))
 ended before after old new words (task.Loops asked) Usage named judged = absurd judged.1
 ended before after old new words (task.Heads asked) Done named found =
-    inr (inr (inr (inr (inr (inr (inr (record { asked = asked; named = named; ended = found })))))))
+    inr (inr (inr (inr (inr (inr (inr (inl (record { asked = asked; named = named; ended = found }))))))))
 ended before after old new words (task.Heads asked) Refused named found =
-    inr (inr (inr (inr (inr (inr (inr (inr (inr (inr (record { asked = asked; named = named; ended = found }))))))))))
+    inr (inr (inr (inr (inr (inr (inr (inr (inr (inr (inl (record { asked = asked; named = named; ended = found })))))))))))
 ended before after old new words (task.Heads asked) Usage named found = absurd found
+ended before after old new words (task.RunLoops call e) Done named ran =
+    inr (inr (inr (inr (inr (inr (inr (inr (record { call = call; telling = e; named = named; ended = ran }))))))))
+ended before after old new words (task.RunLoops call e) Refused named ran =
+    inr (inr (inr (inr (inr (inr (inr (inr (inr (inr (inr (record { call = call; telling = e; named = named; ended = ran })))))))))))
+ended before after old new words (task.RunLoops call e) Usage named (inl on) = absurd on.ended
+ended before after old new words (task.RunLoops call e) Usage named (inr un) = absurd (let bad : Usage ≡ Refused = un.0 in cc)
 ended before after old new words (task.Test asked e) Done named tested = inr (inr (inr (inr (inl (record { asked = asked; is_explained = e; named = named; left = tested.0; ended = tested.1 })))))
 ended before after old new words (task.Test asked e) Refused named tested =
     inr (inr (inr (inr (inr (inr (inr (inl (record { asked = asked; is_explained = e; named = named; left = tested.0; ended = tested.1 }))))))))
@@ -113,6 +123,14 @@ ran_well : (disk : Option Disk) (old new : Stream) (task : ClusterTask) → Clus
 ran_well disk old new task (inl ran) = ran.ends.well
 ran_well disk old new task (inr refused) = refused.1.ends.well
 
+-- nor did a call by loops whose report was printed
+loop_shown : (is_json : Bool) (old new : Stream) (report : RunReport) → ShowsAnswer is_json old new (Ran report) Done → new.failed ≡ old.failed
+loop_shown is_json old new report shown = shown.well
+
+ran_by_loops_well : (before after : Storage) (old new : Stream) (call : GivenCall) (e : Telling) → LoopCallEnds before after old new call e Done → new.failed ≡ old.failed
+ran_by_loops_well before after old new call e (inl on) = loop_shown e.is_json old new on.ended.report on.ended.shown
+ran_by_loops_well before after old new call e (inr un) = absurd (let bad : Done ≡ Refused = un.0 in cc)
+
 -- nor does anything that is done
 done_well : (before after : Storage) (old new : Stream) (words : List Text) → IsDone before after old new words → new.failed ≡ old.failed
 done_well before after old new words (inl answered) = answered.printed.well
@@ -122,8 +140,10 @@ done_well before after old new words (inr (inr (inr (inl each)))) = each.ended.p
 done_well before after old new words (inr (inr (inr (inr (inl tests))))) = tests.ended.shown.1.well
 done_well before after old new words (inr (inr (inr (inr (inr (inl files)))))) = files.ended.shown.1.well
 done_well before after old new words (inr (inr (inr (inr (inr (inr (inl loops))))))) = loops.ended.shown.1.well
-done_well before after old new words (inr (inr (inr (inr (inr (inr (inr heads))))))) =
+done_well before after old new words (inr (inr (inr (inr (inr (inr (inr (inl heads)))))))) =
     ap (λ (s : Stream). s.failed) heads.ended.1
+done_well before after old new words (inr (inr (inr (inr (inr (inr (inr (inr ran)))))))) =
+    ran_by_loops_well before after old new ran.call ran.telling ran.ended
 
 -- if a write fails, the status is 1
 pub failed_by : (before after : Storage) (old new : Stream) (words : List Text) (status : ExitStatus) (n : ℕ)

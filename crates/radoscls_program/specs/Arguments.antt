@@ -151,6 +151,16 @@ form_of p =
 abbrev pub loops_are_alone : Parsed → Bool
 loops_are_alone p = not (is_set_in p (codes "loops") && (is_set_in p (codes "all") || is_set_in p (codes "json")))
 
+-- the limits that a text names are an OSD's
+abbrev pub is_ceph : Option Text → Bool
+is_ceph None = false
+is_ceph (Some limits) = bytes_eq limits (codes "ceph")
+
+-- With --loops a call has neither a trace nor an OSD's limits.
+abbrev pub loops_are_plain : Parsed → Bool
+loops_are_plain p =
+    not (is_set_in p (codes "loops") && (is_set_in p (codes "trace") || is_ceph (one_in p (codes "limits"))))
+
 -- It takes each file IN, and whether --explain is there.
 pub record TakesFiles (p : Parsed) (asked : FilesAsked) : Type 0 where
   pub unlooped : is_set_in p (codes "loops") ≡ false
@@ -234,7 +244,12 @@ TakesTask p (task.Loops asked) =
     TakesLoops p asked × (json_is_alone p ≡ true) × (loops_are_alone p ≡ true)
     × (is_none (one_in p (codes "IN")) ≡ false)
 TakesTask p (task.Heads asked) = TakesHeads p asked
-TakesTask p (task.Run call telling) = TakesCall p call × (telling ≡ telling_of p) × (json_is_alone p ≡ true)
+TakesTask p (task.Run call telling) =
+    TakesCall p call × (telling ≡ telling_of p) × (json_is_alone p ≡ true)
+    × (is_set_in p (codes "loops") ≡ false)
+TakesTask p (task.RunLoops call telling) =
+    TakesCall p call × (telling ≡ telling_of p) × (json_is_alone p ≡ true)
+    × (is_set_in p (codes "loops") ≡ true) × (loops_are_plain p ≡ true)
 TakesTask p (task.Test asked is_explained) = TakesTest p asked × (is_explained ≡ is_set_in p (codes "explain"))
 TakesTask p (task.Sim s) = TakesSim p s
 TakesTask p (task.Cluster c) =
@@ -258,6 +273,7 @@ name_for (task.Each image is_explained) = codes "verify"
 name_for (task.Loops asked) = codes "verify"
 name_for (task.Heads asked) = codes "heads"
 name_for (task.Run call telling) = codes "run"
+name_for (task.RunLoops call telling) = codes "run"
 name_for (task.Test asked is_explained) = codes "test"
 name_for (task.Sim s) = codes "sim"
 name_for (task.Cluster c) = codes "cluster"

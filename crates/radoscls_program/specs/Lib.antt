@@ -2,8 +2,8 @@
 -- cites: Asked and Arguments (what words ask for; `command_line` says how they are read), Inputs
 -- (how standard input is used), Entries, Tenants and Raw (how words spell xattrs and keys, tenants'
 -- classes and methods), Shown, Judged, Looped, Tested, Playing and Clustered (how an action,
--- `verify --all`, `verify` of files and by loops, `heads`, `test`, `sim` and `cluster` end), Status and
--- Streams (the number of an exit status, and what is known of standard output).
+-- `verify --all`, `verify` of files and by loops, `run` by loops, `heads`, `test`, `sim` and `cluster`
+-- end), Status and Streams (the number of an exit status, and what is known of standard output).
 pub mod Arguments
 pub mod Asked
 pub mod Clustered

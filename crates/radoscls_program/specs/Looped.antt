@@ -1,6 +1,9 @@
--- The end of `verify --loops` and of `heads`, and the text that they printed.
+-- The end of `verify --loops`, of `run --loops` and of `heads`, and the text that they printed.
 use Rattle.std.specs.Prelude.{◌≡◌, ◌⊎◌, ◌++◌, ℕ, true, false, List, Option, codes}
+use Rattle.class_tool.specs.declared.action_result.ActionResult.TheVariants.{Ran}
+use Rattle.class_tool.specs.declared.run_report.RunReport.{RunReport}
 use Rattle.loop_tool.specs.Heads.{HeadsFail, WritesHeads}
+use Rattle.loop_tool.specs.LoopRun.{LoopRunFails, LoopRuns}
 use Rattle.loop_tool.specs.NoHeads.{no_heads_text}
 use Rattle.loop_tool.specs.Reports.{AreLoopReports, all_accepted, reports_in, reports_text}
 use Rattle.loop_tool.specs.declared.asked.HeadsAsked.{HeadsAsked}
@@ -8,12 +11,16 @@ use Rattle.loop_tool.specs.declared.asked.LoopsAsked.{LoopsAsked}
 use Rattle.loop_tool.specs.declared.write_heads_error.WriteHeadsError.{WriteHeadsError}
 use Rattle.loop_tool.specs.declared.write_heads_error.WriteHeadsError.TheVariants.{Failed, NotFound}
 use Rattle.loop_tool.specs.declared.loop_reports.LoopReports.{LoopReports}
+use Rattle.object_texts.specs.declared.method_call.MethodCall.{MethodCall}
 use Rattle.program_files.specs.Failure.{failure_text}
 use Rattle.program_files.specs.Files.{Disk, Storage}
+use Rattle.program_files.specs.declared.failure.Failure.{Failure}
 use Rattle.program_files.specs.declared.failure.Failure.TheVariants.{NoMemory}
+use Rattle.radoscls_program.specs.Shown.{IsToldAs, ShowsAnswer}
 use Rattle.radoscls_program.specs.Streams.{IsPrinted, Lost, Stream, Took, failure_line}
 use Rattle.radoscls_program.specs.declared.status.ExitStatus.{ExitStatus}
 use Rattle.radoscls_program.specs.declared.status.ExitStatus.TheVariants.{Done, Refused, Usage}
+use Rattle.radoscls_program.specs.declared.task.Telling.{Telling}
 
 -- what is told of files is printed, and the status tells whether each is accepted; or a beginning of
 -- it is printed
@@ -38,6 +45,27 @@ LoopsEnd disk old new asked Done = AreJudgedByLoops disk old new asked Done
 LoopsEnd disk old new asked Refused =
     AreJudgedByLoops disk old new asked Refused ⊎ IsPrinted old new (failure_line NoMemory)
 LoopsEnd disk old new asked Usage = ⊥
+
+-- a call was made by loops, and its report is printed or not
+pub record IsRunByLoops (before after : Storage) (old new : Stream) (call : MethodCall) (telling : Telling)
+    (status : ExitStatus) : Type 0 where
+  pub report : RunReport
+  pub runs : LoopRuns before after call report
+  pub shown : ShowsAnswer telling.is_json old new (Ran report) status
+
+-- none was made, or its object was not saved, and that is told
+pub record IsNotRunByLoops (before after : Storage) (old new : Stream) (call : MethodCall)
+    (telling : Telling) : Type 0 where
+  pub failure : Failure
+  pub fails : LoopRunFails before after call failure
+  pub told : IsToldAs old new failure telling
+
+-- by the status
+abbrev pub LoopRunEnds : Storage → Storage → Stream → Stream → MethodCall → Telling → ExitStatus → Type 0
+LoopRunEnds before after old new call telling Done = IsRunByLoops before after old new call telling Done
+LoopRunEnds before after old new call telling Refused =
+    IsRunByLoops before after old new call telling Refused ⊎ IsNotRunByLoops before after old new call telling
+LoopRunEnds before after old new call telling Usage = ⊥
 
 -- why no image with heads was written
 abbrev pub headless_text : WriteHeadsError → List ℕ

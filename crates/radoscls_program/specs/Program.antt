@@ -18,7 +18,7 @@ use Rattle.sim.specs.declared.asked.Simulation.{Simulation}
 use Rattle.radoscls_program.specs.Clustered.{ClusterEnds}
 use Rattle.radoscls_program.specs.Asked.{AreFor, AreForNone}
 use Rattle.radoscls_program.specs.Judged.{EachEnds, FilesEnd}
-use Rattle.radoscls_program.specs.Looped.{HeadsEnd, LoopsEnd}
+use Rattle.radoscls_program.specs.Looped.{HeadsEnd, LoopRunEnds, LoopsEnd}
 use Rattle.radoscls_program.specs.Playing.{SimEnds}
 use Rattle.radoscls_program.specs.Shown.{IsToldAs, IsUnshown, ShowsAnswer, answer_text}
 use Rattle.radoscls_program.specs.Streams.{Stream, Took, IsPrinted, failure_line}
@@ -102,6 +102,19 @@ pub record IsValueless (before after : Storage) (old new : Stream) (words : List
   pub named : AreFor words (task.Run call telling)
   pub unfilled : IsUnfilled before after old new call telling
 
+-- A call is made by loops, with its values in hexadecimal.
+pub record RunsByLoops (before after : Storage) (old new : Stream) (call : GivenCall) (telling : Telling)
+    (status : ExitStatus) : Type 0 where
+  pub filled : MethodCall
+  pub values : IsFilled before.disk call filled
+  pub ended : LoopRunEnds before after old new filled telling status
+
+-- the end of a call by loops: it is made, or it is told why not
+abbrev pub LoopCallEnds : Storage → Storage → Stream → Stream → GivenCall → Telling → ExitStatus → Type 0
+LoopCallEnds before after old new call telling status =
+    RunsByLoops before after old new call telling status ⊎
+    ((status ≡ Refused) × IsUnfilled before after old new call telling)
+
 -- Memory was refused before the words were known, nothing was done, and a line says so.
 abbrev pub IsUnread : Storage → Storage → Stream → Stream → Type 0
 IsUnread before after old new = (after ≡ before) × IsPrinted old new (failure_line NoMemory)
@@ -129,6 +142,14 @@ pub record IsOfLoops (before after : Storage) (old new : Stream) (words : List T
   pub named : AreFor words (task.Loops asked)
   pub left : after ≡ before
   pub ended : LoopsEnd before.disk old new asked status
+
+-- The words name a call by loops, and that ended so.
+pub record IsOfLoopRun (before after : Storage) (old new : Stream) (words : List Text)
+    (status : ExitStatus) : Type 0 where
+  pub call : GivenCall
+  pub telling : Telling
+  pub named : AreFor words (task.RunLoops call telling)
+  pub ended : LoopCallEnds before after old new call telling status
 
 -- The words name a class that gets heads, and that ended so.
 pub record IsOfHeads (before after : Storage) (old new : Stream) (words : List Text)
@@ -167,7 +188,8 @@ IsDone before after old new words =
     IsRun before after old new words Done
     ⊎ IsEach before after old new words Done ⊎ IsTestRun before after old new words Done ⊎
     IsOfFiles before after old new words Done
-    ⊎ IsOfLoops before after old new words Done ⊎ IsOfHeads before after old new words Done
+    ⊎ IsOfLoops before after old new words Done ⊎ IsOfHeads before after old new words Done ⊎
+    IsOfLoopRun before after old new words Done
 
 -- why the program ended with 1
 abbrev pub IsRefused : Storage → Storage → Stream → Stream → List Text → Type 0
@@ -177,7 +199,8 @@ IsRefused before after old new words =
     IsValueless before after old new words
     ⊎ IsEach before after old new words Refused ⊎ IsTestRun before after old new words Refused ⊎
     IsOfFiles before after old new words Refused
-    ⊎ IsOfLoops before after old new words Refused ⊎ IsOfHeads before after old new words Refused
+    ⊎ IsOfLoops before after old new words Refused ⊎ IsOfHeads before after old new words Refused ⊎
+    IsOfLoopRun before after old new words Refused
 
 -- The words have a fault or ask for help; nothing was done or printed on standard output.
 pub record IsUsage (before after : Storage) (old new : Stream) (words : List Text) : Type 0 where
@@ -249,6 +272,8 @@ TaskEnds before after old new (task.Heads asked) status =
     HeadsEnd before after old new asked status
 TaskEnds before after old new (task.Run call telling) status =
     CallEnds before after old new call telling status
+TaskEnds before after old new (task.RunLoops call telling) status =
+    LoopCallEnds before after old new call telling status
 TaskEnds before after old new (task.Test asked is_explained) status =
     (after ≡ before) × TestEnds before.disk old new asked is_explained status
 TaskEnds before after old new (task.Sim simulation) status =

@@ -1,8 +1,8 @@
 //! Finds the task that words ask for.
 ghost use Rattle.std.specs.Prelude.{◌≡◌, ◌≢◌, IfErr, IfNone, IfOk, IfSome, codes, false, map, true};
-ghost use Rattle.command_line.specs.Parsed.{IsMemory, is_set_in, parsed_of};
+ghost use Rattle.command_line.specs.Parsed.{IsMemory, is_set_in, one_in, parsed_of};
 ghost use Rattle.radoscls_program.specs.Arguments.{Asks, Names, TakesFiles, are_files, form_of, json_is_alone};
-ghost use Rattle.radoscls_program.specs.Arguments.{TakesLoops, loops_are_alone, telling_of};
+ghost use Rattle.radoscls_program.specs.Arguments.{TakesLoops, is_ceph, loops_are_alone, loops_are_plain, telling_of};
 ghost use Rattle.radoscls_program.specs.Asked.{AreFor, AreForNone};
 ghost use Rattle.radoscls_program.specs.declared.task.Task.{Task as ATask};
 
@@ -49,6 +49,28 @@ fn check_loops<'a>(words: &ParsedWords<'a>) -> Result<(), Mistake<'a>>
 {
     if words.is_set("loops") && (words.is_set("all") || words.is_set("json")) {
         Err(Mistake::LoopsOfMore)
+    } else {
+        Ok(())
+    }
+}
+
+/// True if `--limits` names those of an OSD.
+fn is_ceph(words: &ParsedWords<'_>) -> bool
+    ensures { result ≡ is_ceph (one_in (parsed_of words.now) (codes "limits")) }
+{
+    match words.one("limits") {
+        Some(limits) => limits == "ceph",
+        None => false,
+    }
+}
+
+/// Refuses words that ask for a call by loops, and for what it doesn't have.
+fn check_plain<'a>(words: &ParsedWords<'a>) -> Result<(), Mistake<'a>>
+    ensures ok { IfOk result (λ _. loops_are_plain (parsed_of words.now) ≡ true) }
+    ensures err { IfErr result (λ _. loops_are_plain (parsed_of words.now) ≡ false) }
+{
+    if words.is_set("loops") && (words.is_set("trace") || is_ceph(words)) {
+        Err(Mistake::LoopsNotPlain)
     } else {
         Ok(())
     }
@@ -133,7 +155,11 @@ fn run_task<'a>(alloc: Global, words: &ParsedWords<'a>) -> Result<Task<'a>, Mist
     ensures unnamed { IfErr result (λ m. m ≢ Mistake.NoMemory → (task : ATask) → Names (parsed_of words.now) task → ⊥) }
 {
     check_json(words)?;
+    check_plain(words)?;
     let call = call_of(alloc, words)?;
+    if words.is_set("loops") {
+        return Ok(Task::RunLoops(call, telling_of(words)));
+    }
     Ok(Task::Run(call, telling_of(words)))
 }
 

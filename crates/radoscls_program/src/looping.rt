@@ -1,17 +1,22 @@
-//! `verify --loops`, and `heads`.
+//! `verify --loops`, `run --loops`, and `heads`.
 ghost use Rattle.std.specs.Prelude.{◌≡◌, ◌++◌, codes};
 ghost use Rattle.loop_tool.specs.NoHeads.{no_heads_text};
 ghost use Rattle.program_files.specs.Files.{storage};
-ghost use Rattle.radoscls_program.specs.Looped.{HeadsEnd, LoopsEnd, ShowsLoops, headless_text};
+ghost use Rattle.radoscls_program.specs.Looped.{HeadsEnd, LoopRunEnds, LoopsEnd, ShowsLoops, headless_text};
+ghost use Rattle.radoscls_program.specs.Shown.{IsToldAs};
 ghost use Rattle.radoscls_program.specs.Streams.{IsPrinted, stream};
 
-use crate::status::ExitStatus;
-use crate::telling::refuse;
+use crate::showing::show;
+use crate::status::{ActionEnd, ExitStatus};
+use crate::task::Telling;
+use crate::telling::{refuse, say, tell_json};
+use class_tool::ActionResult;
 use loop_tool::{
-    HeadsAsked, LoopReports, LoopsAsked, NoHeads, WriteHeadsError, verify_files_by_loops,
-    write_heads,
+    HeadsAsked, LoopReports, LoopsAsked, NoHeads, WriteHeadsError, note_of, run_by_loops,
+    verify_files_by_loops, write_heads,
 };
-use program_files::{Failure, Files, Output};
+use object_texts::MethodCall;
+use program_files::{Failed, Failure, Files, Output};
 use std::alloc::Global;
 
 /// Prints what is told of files.
@@ -38,6 +43,53 @@ pub(crate) fn judge_loops<F: Files, O: Output>(
     match verify_files_by_loops(alloc, files, asked) {
         Ok(reports) => show_loops(&reports, out),
         Err(_) => refuse(Failure::NoMemory, out),
+    }
+}
+
+/// Prints why a call by loops was not made, or its object not saved.
+fn tell_unrun<F: Files, O: Output>(
+    alloc: Global,
+    files: &F,
+    failed: &Failed,
+    telling: Telling,
+    out: &mut O,
+) -> ExitStatus
+    ensures status { result ≡ ExitStatus.Refused }
+    ensures told { IsToldAs (stream O.printed O.failed out.old)
+        (stream O.printed O.failed out.new) failed.now.failure telling }
+{
+    if telling.is_json {
+        return tell_json(alloc, failed.failure, out);
+    }
+    let note = note_of(alloc, files, failed, telling.notes.is_explained);
+    say(failed.failure, &note, out);
+    ExitStatus::Refused
+}
+
+/// Makes a call of a method that may loop, and prints what it comes to.
+pub(crate) fn run_looped<F: Files, O: Output>(
+    alloc: Global,
+    files: &mut F,
+    call: &MethodCall<'_>,
+    telling: Telling,
+    out: &mut O,
+) -> ActionEnd
+    ensures { LoopRunEnds (storage F.disk F.failed F.in_place files.old) (storage F.disk F.failed F.in_place files.new)
+        (stream O.printed O.failed out.old) (stream O.printed O.failed out.new) call.now telling result.status }
+{
+    match run_by_loops(alloc, files, call) {
+        Ok(report) => {
+            let answer = ActionResult::Ran(report);
+            let status = show(alloc, &answer, telling.is_json, out);
+            ActionEnd {
+                status,
+                is_unprinted: status == ExitStatus::Refused,
+            }
+        }
+        Err(failed) => ActionEnd {
+            status: tell_unrun(alloc, files, &failed, telling, out),
+            is_unprinted: false,
+        },
     }
 }
 

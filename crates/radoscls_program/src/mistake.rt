@@ -21,6 +21,8 @@ pub(crate) enum Mistake<'a> {
     JsonOfMore,
     /// Verdicts by heads are told neither of each method nor in JSON.
     LoopsOfMore,
+    /// A call of a method that may loop has neither a trace nor an OSD's limits.
+    LoopsNotPlain,
 }
 
 /// The form that an argument wants of its text.
@@ -113,6 +115,12 @@ impl Mistake<'_> {
                 String::from_str(
                     alloc,
                     "the argument '--loops' cannot be used with '--all' or '--json'",
+                )
+            }
+            Mistake::LoopsNotPlain => {
+                String::from_str(
+                    alloc,
+                    "the argument '--loops' cannot be used with '--trace' or '--limits ceph'",
                 )
             }
             Mistake::Value(wanted, text) => {

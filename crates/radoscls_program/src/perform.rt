@@ -4,10 +4,12 @@ ghost use Rattle.std.specs.Prelude.{◌≡◌, ◌≢◌, IfErr, IfOk, true, fal
 ghost use Rattle.command_line.specs.Parsed.{IsMemory};
 ghost use Rattle.radoscls_program.specs.Clustered.{ClusterEnds};
 ghost use Rattle.radoscls_program.specs.Playing.{SimEnds};
-ghost use Rattle.radoscls_program.specs.Program.{Acts, CallEnds, Ends, IsDone, IsRefused, IsUsage, Responds, TaskEnds};
+ghost use Rattle.radoscls_program.specs.Program.{Acts, CallEnds, Ends, IsDone, IsRefused, IsUsage, LoopCallEnds};
+ghost use Rattle.radoscls_program.specs.Program.{Responds, TaskEnds};
 ghost use Rattle.class_tool.specs.ActionResult.{Fails, Settles};
 ghost use Rattle.program_files.specs.Files.{storage};
 ghost use Rattle.radoscls_program.specs.Program.{run_by};
+ghost use Rattle.radoscls_program.specs.Shown.{IsToldAs};
 ghost use Rattle.radoscls_program.specs.Status.{code_of};
 ghost use Rattle.radoscls_program.specs.Streams.{stream, IsPrinted, failure_line};
 ghost use Rattle.radoscls_program.specs.declared.status.ExitStatus.{ExitStatus as AStatus};
@@ -15,9 +17,9 @@ ghost use Rattle.radoscls_program.specs.declared.status.ExitStatus.{ExitStatus a
 use crate::asked::asked;
 use crate::error_stream::ErrorStream;
 use crate::judging::{judge, judge_files};
-use crate::looping::{find_heads, judge_loops};
+use crate::looping::{find_heads, judge_loops, run_looped};
 use crate::showing::show;
-use crate::status::ExitStatus;
+use crate::status::{ActionEnd, ExitStatus};
 use crate::task::{ClusterTask, GivenCall, Task, Telling};
 use crate::telling::{add, asked_note, refuse, tell, tell_as};
 use crate::testing::test;
@@ -82,14 +84,6 @@ fn find_told<F: Files>(
     }
 }
 
-/// How an action ended.
-#[derive(Clone, Copy)]
-struct ActionEnd {
-    status: ExitStatus,
-    /// True if it was done, and its answer could not be printed.
-    is_unprinted: bool,
-}
-
 /// Says that a call's object was saved, if only the answer was not printed: the same call again
 /// would count twice.
 fn tell_saved<E: io::Write>(end: ActionEnd, call: &GivenCall<'_>, err: &mut E) {
@@ -133,6 +127,24 @@ fn run_by<'a>(is_large: bool, call: MethodCall<'a>) -> Action<'a>
     }
 }
 
+/// Prints why a call was not made.
+fn unmade<F: Files, O: Output>(
+    alloc: Global,
+    files: &F,
+    failure: Failure,
+    telling: Telling,
+    out: &mut O,
+) -> ActionEnd
+    ensures status { result.status ≡ ExitStatus.Refused }
+    ensures told { IsToldAs (stream O.printed O.failed out.old)
+        (stream O.printed O.failed out.new) failure telling }
+{
+    ActionEnd {
+        status: tell_as(alloc, files, &Failed::from(failure), telling, out),
+        is_unprinted: false,
+    }
+}
+
 /// Makes a call, after its values' files are read, and prints what it comes to.
 fn act_call<F: Files, O: Output>(
     alloc: Global,
@@ -146,22 +158,36 @@ fn act_call<F: Files, O: Output>(
 {
     let values = match filled(alloc, files, call) {
         Ok(values) => values,
-        Err(failure) => {
-            return ActionEnd {
-                status: tell_as(alloc, files, &Failed::from(failure), telling, out),
-                is_unprinted: false,
-            };
-        }
+        Err(failure) => return unmade(alloc, files, failure, telling, out),
     };
     match call_with(alloc, call, &values) {
         Ok(made) => {
             let action = run_by(call.is_large, made);
             act(alloc, files, &action, telling, out)
         }
-        Err(error) => ActionEnd {
-            status: tell_as(alloc, files, &Failed::from(error), telling, out),
-            is_unprinted: false,
-        },
+        Err(_) => unmade(alloc, files, Failure::NoMemory, telling, out),
+    }
+}
+
+/// Makes a call of a method that may loop, after its values' files are read, and prints what it
+/// comes to.
+fn act_by_loops<F: Files, O: Output>(
+    alloc: Global,
+    files: &mut F,
+    call: &GivenCall<'_>,
+    telling: Telling,
+    out: &mut O,
+) -> ActionEnd
+    ensures { LoopCallEnds (storage F.disk F.failed F.in_place files.old) (storage F.disk F.failed F.in_place files.new)
+        (stream O.printed O.failed out.old) (stream O.printed O.failed out.new) call.now telling result.status }
+{
+    let values = match filled(alloc, files, call) {
+        Ok(values) => values,
+        Err(failure) => return unmade(alloc, files, failure, telling, out),
+    };
+    match call_with(alloc, call, &values) {
+        Ok(made) => run_looped(alloc, files, &made, telling, out),
+        Err(_) => unmade(alloc, files, Failure::NoMemory, telling, out),
     }
 }
 
@@ -240,6 +266,11 @@ fn do_task<R: AllocGlobal + Threads + Wait + Clock + Sync, F: Files, O: Output, 
         Task::Heads(asked) => find_heads(alloc, files, asked, out),
         Task::Run(call, telling) => {
             let end = act_call(alloc, files, call, *telling, out);
+            tell_saved(end, call, &mut *err.to);
+            end.status
+        }
+        Task::RunLoops(call, telling) => {
+            let end = act_by_loops(alloc, files, call, *telling, out);
             tell_saved(end, call, &mut *err.to);
             end.status
         }

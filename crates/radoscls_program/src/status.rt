@@ -14,6 +14,14 @@ pub enum ExitStatus {
     Usage,
 }
 
+/// How an action ended.
+#[derive(Clone, Copy)]
+pub(crate) struct ActionEnd {
+    pub(crate) status: ExitStatus,
+    /// True if it was done, and its answer could not be printed.
+    pub(crate) is_unprinted: bool,
+}
+
 impl ExitStatus {
     /// The number that the process ends with: 0, 1 or 2.
     pub fn code(self) -> u8

@@ -82,6 +82,8 @@ pub(crate) enum Task<'a> {
     Heads(HeadsAsked<'a>),
     /// A call, whose values files may hold, and how that is told.
     Run(GivenCall<'a>, Telling),
+    /// The same of a method that may loop, by its budget.
+    RunLoops(GivenCall<'a>, Telling),
     /// The tests of the class in a file, run, and whether a failure is explained.
     Test(Testing<'a>, bool),
     /// A file of events, played.

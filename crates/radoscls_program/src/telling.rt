@@ -64,7 +64,7 @@ pub(crate) fn say<O: Output>(failure: Failure, note: &str, out: &mut O)
 }
 
 /// Prints why something was not done, in JSON.
-fn tell_json<O: Output>(alloc: Global, failure: Failure, out: &mut O) -> ExitStatus
+pub(crate) fn tell_json<O: Output>(alloc: Global, failure: Failure, out: &mut O) -> ExitStatus
     ensures status { result ≡ ExitStatus.Refused }
     ensures told { IsToldInJson (stream O.printed O.failed out.old) (stream O.printed O.failed out.new) failure }
 {
