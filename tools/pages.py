@@ -17,7 +17,7 @@ NAMES = (r"(radoscls|rt|clang|llvm-[a-z]*|sh|cc|python3|bash|cat|cd|rm|find|for|
 # tools/embed.sh, tools/release_test.sh, `rt ci`.
 ELSEWHERE = re.compile(r"radoscls (verify|run|test|asm|pack|dis|heads|sim|cluster) .*[A-Z].*|tools/try\.sh"
                        r"|tools/(test|edits|changed|library|embed|fuzz|refuse|pages|release|release_test)\b.*|cc -I lib host.*|cc host.c .*"
-                       r"|radoscls verify --(all|loops)|cd crates/radoscls && rt run .*|rt run|rt try --test|\./out/bench --dry")
+                       r"|radoscls verify --(all|loops)|radoscls run --loops|cd crates/radoscls && rt run .*|rt run|rt try --test|\./out/bench --dry")
 
 
 def blocks(text):
@@ -270,6 +270,8 @@ def try_examples(pages):
     pages.row("radoscls run lock.txt lock --trace --caller 2 --xattr lock=0100000000000000", "all", 1, 20)
     pages.row("radoscls run swap.txt swap --object 0500 --input 05000000000000000700000000000000 --show", "all", 1, 5)
     pages.row("radoscls cluster queue.cluster --class queue=queue.txt", "some", 2, 2)
+    pages.on("docs/LOOPS.md", pages.work / "examples")
+    pages.row("radoscls run loops/sum.txt sum --loops --input 0102ff", "all", 1, 4)
     pages.on("docs/PROGRAM.md", pages.work / "examples")
     pages.row("radoscls test count.txt count.test")
     count = "radoscls sim --class count=count.txt FILE"

@@ -2,7 +2,8 @@
 
 What `heads` finds is told by the verdict alone: of the image that it wrote only the places, the kinds and the bounds
 are left open."""
-from process_rows import (BARE_TEXT, CLOSED, FULL, LOOP_TEXT, NO_IMAGE, TWO, TWO_TEXT, UNSAFE, Row, bytes_of, rows_of,
+import process_reports
+from process_rows import (BARE_TEXT, CLOSED, FULL, KEPT, NO_IMAGE, SAVED, TWO, TWO_TEXT, Row, bytes_of, ran, rows_of,
                           usage)
 
 # What is printed of the texts after the words.
@@ -55,6 +56,53 @@ verify --loops loop.txt two.img
 => 0 loop.txt: s ok 10 budget 100 / two.img: f ok 2
 verify --loops bare.txt missing loop.txt
 => 1 bare.txt: refused method 0 slot 8: 1 Backward / missing: cannot read / loop.txt: s ok 10 budget 100
+run loop.txt s --loops --input 010203
+=> 0 code 6 / output - / steps 25 / object absent
+run loop.txt s --loops --input 01010101010101010101010101
+=> 0 code 13 / output - / steps 95 / object absent
+run loop.txt s --loops --input 0101010101010101010101010101
+=> 0 code -62 / output - / steps 100 / object absent
+run --loops loop.txt s --object 6162 --xattr a=01 --show --limits profile
+=> 0 code 0 / output - / steps 4 / object 2 1 0 / data 6162 / xattr a 01
+run writes.txt w --loops --input 6162 --show
+=> 0 code 2 / output - / steps 22 / object 2 0 0 / data 6162
+run writes.txt w --loops --input 616263 --show
+=> 0 code -62 / output - / steps 200 / object absent
+run writes.txt w --loops --input 616263 --show --object 7878 --key n=01
+=> 0 code -62 / output - / steps 200 / object 2 0 1 / data 7878 / key n 01
+run - who --loops --caller 7 / .rules 3 / .method who r 0 0 / .budget 200 / mov r6, 0 /
+    .head r0 any, r1 unset, r2 unset, r3 unset, r6 0 1 / call 15 / jne r6, 0, +2 / mov r6, 1 / ja -4 / exit
+=> 0 code 7 / output - / steps 8 / object absent
+run two.img f --loops
+=> 0 code 0 / output - / steps 2 / object absent
+run loop.txt s --input 010203
+=> 1 refused method 0 slot 8: 1 Backward
+run bare.txt s --loops
+=> 1 refused method 0 slot 8: 1 Backward
+run bare.txt s --loops --explain --input 0g
+=> 1 refused method 0 slot 8: 1 Backward // no head is declared at its target: radoscls heads IN OUT finds heads //
+    at its target, slot 2, radoscls heads IN OUT declares .head r0 any, r4 0 16
+run - s --loops --explain / .rules 3 / .method s r 16 0 / .budget 100 / mov r0, 0 / mov r4, 0 / .head r4 0 16 /
+    jge r4, r2, +6 / mov r5, r1 / add r5, r4 / ldxb r5, [r5+0] / add r0, r5 / add r4, 1 / ja -7 / exit
+=> 1 refused method 0 slot 8: 1 Backward // at its target, slot 2, radoscls heads IN OUT declares .head r0 any, r4 0 16
+run unset.img f --loops --explain
+=> 1 refused method 0 slot 0: 5 UnsetRead
+run word.txt f --loops
+=> 1 line 2: 1 Word
+run missing f --loops --explain
+=> 1 cannot read // missing: No such file or directory (os error 2)
+run loop.txt s --loops --input @missing
+=> 1 cannot read
+run loop.txt t --loops --input 0g --object g
+=> 1 input is not hex
+run loop.txt t --loops --object g
+=> 1 object is not hex
+run loop.txt t --loops --load bad.held
+=> 1 object line 2: bad
+run loop.txt t --loops --explain
+=> 1 call refused: 1 NoMethod // wanted: a method of the class; `radoscls verify --loops` lists them
+run loop.txt s --loops --input-u64 0,0,0
+=> 1 call refused: 2 InputTooLong
 heads - out / .method f r 0 0 / mov r0, 0 / ja -2 / exit
 => 1 f: loops need rule set 3
 heads - out / .rules 2 / .method f r 0 0 / mov r0, 0 / exit / .method g r 0 0 / jeq r2, 0, -1 / exit
@@ -76,6 +124,7 @@ METHOD = bytes_of("""52434c33 0100 0000 01 73 01 1000 0000 0a00
     7155000000000000 0f50000000000000 0704000001000000 0500f9ff00000000 9500000000000000""")
 MANY = ".rules 3\n.method f r 0 0\nmov r0, 0\n" + "jeq r0, 1, -1\n" * 65 + "exit\n"
 NO_MORE = "the argument '--loops' cannot be used with '--all' or '--json'\n\nUsage: radoscls verify "
+NOT_PLAIN = "the argument '--loops' cannot be used with '--trace' or '--limits ceph'\n\nUsage: radoscls run "
 
 
 class Headed:
@@ -108,4 +157,25 @@ LOOP_ROWS = [
     *(Row(f"heads {words}", None, "", 1, to=FULL) for words in ("missing out", "- out")),
     *(Row(f"verify two.img --loops {more}", "", usage(NO_MORE), 2)
       for more in ("--all", "--json", "loop.txt --json", "--explain --all")),
+    *(Row(f"run loop.txt s --loops {more}", "", usage(NOT_PLAIN), 2)
+      for more in ("--trace", "--limits ceph", "--limits ceph --trace --json", "--trace --input 0g")),
+    # what is saved: nothing of what was refused, and of a spent budget the object as it was
+    Row("run writes.txt w --loops --input 6162 --save out", ran(2, "-", 22, "2 0 0"), wrote={"out": b"data 6162\n"}),
+    Row("run writes.txt w --loops --input 616263 --load kept --save out", ran(-62, "-", 200, "2 1 0"),
+        wrote={"out": KEPT}),
+    Row("run writes.txt w --loops --input 616263 --save out", ran(-62, "-", 200, "absent"), wrote={"out": b""}),
+    Row("run writes.txt w --loops --input 61 --save out", None, SAVED.format("out"), 1, to=FULL,
+        wrote={"out": b"data 61\n"}),
+    Row("run loop.txt t --loops --load kept --save out", "call refused: 1 NoMethod\n", "", 1),
+    Row("run bare.txt s --loops --save out", "refused method 0 slot 8: 1 Backward\n", "", 1),
+    Row("run loop.txt s --loops --save folder", "cannot write\n", "", 1),
+    Row("run loop.txt t --loops", None, "", 1, to=FULL),
+    # in JSON
+    Row("run writes.txt w --loops --json --input 616263 --object 7878 --show", process_reports.objects(
+        process_reports.ran(-62, "", 200, (2, 0, 0), "data 7878\n"))),
+    *(Row(f"run {words} --loops --json", process_reports.objects({"error": error}), "", 1) for words, error in (
+        ("bare.txt s", "refused method 0 slot 8: 1 Backward"), ("loop.txt t", "call refused: 1 NoMethod"),
+        ("loop.txt s --input @missing", "cannot read"), ("loop.txt s --save folder", "cannot write"))),
+    Row("heads bare.txt out", wrote={"out": Headed(131072)},
+        then=Row("run out s --loops --input 0102", ran(3, "-", 18, "absent"))),
 ]

@@ -69,6 +69,25 @@ ja -7
 exit
 """
 LOOP_TEXT = BARE_TEXT.replace("16 0\n", "16 0\n.budget 100\n").replace("jge", ".head r0 any, r4 0 16\njge")
+# A method with a loop, which writes the bytes of its input to the object, one by one: by its budget no more than two.
+WRITES_TEXT = """.rules 3
+.method w rw 16 0
+.budget 200
+mov r6, r1
+mov r7, r2
+mov r8, 0
+.head r1 unset, r2 unset, r3 unset, r8 0 16
+jge r8, r7, +7
+mov r1, r8
+mov r2, r6
+add r2, r8
+mov r3, 1
+call 3
+add r8, 1
+ja -8
+mov r0, r8
+exit
+"""
 # A class whose text is longer than any image: its 32 methods have 4,096 instructions each.
 LARGER_TEXT = "".join(f".method m{n:02} r 0 0\n" + "mov r0, 0\n" * 4095 + "exit\n" for n in range(32))
 # The longest text that there may be.
@@ -125,6 +144,7 @@ FILES = {
     "limit.calls": NUMBERS.replace("nodes 3", "nodes 17"),
     "loop.txt": LOOP_TEXT,
     "bare.txt": BARE_TEXT,
+    "writes.txt": WRITES_TEXT,
     "three.txt": TWO_TEXT + ".method g r 0 0\nexit\n" + TWO_TEXT.replace(" f ", " h "),
     "held": "data 6162\nxattr a 01\nkey k -\n",
     "bad.held": "data 6162\nxattr a\n",
@@ -161,8 +181,8 @@ COMMANDS = {
     "verify": (["<IN>..."], {"--all": "", "--loops": "", "--json": "", "--explain": ""}),
     "run": (["<IN>", "<METHOD>"], {
         "--input": " <HEX>", "--input-text": " <TEXT>", "--input-u64": " <N,..>", "--caller": " <N>", "--object": " <HEX>", "--xattr": " <NAME=HEX>",
-        "--key": " <KEY=HEX>", "--limits": " <LIMITS>", "--load": " <FILE>", "--save": " <FILE>", "--show": "",
-        "--trace": "", "--json": "", "--explain": ""}),
+        "--key": " <KEY=HEX>", "--limits": " <LIMITS>", "--loops": "", "--load": " <FILE>", "--save": " <FILE>",
+        "--show": "", "--trace": "", "--json": "", "--explain": ""}),
     "asm": (["<IN>", "<OUT>"], {"--all": "", "--explain": ""}),
     "pack": (["<OUT>", "<METHOD>..."], {"--rules": " <N>", "--explain": ""}),
     "dis": (["<IN>"], {"--slots": "", "--explain": ""}),

@@ -13,7 +13,7 @@ _radoscls() {
             return
             ;;
         verify) words="--all --loops --json --explain --help" ;;
-        run) words="--caller --input --input-text --input-u64 --object --xattr --key --limits --load --save --show --trace --json --explain --help" ;;
+        run) words="--caller --input --input-text --input-u64 --object --xattr --key --limits --loops --load --save --show --trace --json --explain --help" ;;
         test) words="--trace --explain --help" ;;
         asm) words="--all --explain --help" ;;
         pack) words="--rules --explain --help" ;;
