@@ -276,6 +276,10 @@ def try_examples(pages):
     pages.row("radoscls test count.txt count.test")
     count = "radoscls sim --class count=count.txt FILE"
     pages.row(count, instead=f"{count} | grep 'Reply 1 0 1 0100000000000000'")
+    pages.on("docs/LOOPS.md", pages.work / "examples")
+    pages.row("radoscls asm loops/sum.txt loop.img --heads --budget 4096", "none")
+    pages.row("radoscls verify loop.img --loops", "all", 1, 1)
+    pages.on("docs/PROGRAM.md", pages.work / "examples")
     # two instructions, `mov r0, 0` and `exit`
     (pages.folder / "sum.bin").write_bytes(bytes.fromhex("b700000000000000" "9500000000000000"))
     for command in ("verify", "run", "test", "asm", "pack", "dis", "heads", "sim", "cluster"):

@@ -2,9 +2,15 @@
 
 What `heads` finds is told by the verdict alone: of the image that it wrote only the places, the kinds and the bounds
 are left open."""
+import re
+import struct
+from pathlib import Path
+
 import process_reports
-from process_rows import (BARE_TEXT, CLOSED, FULL, KEPT, NO_IMAGE, SAVED, TWO, TWO_TEXT, Row, bytes_of, ran, rows_of,
-                          usage)
+from process_rows import (BARE_TEXT, CLOSED, FILES, FULL, KEPT, NO_IMAGE, SAVED, TWO, TWO_TEXT, Row, bytes_of, ran,
+                          rows_of, usage)
+
+TOP = Path(__file__).resolve().parent.parent
 
 # What is printed of the texts after the words.
 LOOPS = r"""
@@ -117,12 +123,40 @@ heads bare.txt missing/out
 => 1 cannot write
 heads bare.txt folder
 => 1 cannot write
+heads grow.img out
+=> 1 s slot 117: no head found, r6 has no bound
+asm - out --heads / .rules 3 / .method f r 0 0 / mov r0, 0 / ja +1 / exit / ja -2
+=> 1 f slot 3: no head found
+asm - out --heads / .method f r 0 0 / mov r0, 0 / ja -2 / exit
+=> 1 f: loops need rule set 3
+asm missing out --heads
+=> 1 cannot read
+asm word.txt out
+=> 1 line 2: 1 Word
+asm word.txt out --heads
+=> 1 line 2: 1 Word
+asm --heads bare.txt folder --budget 7
+=> 1 cannot write
 """
 # The method of BARE_TEXT as an image has it, and what stands before its heads.
 METHOD = bytes_of("""52434c33 0100 0000 01 73 01 1000 0000 0a00
     b700000000000000 b704000000000000 3d24060000000000 bf15000000000000 0f45000000000000
     7155000000000000 0f50000000000000 0704000001000000 0500f9ff00000000 9500000000000000""")
+# A number moves down the stack, a slot a round, and from the last one to r6: more rounds than the search makes. The
+# jump back is at slot 117.
+SLOTS = 38
+CODE = b"".join(struct.pack("<BBhi", *words) for words in (
+    (0xb7, 0, 0, 0), (0xb7, 6, 0, 0), *((0x7a, 10, -8 * slot, 0) for slot in range(1, SLOTS + 1)),
+    (0x79, 0xa6, -8 * SLOTS, 0), *(words for slot in range(SLOTS, 1, -1) for words in (
+        (0x79, 0xa3, 8 - 8 * slot, 0), (0x7b, 0x3a, -8 * slot, 0))),
+    (0x7b, 0x0a, -8, 0), (7, 0, 0, 1), (0xa5, 0, -78, 1_000_000), (0xb7, 0, 0, 0), (0x95, 0, 0, 0)))
+FILES.update({"grow.img": METHOD[:15] + struct.pack("<H", len(CODE) // 8) + CODE + bytes(2)})
+# The examples, each a class whose loops get heads.
+EXAMPLES = {path.name: path.read_text() for path in (TOP / "examples/loops").glob("*.txt")}
+FILES.update(EXAMPLES)
 MANY = ".rules 3\n.method f r 0 0\nmov r0, 0\n" + "jeq r0, 1, -1\n" * 65 + "exit\n"
+NO_HEADS = "the argument '--budget <N>' cannot be used without '--heads'"
+HEADS_ALONE = "the argument '--heads' cannot be used with '--all' or '--explain'"
 NO_MORE = "the argument '--loops' cannot be used with '--all' or '--json'\n\nUsage: radoscls verify "
 NOT_PLAIN = "the argument '--loops' cannot be used with '--trace' or '--limits ceph'\n\nUsage: radoscls run "
 
@@ -137,24 +171,60 @@ class Headed:
         return image.startswith(self.start) and len(image) > len(self.start)
 
 
+class Same:
+    """Equal to the first image that is compared with it, and then to no other."""
+
+    def __init__(self):
+        self.image = None
+
+    def __eq__(self, image):
+        self.image = self.image or image
+        return image == self.image
+
+
+def is_accepted(text):
+    """Whether a text accepts each method of a class, with the usual budget if it has loops."""
+    return re.fullmatch(r"(\S+ ok \d+( budget 131072)?\n)+", text) is not None
+
+
 def finds(words, budget, stdin=b""):
-    """The row of `heads` that finds one for BARE_TEXT's method, and then of the verdict on what it wrote."""
+    """The row of words that find a head for BARE_TEXT's method, and then of the verdict on what they wrote."""
     verdict = Row("verify --loops out", f"s ok 10 budget {budget}\n")
-    return Row(f"heads {words}", wrote={"out": Headed(budget)}, stdin=stdin, then=verdict)
+    return Row(words, wrote={"out": Headed(budget)}, stdin=stdin, then=verdict)
+
+
+def finds_alike(*commands):
+    """The rows of commands that write one image, each with a row of the verdict on it."""
+    image = Same()
+    return [Row(words, wrote={"out": image}, then=Row("verify --loops out", is_accepted)) for words in commands]
 
 
 LOOP_ROWS = [
     *rows_of(LOOPS),
-    finds("bare.txt out", 131072), finds("loop.txt out", 131072), finds("- out", 131072, BARE_TEXT.encode()),
-    *(finds(f"bare.txt out --budget {budget}", budget) for budget in (1, 4096, 1048576)),
+    finds("heads bare.txt out", 131072), finds("heads loop.txt out", 131072),
+    finds("heads - out", 131072, BARE_TEXT.encode()), finds("asm - out --heads", 131072, BARE_TEXT.encode()),
+    *(finds(f"{words} --budget {budget}", budget) for budget in (1, 4096, 1048576) for words in (
+        "heads bare.txt out", "asm bare.txt out --heads")),
+    *finds_alike("heads bare.txt out", "asm loop.txt out --heads"),
+    *(row for name in sorted(EXAMPLES) for row in finds_alike(f"heads {name} out", f"asm {name} out --heads")),
+    Row("asm bare.txt bare.txt --heads", wrote={"bare.txt": Headed(131072)}),
     # no jump goes back: no heads
     Row("heads two.txt out", wrote={"out": TWO}), Row("heads two.img two.img", wrote={"two.img": TWO}),
     Row("heads - out", wrote={"out": b"RCL3" + TWO[4:] + bytes(2)}, stdin=(".rules 3\n" + TWO_TEXT).encode()),
+    Row("asm two.txt out --heads", wrote={"out": TWO}),
     Row("heads - out", "f: more than 64 heads\n", "", 1, stdin=MANY.encode()),
     Row("heads empty out", NO_IMAGE, "", 1),
     *(Row("verify loop.txt --loops", None, "", 1, to=to) for to in (FULL, CLOSED)),
     Row("verify loop.txt two.img --loops", "loop.txt: s ok 10 bu", "", 1, room=20),
-    *(Row(f"heads {words}", None, "", 1, to=FULL) for words in ("missing out", "- out")),
+    *(Row(words, None, "", 1, to=FULL) for words in (
+        "heads missing out", "heads - out", "asm word.txt out --heads")),
+    # --budget without --heads, or with a number that is none; --heads with what it doesn't tell
+    *(Row(f"{words} --budget {number}", "", usage(f"{NO_HEADS}\n\nUsage: radoscls {words.split()[0]} "), 2)
+      for words in ("asm bare.txt out", "asm bare.txt out --all --explain") for number in "10"),
+    *(Row(f"asm bare.txt out --heads --budget {number}", "",
+          usage(f"invalid value '{number}' for '--budget <N>': expected "), 2) for number in ("0", "1048577", "01", "x")),
+    *(Row(f"{words} --heads", "", usage(f"{HEADS_ALONE}\n\nUsage: radoscls {words.split()[0]} "), 2)
+      for words in ("asm bare.txt out --all", "asm bare.txt out --explain", "asm bare.txt out --budget 0 --all")),
     *(Row(f"verify two.img --loops {more}", "", usage(NO_MORE), 2)
       for more in ("--all", "--json", "loop.txt --json", "--explain --all")),
     *(Row(f"run loop.txt s --loops {more}", "", usage(NOT_PLAIN), 2)

@@ -183,7 +183,7 @@ COMMANDS = {
         "--input": " <HEX>", "--input-text": " <TEXT>", "--input-u64": " <N,..>", "--caller": " <N>", "--object": " <HEX>", "--xattr": " <NAME=HEX>",
         "--key": " <KEY=HEX>", "--limits": " <LIMITS>", "--loops": "", "--load": " <FILE>", "--save": " <FILE>",
         "--show": "", "--trace": "", "--json": "", "--explain": ""}),
-    "asm": (["<IN>", "<OUT>"], {"--all": "", "--explain": ""}),
+    "asm": (["<IN>", "<OUT>"], {"--all": "", "--heads": "", "--budget": " <N>", "--explain": ""}),
     "pack": (["<OUT>", "<METHOD>..."], {"--rules": " <N>", "--explain": ""}),
     "dis": (["<IN>"], {"--slots": "", "--explain": ""}),
     "heads": (["<IN>", "<OUT>"], {"--budget": " <N>"}),

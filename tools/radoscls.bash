@@ -15,7 +15,7 @@ _radoscls() {
         verify) words="--all --loops --json --explain --help" ;;
         run) words="--caller --input --input-text --input-u64 --object --xattr --key --limits --loops --load --save --show --trace --json --explain --help" ;;
         test) words="--trace --explain --help" ;;
-        asm) words="--all --explain --help" ;;
+        asm) words="--all --heads --budget --explain --help" ;;
         pack) words="--rules --explain --help" ;;
         dis) words="--slots --explain --help" ;;
         heads) words="--budget --help" ;;
@@ -24,7 +24,7 @@ _radoscls() {
         *) return ;;
     esac
     case ${COMP_WORDS[COMP_CWORD - 1]} in
-        --caller | --rules | --budget) return ;;
+        --caller | --budget | --rules) return ;;
     esac
     case $word in
         -*) mapfile -t COMPREPLY < <(compgen -W "$words" -- "$word") ;;

@@ -1,8 +1,9 @@
 -- The command line: `verify IN .. [--all] [--loops] [--json] [--explain]`, `run IN METHOD [--caller N]
 -- [--input HEX] [--input-text TEXT] [--input-u64 N,..] [--object HEX] [--xattr NAME=HEX ..] [--key KEY=HEX ..]
 -- [--limits LIMITS] [--loops] [--load FILE] [--save FILE] [--show] [--trace] [--json] [--explain]`, `test IN FILE
--- [--trace] [--explain]`, `asm IN OUT [--all] [--explain]`, `pack OUT METHOD .. [--rules N] [--explain]`, `dis IN
--- [--slots] [--explain]`, `heads IN OUT [--budget N]`, `sim FILE [--class NAME=IMAGE ..] [--trace] [--explain]`, and
+-- [--trace] [--explain]`, `asm IN OUT [--all] [--heads] [--budget N] [--explain]`, `pack OUT METHOD .. [--rules N]
+-- [--explain]`, `dis IN [--slots] [--explain]`, `heads IN OUT [--budget N]`,
+-- `sim FILE [--class NAME=IMAGE ..] [--trace] [--explain]`, and
 -- `cluster FILE [--class NAME=IMAGE ..] [--show] [--stats] [--strict] [--explain] [--follow]`.
 use Rattle.std.specs.Prelude.{[], ◌∷◌, Some, true, codes}
 use Rattle.clap.specs.Lexer.{usize_max}
@@ -87,10 +88,20 @@ test_line =
     with_rule (with_rule (with_rule (with_rule (new_app (codes "test")) (required_rule (codes "IN")))
     (required_rule (codes "FILE"))) (flag_rule (codes "trace"))) explain_rule
 
+-- the flag that has heads of loops found
+abbrev pub heads_rule : Rule
+heads_rule = flag_rule (codes "heads")
+
+-- what a call of a method that gets heads by that flag may take
+abbrev pub given_budget_rule : Rule
+given_budget_rule = value_rule (codes "budget")
+
 -- `asm`, which makes an image of a text
 abbrev pub asm_line : App
-asm_line = with_rule (with_rule (with_rule (with_rule (new_app (codes "asm")) (required_rule (codes "IN")))
-    (required_rule (codes "OUT"))) (flag_rule (codes "all"))) explain_rule
+asm_line =
+    with_rule (with_rule (with_rule (with_rule (with_rule (with_rule (new_app (codes "asm"))
+    (required_rule (codes "IN"))) (required_rule (codes "OUT"))) (flag_rule (codes "all"))) heads_rule)
+    given_budget_rule) explain_rule
 
 -- the methods that are packed, one or more
 abbrev pub methods_rule : Rule

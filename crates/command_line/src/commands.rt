@@ -3,7 +3,8 @@ ghost use Rattle.std.specs.Prelude.{◌≡◌, IfOk, false};
 ghost use Rattle.clap.specs.declared.builder.command.Command.TheViews.{out-Command};
 ghost use Rattle.clap.specs.Words.{app_of, rule_of};
 ghost use Rattle.command_line.specs.CommandLine.{asm_line, call_line, class_rule, cluster_line, command_line, dis_line};
-ghost use Rattle.command_line.specs.CommandLine.{explain_rule, heads_line, image_line, json_rule, limits_line};
+ghost use Rattle.command_line.specs.CommandLine.{explain_rule, given_budget_rule, heads_line, heads_rule, image_line};
+ghost use Rattle.command_line.specs.CommandLine.{json_rule, limits_line};
 ghost use Rattle.command_line.specs.CommandLine.{methods_rule, object_line, pack_line};
 ghost use Rattle.command_line.specs.CommandLine.{plain_call_line, plain_line, run_line, sim_line, test_line};
 ghost use Rattle.command_line.specs.CommandLine.{verify_line};
@@ -149,6 +150,22 @@ fn test_command<'a>(alloc: Global) -> Result<Command<'a>, AllocError>
     with_arg(with_arg(of_tests, trace), explain_flag(alloc))
 }
 
+/// The flag that has heads of loops found.
+fn heads_flag<'a>(alloc: Global) -> Arg<'a>
+    ensures rule { rule_of result ≡ heads_rule }
+    ensures local { result.global ≡ false }
+{
+    flag(alloc, "heads", help::FIND_HEADS)
+}
+
+/// What a call of a method that gets heads by that flag may take.
+fn budget_value<'a>(alloc: Global) -> Arg<'a>
+    ensures rule { rule_of result ≡ given_budget_rule }
+    ensures local { result.global ≡ false }
+{
+    value(alloc, "budget", "N", help::GIVEN_BUDGET)
+}
+
 fn asm_command<'a>(alloc: Global) -> Result<Command<'a>, AllocError>
     ensures line { IfOk result (λ c. app_of c ≡ asm_line) }
     ensures local { IfOk result (λ c. (out-Command c).has_globals ≡ false) }
@@ -161,7 +178,9 @@ fn asm_command<'a>(alloc: Global) -> Result<Command<'a>, AllocError>
     let of_text = file_command(alloc, heading, "IN", "The file of the text");
     let image = required(alloc, "OUT", "The file of the image");
     let all = flag(alloc, "all", help::ALL_LINES);
-    with_arg(with_arg(with_arg(of_text, image), all), explain_flag(alloc))
+    let of_image = with_arg(with_arg(of_text, image), all);
+    let of_heads = with_arg(with_arg(of_image, heads_flag(alloc)), budget_value(alloc));
+    with_arg(of_heads, explain_flag(alloc))
 }
 
 /// The methods that are packed, one or more.

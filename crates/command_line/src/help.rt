@@ -26,7 +26,8 @@ pub(crate) const TEST: &str = "Examples:
 
 pub(crate) const ASM: &str = "Examples:
   radoscls asm count.txt count.img
-  radoscls asm count.txt count.img --all";
+  radoscls asm count.txt count.img --all
+  radoscls asm loops/sum.txt loop.img --heads";
 
 pub(crate) const PACK: &str = "Examples:
   radoscls pack sum.img sum:r:16:8:sum.bin
@@ -57,6 +58,14 @@ pub(crate) const LOOPS: &str = "Judges loops by the heads that methods declare";
 /// For the help of `heads`.
 pub(crate) const BUDGET: &str =
     "What the instructions of a call may take, 1 to 1048576: a helper's call 64, each other one 1";
+
+/// For the help of `asm`.
+pub(crate) const FIND_HEADS: &str =
+    "Finds heads for the loops of the class, as the command heads does";
+
+/// For the help of `asm`.
+pub(crate) const GIVEN_BUDGET: &str =
+    "With --heads: what the instructions of a call may take, 1 to 1048576; if it isn't given, 131072";
 
 /// For the help of `asm`.
 pub(crate) const ALL_LINES: &str = "Prints each wrong line of the text, and not the first alone";

@@ -1,5 +1,5 @@
 -- The arguments of each subcommand.
-use Rattle.std.specs.Prelude.{◌≡◌, ◌==◌, ◌&&◌, ◌||◌, not, ℕ, Bool, true, false, [], Option, Some, None, is_none}
+use Rattle.std.specs.Prelude.{◌≡◌, ◌⊎◌, ◌==◌, ◌&&◌, ◌||◌, not, ℕ, Bool, true, false, [], Option, Some, None, is_none}
 use Rattle.std.specs.Prelude.{if◌then◌else◌}
 use Rattle.std.specs.Prelude.{length, map, nat_le, nat_lt, option_and_then, option_map, codes}
 use Rattle.std.specs.Str.{bytes_eq}
@@ -191,6 +191,27 @@ telling_of p =
       is_json = is_set_in p (codes "json");
     }
 
+-- With --heads neither --all nor --explain is there, and without it no --budget.
+abbrev pub heads_are_alone : Parsed → Bool
+heads_are_alone p =
+    if is_set_in p (codes "heads") then not (is_set_in p (codes "all") || is_set_in p (codes "explain"))
+    else is_none (one_in p (codes "budget"))
+
+-- a budget that may be given; else it is 131072
+abbrev pub given_budget : Option Text → Option ℕ
+given_budget None = Some 131072
+given_budget (Some text) = budget_in text
+
+-- --heads is there, and heads have the budget --budget
+pub record FindsHeads (p : Parsed) (budget : ℕ) : Type 0 where
+  pub headed : is_set_in p (codes "heads") ≡ true
+  pub alone : heads_are_alone p ≡ true
+  pub given : given_budget (one_in p (codes "budget")) ≡ Some budget
+
+-- neither of them is there
+abbrev pub FindsNone : Parsed → Type 0
+FindsNone p = (is_set_in p (codes "heads") ≡ false) × (heads_are_alone p ≡ true)
+
 -- The arguments of each action but a call: to tell whether a class is safe, the file IN, without
 -- --all; to assemble a text, the file IN and the file OUT of the image; to pack raw code, those of
 -- `pack`; to give the text of a class, the file IN, with slots if --slots is there.
@@ -199,7 +220,7 @@ TakesAction p (Verify image) = TakesOne p image.now false
 TakesAction p (Run call) = ⊥
 TakesAction p (RunLarge call) = ⊥
 TakesAction p (Assemble text image) =
-    (one_in p (codes "IN") ≡ Some text.now) × (one_in p (codes "OUT") ≡ Some image.now)
+    (one_in p (codes "IN") ≡ Some text.now) × (one_in p (codes "OUT") ≡ Some image.now) × FindsNone p
 TakesAction p (Pack asked) = TakesPacking p asked
 TakesAction p (Disassemble image has_slots) =
     (one_in p (codes "IN") ≡ Some image.now) × (has_slots ≡ is_set_in p (codes "slots"))
@@ -209,6 +230,17 @@ pub record TakesHeads (p : Parsed) (asked : HeadsAsked) : Type 0 where
   pub class : one_in p (codes "IN") ≡ Some asked.class.now
   pub image : one_in p (codes "OUT") ≡ Some asked.image.now
   pub budget : option_and_then budget_in (one_in p (codes "budget")) ≡ Some asked.budget
+
+-- `asm --heads` takes the file IN of the text, and the same.
+pub record TakesTextHeads (p : Parsed) (asked : HeadsAsked) : Type 0 where
+  pub class : one_in p (codes "IN") ≡ Some asked.class.now
+  pub image : one_in p (codes "OUT") ≡ Some asked.image.now
+  pub heads : FindsHeads p asked.budget
+
+-- HEADS of the class in a file are asked for by `heads`, and by `asm --heads`.
+abbrev pub AsksHeads : Parsed → HeadsAsked → Type 0
+AsksHeads p asked =
+    ((p.name ≡ codes "heads") × TakesHeads p asked) ⊎ ((p.name ≡ codes "asm") × TakesTextHeads p asked)
 
 -- `sim` takes the file of events FILE, a tenant's class of each --class, and whether --trace and
 -- --explain are there.
@@ -243,7 +275,7 @@ TakesTask p (task.Each image is_explained) =
 TakesTask p (task.Loops asked) =
     TakesLoops p asked × (json_is_alone p ≡ true) × (loops_are_alone p ≡ true)
     × (is_none (one_in p (codes "IN")) ≡ false)
-TakesTask p (task.Heads asked) = TakesHeads p asked
+TakesTask p (task.Heads asked) = AsksHeads p asked
 TakesTask p (task.Run call telling) =
     TakesCall p call × (telling ≡ telling_of p) × (json_is_alone p ≡ true)
     × (is_set_in p (codes "loops") ≡ false)
@@ -265,22 +297,22 @@ subcommand_for (Assemble text image) = codes "asm"
 subcommand_for (Pack asked) = codes "pack"
 subcommand_for (Disassemble image has_slots) = codes "dis"
 
--- the subcommand that each task is asked for by
-abbrev pub name_for : Task → Text
-name_for (task.Class action telling) = subcommand_for action
-name_for (task.Files asked) = codes "verify"
-name_for (task.Each image is_explained) = codes "verify"
-name_for (task.Loops asked) = codes "verify"
-name_for (task.Heads asked) = codes "heads"
-name_for (task.Run call telling) = codes "run"
-name_for (task.RunLoops call telling) = codes "run"
-name_for (task.Test asked is_explained) = codes "test"
-name_for (task.Sim s) = codes "sim"
-name_for (task.Cluster c) = codes "cluster"
+-- the subcommand that each task is asked for by; of the two for heads `AsksHeads` says which
+abbrev pub IsNameFor : Task → Text → Type 0
+IsNameFor (task.Class action telling) name = name ≡ subcommand_for action
+IsNameFor (task.Files asked) name = name ≡ codes "verify"
+IsNameFor (task.Each image is_explained) name = name ≡ codes "verify"
+IsNameFor (task.Loops asked) name = name ≡ codes "verify"
+IsNameFor (task.Heads asked) name = (name ≡ codes "heads") ⊎ (name ≡ codes "asm")
+IsNameFor (task.Run call telling) name = name ≡ codes "run"
+IsNameFor (task.RunLoops call telling) name = name ≡ codes "run"
+IsNameFor (task.Test asked is_explained) name = name ≡ codes "test"
+IsNameFor (task.Sim s) name = name ≡ codes "sim"
+IsNameFor (task.Cluster c) name = name ≡ codes "cluster"
 
 -- The subcommand that words name is a task's, and its arguments ask for that task.
 pub record Names (p : Parsed) (task : Task) : Type 0 where
-  pub name : p.name ≡ name_for task
+  pub name : IsNameFor task p.name
   pub taken : TakesTask p task
 
 -- Standard input is used well too.

@@ -1,6 +1,6 @@
 //! Reads the arguments of each subcommand.
-ghost use Rattle.std.specs.Prelude.{◌≡◌, ◌≢◌, ◌≤◌, List, IfErr, IfOk, None, Some, codes, false, length};
-ghost use Rattle.std.specs.Prelude.{option_and_then, true};
+ghost use Rattle.std.specs.Prelude.{◌≡◌, ◌≢◌, ◌≤◌, List, IfErr, IfNone, IfOk, IfSome, None, Some, codes, false, length};
+ghost use Rattle.std.specs.Prelude.{option_and_then, true, ℕ};
 ghost use Rattle.command_line.specs.Parsed.{all_in, one_in, parsed_of};
 ghost use Rattle.file_words.specs.Words.{id_in};
 ghost use Rattle.tenant_classes.specs.declared.tenant_class.TheConstants.{TENANT_LIMIT};
@@ -14,6 +14,7 @@ ghost use Rattle.radoscls_program.specs.declared.task.GivenCall.{GivenCall as AG
 ghost use Rattle.radoscls_program.specs.declared.task.GivenInput.{GivenInput as AnInput};
 ghost use Rattle.radoscls_program.specs.Arguments.{TakesCall, TakesCluster, TakesInput, TakesPacking, TakesPlain};
 ghost use Rattle.radoscls_program.specs.Arguments.{TakesHeads, TakesSim, budget_in};
+ghost use Rattle.radoscls_program.specs.Arguments.{FindsHeads, FindsNone, given_budget, heads_are_alone};
 ghost use Rattle.radoscls_program.specs.Arguments.{IsOfKind, limits_named, loads_alone, rules_named, saves_apart};
 ghost use Rattle.radoscls_program.specs.Arguments.{takes_limits};
 ghost use Rattle.class_tests.specs.Spelled.{of_kind};
@@ -37,6 +38,9 @@ use pg_log::ClientId;
 use sim::Simulation;
 use std::alloc::{AllocError, Global};
 use tenant_classes::TenantClass;
+
+/// The budget of heads that `asm` finds without `--budget`.
+const USUAL_BUDGET: u32 = 131_072;
 
 /// The arguments of `run`, but for the input and the object.
 #[derive(Clone, Copy)]
@@ -287,6 +291,17 @@ pub(crate) fn packing_of<'a>(
     })
 }
 
+/// The budget that a text spells.
+fn spelled_budget<'a>(text: &'a str) -> Result<u32, Mistake<'a>>
+    ensures some { IfOk result (λ budget. budget_in text.now ≡ Some budget) }
+    ensures none { IfErr result (λ _. budget_in text.now ≡ None) }
+{
+    match budget_in(text) {
+        Some(budget) => Ok(budget),
+        None => Err(Mistake::Value(Wanted::Budget, text)),
+    }
+}
+
 /// The budget of `--budget`.
 fn budget_of<'a>(words: &ParsedWords<'a>) -> Result<u32, Mistake<'a>>
     ensures some { IfOk result (λ budget. option_and_then budget_in (one_in (parsed_of words.now) (codes "budget")) ≡
@@ -295,10 +310,50 @@ fn budget_of<'a>(words: &ParsedWords<'a>) -> Result<u32, Mistake<'a>>
         None) }
 {
     let text = wanted(words, "budget")?;
-    match budget_in(text) {
-        Some(budget) => Ok(budget),
-        None => Err(Mistake::Value(Wanted::Budget, text)),
+    spelled_budget(text)
+}
+
+/// Refuses words that find heads and ask for more than that tells, or that have a budget and find
+/// none.
+fn check_heads<'a>(words: &ParsedWords<'a>) -> Result<(), Mistake<'a>>
+    ensures ok { IfOk result (λ _. heads_are_alone (parsed_of words.now) ≡ true) }
+    ensures err { IfErr result (λ _. heads_are_alone (parsed_of words.now) ≡ false) }
+{
+    if words.is_set("heads") {
+        if words.is_set("all") || words.is_set("explain") {
+            return Err(Mistake::HeadsOfMore);
+        }
+        return Ok(());
     }
+    if words.one("budget").is_some() {
+        return Err(Mistake::BudgetOfNone);
+    }
+    Ok(())
+}
+
+/// The budget of `--budget`, or the usual one.
+fn given_budget<'a>(words: &ParsedWords<'a>) -> Result<u32, Mistake<'a>>
+    ensures some { IfOk result (λ budget. given_budget (one_in (parsed_of words.now) (codes "budget")) ≡ Some budget) }
+    ensures none { IfErr result (λ _. given_budget (one_in (parsed_of words.now) (codes "budget")) ≡ None) }
+{
+    match words.one("budget") {
+        Some(text) => spelled_budget(text),
+        None => Ok(USUAL_BUDGET),
+    }
+}
+
+/// The budget of the heads that `--heads` finds, if it is there.
+pub(crate) fn heads_budget<'a>(words: &ParsedWords<'a>) -> Result<Option<u32>, Mistake<'a>>
+    ensures some { IfOk result (λ found. IfSome found (FindsHeads (parsed_of words.now))) }
+    ensures none { IfOk result (λ found. IfNone found (FindsNone (parsed_of words.now))) }
+    ensures unfound { IfErr result (λ _. (budget : ℕ) → FindsHeads (parsed_of words.now) budget → ⊥) }
+    ensures not_none { IfErr result (λ _. FindsNone (parsed_of words.now) → ⊥) }
+{
+    check_heads(words)?;
+    if !words.is_set("heads") {
+        return Ok(None);
+    }
+    Ok(Some(given_budget(words)?))
 }
 
 /// The image with heads that `heads` asks for.

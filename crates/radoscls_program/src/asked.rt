@@ -6,14 +6,16 @@ ghost use Rattle.radoscls_program.specs.Arguments.{TakesLoops, is_ceph, loops_ar
 ghost use Rattle.radoscls_program.specs.Asked.{AreFor, AreForNone};
 ghost use Rattle.radoscls_program.specs.declared.task.Task.{Task as ATask};
 
-use crate::actions::{call_of, clustering_of, heads_of, packing_of, simulation_of, wanted};
+use crate::actions::{
+    call_of, clustering_of, heads_budget, heads_of, packing_of, simulation_of, wanted,
+};
 use crate::inputs::check_inputs;
 use crate::mistake::Mistake;
 use crate::task::{ClusterTask, Task, Telling, Testing};
 use class_reports::{FilesAsked, Notes, ReportForm};
 use class_tool::Action;
 use command_line::{ParsedWords, Unparsed, misused, parse};
-use loop_tool::LoopsAsked;
+use loop_tool::{HeadsAsked, LoopsAsked};
 use std::alloc::{AllocError, Global};
 use std::convert::AsStr;
 
@@ -188,6 +190,14 @@ fn asm_task<'a>(words: &ParsedWords<'a>) -> Result<Task<'a>, Mistake<'a>>
 {
     let text = wanted(words, "IN")?;
     let image = wanted(words, "OUT")?;
+    if let Some(budget) = heads_budget(words)? {
+        let class = text;
+        return Ok(Task::Heads(HeadsAsked {
+            class,
+            image,
+            budget,
+        }));
+    }
     Ok(Task::Class(Action::Assemble { text, image }, telling_of(words)))
 }
 

@@ -23,6 +23,10 @@ pub(crate) enum Mistake<'a> {
     LoopsOfMore,
     /// A call of a method that may loop has neither a trace nor an OSD's limits.
     LoopsNotPlain,
+    /// Heads are found without each line that is wrong, and without explanations.
+    HeadsOfMore,
+    /// A budget is given to `asm`, and no heads are found.
+    BudgetOfNone,
 }
 
 /// The form that an argument wants of its text.
@@ -121,6 +125,18 @@ impl Mistake<'_> {
                 String::from_str(
                     alloc,
                     "the argument '--loops' cannot be used with '--trace' or '--limits ceph'",
+                )
+            }
+            Mistake::HeadsOfMore => {
+                String::from_str(
+                    alloc,
+                    "the argument '--heads' cannot be used with '--all' or '--explain'",
+                )
+            }
+            Mistake::BudgetOfNone => {
+                String::from_str(
+                    alloc,
+                    "the argument '--budget <N>' cannot be used without '--heads'",
                 )
             }
             Mistake::Value(wanted, text) => {

@@ -328,9 +328,9 @@ pub(crate) fn perform<
 /// refused, or a write or a flush of `out` failed, and then a beginning of it was printed; 2 after
 /// usage or help, if the words name no task without a fault. No file is written but the one that
 /// `asm`, `pack` or `heads` names for the image, and that one only if the text or the raw code is
-/// right or all heads are found, and the one that `run --save` names for the object; if that fails,
-/// it is as it was. If only
-/// the answer of a call could not be printed, a line on `err` says that its object was saved.
+/// right, and all heads are found that are asked for, and the one that `run --save` names for the
+/// object; if that fails, it is as it was. If only the answer of a call could not be printed, a line
+/// on `err` says that its object was saved.
 /// `sim` prints of each line of its file what it comes to before the next is done; `cluster` prints
 /// its lines once all calls have ended.
 ///
