@@ -1,7 +1,7 @@
 -- The image that `pack` writes, and why it does not.
-use Rattle.std.specs.Prelude.{◌≡◌, ◌⊎◌, ⊤, ℕ, List, [], ◌∷◌, ◌++◌, Option, Err, length}
+use Rattle.std.specs.Prelude.{◌≡◌, ◌⊎◌, ⊤, ℕ, List, [], ◌∷◌, ◌++◌, Option, None, Err, length}
 use Rattle.bpf_decode.specs.declared.rule_set.RuleSet.{RuleSet}
-use Rattle.bpf_decode.specs.Class.{ClassMethod, IsImage}
+use Rattle.bpf_decode.specs.Class.{Class, ClassMethod, IsImage}
 use Rattle.bpf_decode.specs.ImageReading.{class_of}
 use Rattle.bpf_decode.specs.Instruction.{IsCode}
 use Rattle.bpf_decode.specs.Reading.{code_of}
@@ -23,13 +23,14 @@ pub record IsCodeIn (disk : Option Disk) (name : List ℕ) (instructions : List 
   pub code : IsCode bytes instructions
 
 -- the method has the name, the flags and the capacities that were asked for, and the code that the
--- file holds
+-- file holds; it declares no loops
 pub record IsMethodIn (disk : Option Disk) (raw : RawMethod) (method : ClassMethod) : Type 0 where
   pub code : IsCodeIn disk raw.code.now method.instructions
   pub name : method.name ≡ raw.name.now
   pub flags : method.flags ≡ raw.flags
   pub in_cap : method.in_cap ≡ raw.in_cap
   pub out_cap : method.out_cap ≡ raw.out_cap
+  pub loops : method.loops ≡ None
 
 -- a method for each one that was asked for, in their order
 abbrev pub AreMethodsIn : Option Disk → List RawMethod → List ClassMethod → Type 0
@@ -37,6 +38,11 @@ AreMethodsIn disk [] [] = ⊤
 AreMethodsIn disk [] (method ∷ methods) = ⊥
 AreMethodsIn disk (raw ∷ raws) [] = ⊥
 AreMethodsIn disk (raw ∷ raws) (method ∷ methods) = IsMethodIn disk raw method × AreMethodsIn disk raws methods
+
+-- THE CLASS of those methods, which is verified by those rules
+pub record IsClassIn (disk : Option Disk) (rules : RuleSet) (raws : List RawMethod) (class : Class) : Type 0 where
+  pub verified : class.rules ≡ rules
+  pub methods : AreMethodsIn disk raws class.methods
 
 -- the bytes are the image of the class of those methods, which is verified by those rules
 pub record IsPackedOf (disk : Option Disk) (rules : RuleSet) (raws : List RawMethod) (bytes : List ℕ) : Type 0 where
@@ -106,6 +112,10 @@ pub record PackedFails (disk : Option Disk) (rules : RuleSet) (raws : List RawMe
   pub read : AreMethodsIn disk raws methods
   pub why : ClassFails rules methods failure
 
+-- Why there is no such class, in the order of the checks.
+abbrev pub ReadingFails : Option Disk → RuleSet → List RawMethod → Failure → Type 0
+ReadingFails disk rules raws failure = MethodsFail disk raws failure ⊎ PackedFails disk rules raws failure
+
 -- the class was right, and the write of the image failed
 pub record PackWriteFails (before after : Storage) (asked : Packing) (failure : Failure) : Type 0 where
   pub said : failure ≡ CannotWrite
@@ -116,5 +126,5 @@ pub record PackWriteFails (before after : Storage) (asked : Packing) (failure : 
 -- Why no image was written, in the order of the checks. Before the write every file is as it was.
 abbrev pub PackFails : Storage → Storage → Packing → Failure → Type 0
 PackFails before after asked failure =
-    ((after ≡ before) × (MethodsFail before.disk asked.methods.items failure ⊎
-    PackedFails before.disk asked.rules asked.methods.items failure)) ⊎ PackWriteFails before after asked failure
+    ((after ≡ before) × ReadingFails before.disk asked.rules asked.methods.items failure) ⊎
+    PackWriteFails before after asked failure

@@ -1,10 +1,9 @@
 //! The command `pack`: from files of raw code to an image.
 
-ghost use Rattle.std.specs.Prelude.{◌⊎◌, IfOk, IfErr};
-ghost use Rattle.bpf_decode.specs.Class.{IsImage};
+ghost use Rattle.std.specs.Prelude.{◌≡◌, IfOk, IfErr};
 ghost use Rattle.program_files.specs.Files.{storage};
-ghost use Rattle.class_tool.specs.Packing.{AreMethodsIn, ClassFails, CodeFails, IsCodeIn, IsMethodIn, IsPackedOf};
-ghost use Rattle.class_tool.specs.Packing.{MethodsFail, PackFails, PackedFails, Packs};
+ghost use Rattle.class_tool.specs.Packing.{AreMethodsIn, ClassFails, CodeFails, IsClassIn, IsCodeIn, IsMethodIn};
+ghost use Rattle.class_tool.specs.Packing.{IsPackedOf, MethodsFail, PackFails, Packs, ReadingFails};
 
 use crate::action::{Packing, RawMethod};
 use bpf_decode::{ClassImage, ImageError, Insn, Method, RuleSet, decode, write_image};
@@ -67,34 +66,29 @@ fn methods_in<F: ReadableFiles>(
     Ok(methods)
 }
 
-/// The image of the class of those methods, verified by those rules.
-fn image_of(alloc: Global, rules: RuleSet, methods: Vec<Method>) -> Result<Vec<u8>, Failure>
-    ensures image { IfOk result (λ bytes. IsImage bytes.items (record { rules = rules; methods = methods.items })) }
+/// The class of those methods, verified by those rules.
+fn class_of(rules: RuleSet, methods: Vec<Method>) -> Result<ClassImage, Failure>
+    ensures class { IfOk result (λ c. c ≡ record { rules = rules; methods = methods.items }) }
     ensures fails { IfErr result (ClassFails rules methods.items) }
 {
-    let class = match ClassImage::new(methods, rules) {
-        Ok(class) => class,
-        Err(error) => return Err(Failure::Image(error)),
-    };
-    match write_image(alloc, &class) {
-        Ok(bytes) => Ok(bytes),
-        Err(_) => Err(Failure::NoMemory),
+    match ClassImage::new(methods, rules) {
+        Ok(class) => Ok(class),
+        Err(error) => Err(Failure::Image(error)),
     }
 }
 
-/// The image of the class of the methods whose raw code files hold.
-fn packed<F: ReadableFiles>(
+/// The class of the methods whose raw code files hold.
+fn class_in<F: ReadableFiles>(
     alloc: Global,
     files: &F,
     rules: RuleSet,
     raws: &[RawMethod<'_>],
-) -> Result<Vec<u8>, Failure>
-    ensures packed { IfOk result (λ bytes. IsPackedOf (F.disk files.now) rules raws.now bytes.items) }
-    ensures fails { IfErr result (λ e. MethodsFail (F.disk files.now) raws.now e ⊎
-        PackedFails (F.disk files.now) rules raws.now e) }
+) -> Result<ClassImage, Failure>
+    ensures class { IfOk result (IsClassIn (F.disk files.now) rules raws.now) }
+    ensures fails { IfErr result (ReadingFails (F.disk files.now) rules raws.now) }
 {
     let methods = methods_in(alloc, files, raws)?;
-    image_of(alloc, rules, methods)
+    class_of(rules, methods)
 }
 
 /// The method that was not read, of those that `pack` packs.
@@ -114,6 +108,46 @@ fn about_method(alloc: Global, raws: &[RawMethod<'_>], failure: Failure) -> Abou
     }
 }
 
+/// The class that `pack` makes an image: of each method that was asked for, in their order, with the
+/// raw code that its file holds. Its methods are within the limits of the rule set, and nothing tells
+/// whether they are safe. The first file that can't be read or is no code is refused, with the
+/// methods before it; then the first refusal in the order of a class's fields. Nothing is written.
+pub fn packed_class<F: ReadableFiles>(
+    alloc: Global,
+    files: &F,
+    asked: &Packing<'_>,
+) -> Result<ClassImage, Failed>
+    ensures class { IfOk result (IsClassIn (F.disk files.now) asked.now.rules asked.now.methods.items) }
+    ensures fails { IfErr result (λ e. ReadingFails (F.disk files.now) asked.now.rules asked.now.methods.items
+        e.failure) }
+{
+    match class_in(alloc, files, asked.rules, &asked.methods) {
+        Ok(class) => Ok(class),
+        Err(failure) => {
+            let about = about_method(alloc, &asked.methods, failure);
+            Err(Failed { failure, about })
+        }
+    }
+}
+
+/// The image of the class of the methods whose raw code files hold.
+fn packed<F: ReadableFiles>(
+    alloc: Global,
+    files: &F,
+    asked: &Packing<'_>,
+) -> Result<Vec<u8>, Failed>
+    ensures packed { IfOk result (λ bytes. IsPackedOf (F.disk files.now) asked.now.rules asked.now.methods.items
+        bytes.items) }
+    ensures fails { IfErr result (λ e. ReadingFails (F.disk files.now) asked.now.rules asked.now.methods.items
+        e.failure) }
+{
+    let class = packed_class(alloc, files, asked)?;
+    match write_image(alloc, &class) {
+        Ok(bytes) => Ok(bytes),
+        Err(_) => Err(Failed::from(Failure::NoMemory)),
+    }
+}
+
 /// Writes the image of the class of those methods, whose raw code files hold. Nothing is written
 /// before all files are read and the class is known to be right; the image may take the place of
 /// one of them.
@@ -123,13 +157,7 @@ pub fn pack<F: Files>(alloc: Global, files: &mut F, asked: &Packing<'_>) -> Resu
     ensures err { IfErr result (λ e. PackFails (storage F.disk F.failed F.in_place files.old)
         (storage F.disk F.failed F.in_place files.new) asked.now e.failure) }
 {
-    let bytes = match packed(alloc, files, asked.rules, &asked.methods) {
-        Ok(bytes) => bytes,
-        Err(failure) => {
-            let about = about_method(alloc, &asked.methods, failure);
-            return Err(Failed { failure, about });
-        }
-    };
+    let bytes = packed(alloc, files, asked)?;
     match files.write(asked.image, &bytes) {
         Ok(()) => Ok(()),
         // Want of memory is this failure too: the line says which step failed.
