@@ -2,6 +2,8 @@
 
 ghost use Rattle.std.specs.Prelude.{◌≡◌};
 
+use class_tool::Packing;
+
 /// The files whose classes are judged by their heads.
 #[derive(Drop)]
 pub struct LoopsAsked<'a> {
@@ -29,6 +31,15 @@ pub struct HeadsAsked<'a> {
     pub class: &'a str,
     /// The file that becomes the image.
     pub image: &'a str,
+    /// What the instructions of a method with loops may take, 1 to 1,048,576.
+    pub budget: u32,
+}
+
+/// A class of raw code that gets heads before its image is written.
+#[derive(Drop)]
+pub struct HeadedPacking<'a> {
+    /// The class, and the file that becomes its image.
+    pub packing: Packing<'a>,
     /// What the instructions of a method with loops may take, 1 to 1,048,576.
     pub budget: u32,
 }

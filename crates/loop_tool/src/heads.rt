@@ -94,7 +94,11 @@ fn image_of(alloc: Global, rules: RuleSet, methods: Vec<Method>) -> Result<Vec<u
 }
 
 /// The image of a class with the heads that are found for its methods.
-fn headed_image(alloc: Global, class: &ClassImage, budget: u32) -> Result<Vec<u8>, WriteHeadsError>
+pub(crate) fn headed_image(
+    alloc: Global,
+    class: &ClassImage,
+    budget: u32,
+) -> Result<Vec<u8>, WriteHeadsError>
     ensures made { IfOk result (λ bytes. HasHeadedImage budget class.now bytes.items) }
     ensures none { IfErr result (HasNone budget class.now) }
 {
