@@ -1,12 +1,15 @@
 #!/usr/bin/env python3
 """Measures the most expensive things that accepted classes can do.
 
-    tools/worst_case.py [RADOSCLS]
+    tools/worst_case.py [RADOSCLS] [--loops]
 
 RADOSCLS is what `rt run` leaves, if it isn't given. It writes each class below into a folder that is
 deleted, and prints a line for each: what was measured, milliseconds of processor time, and megabytes
 of memory. Processor time is the least of five runs. A call's is the difference of a class with all of
 its steps and one with few, and an entry's that of two files with a hundred requests more.
+
+With --loops it measures loops instead, each of one thing done over and over, by two budgets: what a call takes over one that
+goes round once, of processor time and of memory.
 """
 import os
 import sys
@@ -64,6 +67,44 @@ def telling(methods):
     return lines
 
 
+BUDGETS = 131_072, 1_048_576
+# What a round does, by name: before the loop r6 is the input, r7 the output, r8 ten bytes below the stack's end; the round's
+# instructions; and options of `run`. The input is a name of eight bytes and zeros.
+ROUNDS = {
+    "additions": (["add r4, r5"], ()),
+    "divisions": (["div r4, r5"], ()),
+    "loads of 8 bytes": (["ldxdw r4, [r6+8]"], ()),
+    "stores of 8 bytes": (["stxdw [r7+8], r5"], ()),
+    "reads of 65,535 bytes": (["mov r1, 0", "mov r2, r7", f"mov r3, {MOST}", "call 2"], ("--object", "@data")),
+    "writes of 65,535 bytes": (["mov r1, 0", "mov r2, r6", f"mov r3, {MOST}", "call 3"], ("--object", "@data")),
+    "writes of a byte in 64 KB": (["mov r1, 30000", "mov r2, r6", "mov r3, 1", "call 3"], ("--object", "@data")),
+    "cuts and zeros of 65,536 bytes": (["mov r1, 0", "call 4", f"mov r1, {DATA}", "call 4"], ("--object", "@data")),
+    "xattrs read": (["mov r1, r6", "mov r2, 8", "mov r3, r7", f"mov r4, {VALUE}", "call 6"], ("--xattr", "abcdefgh=@value")),
+    "xattrs set": (["mov r1, r6", "mov r2, 8", "mov r3, r7", f"mov r4, {VALUE}", "call 7"], ()),
+    "keys read": (["mov r1, r6", "mov r2, 8", "mov r3, r7", f"mov r4, {VALUE}", "call 9"], ("--key", "abcdefgh=@value")),
+    "keys set": (["mov r1, r6", "mov r2, 8", "mov r3, r7", f"mov r4, {VALUE}", "call 10"], ()),
+    "keys set, of 512 names": (["mov r4, r9", "and r4, 511", "stxh [r8+0], r4", "mov r1, r8", "mov r2, 2", "mov r3, r7",
+                                f"mov r4, {VALUE}", "call 10"], ()),
+    "next keys": (["mov r1, r6", "mov r2, 0", "mov r3, r7", "mov r4, 64", "call 12"], ("--key", "abcdefgh=@value")),
+    "removals and creations": (["call 5", "mov r1, 0", "call 14"], ("--object", "@data")),
+    "comparisons of 65,535 bytes": (["mov r1, r7", f"mov r2, {MOST}", "mov r3, r7", f"mov r4, {MOST}", "call 16"], ()),
+    "copies of 65,535 bytes": (["mov r1, r7", f"mov r2, {MOST}", "mov r3, r6", f"mov r4, {MOST}", "call 17"], ()),
+}
+SETTING = ["mov r6, r1", "mov r7, r3", "mov r8, r10", "add r8, -16", "mov r4, -1", "mov r5, 3", "mov r9, 0"]
+
+
+def looping(body, rounds):
+    """A method that goes round so often, and not once more."""
+    ending = ["add r9, 1", f"jlt r9, {rounds}, again", "mov r0, 0", "exit"]
+    return [".rules 3", f".method f rw {MOST} {MOST}", *SETTING, "again:", *body, *ending]
+
+
+def rounds_in(body, budget):
+    """How often a round fits into a budget."""
+    round_weight = sum(64 if it.startswith("call") else 1 for it in body) + 2
+    return (budget - len(SETTING) - 2) // round_weight
+
+
 class Program:
     """The program, and the folder that it runs in."""
 
@@ -82,6 +123,13 @@ class Program:
         text = self.file(name + ".txt", "\n".join(lines) + "\n")
         image = str(self.folder / (name + ".img"))
         self.once(["asm", text, image])
+        return image
+
+    def looped(self, name, budget, rounds):
+        """The image of a method that goes round so often, with its heads."""
+        text = self.file("looped.txt", "\n".join(looping(ROUNDS[name][0], rounds)) + "\n")
+        image = str(self.folder / f"looped{rounds}.img")
+        self.once(["heads", text, image, "--budget", str(budget)])
         return image
 
     def once(self, words):
@@ -106,10 +154,34 @@ def line(what, time, kilobytes):
     print(f"{what}: {time * 1000:.1f} ms, {kilobytes / 1024:.1f} MB", flush=True)
 
 
+def measure_loops(program):
+    """Each loop by each budget, and the worst."""
+    program.file("data", "a" * DATA), program.file("value", "a" * VALUE)
+    given = "@" + program.file("input", "abcdefgh" + "\0" * (MOST - 8))
+    for budget in BUDGETS:
+        worst = 0, ""
+        for name, (body, options) in ROUNDS.items():
+            rounds = rounds_in(body, budget)
+            options = [it.replace("@", f"@{program.folder}/") for it in options]
+            took = []
+            for count in (rounds, 1):
+                words = ["run", program.looped(name, budget, count), "f", "--loops", "--input", given, *options]
+                took.append(program.least(words))
+                if (program.folder / "out").read_text().split("\n")[0] not in ("code 0",):
+                    sys.exit(f"{name}: {(program.folder / 'out').read_text()[:100]}")
+            (many, most), (few, least) = took
+            line(f"budget {budget}, {rounds} rounds of {name}", many - few, most - least)
+            worst = max(worst, (many - few, name))
+        print(f"budget {budget}: the worst are {worst[1]}, {worst[0] * 1000:.1f} ms", flush=True)
+
+
 def main():
-    path = sys.argv[1] if len(sys.argv) > 1 else str(TOP / "crates/radoscls/out/radoscls")
+    words = [it for it in sys.argv[1:] if it != "--loops"]
+    path = words[0] if words else str(TOP / "crates/radoscls/out/radoscls")
     with tempfile.TemporaryDirectory() as folder:
         program = Program(os.path.abspath(path), folder)
+        if "--loops" in sys.argv:
+            return measure_loops(program)
 
         most = (SLOTS - 3) // 4
         many, memory = program.least(["run", program.image("many", truncating(most)), "f", "--object", "00"])
