@@ -137,6 +137,20 @@ asm word.txt out --heads
 => 1 line 2: 1 Word
 asm --heads bare.txt folder --budget 7
 => 1 cannot write
+pack --rules 3 --heads out a:r:0:0:code s:r:16:0:grow.bin
+=> 1 s slot 117: no head found, r6 has no bound
+pack out s:r:16:0:bare.bin --heads
+=> 1 s: loops need rule set 3
+pack --rules 2 out f:r:0:0:code s:r:16:0:bare.bin --heads
+=> 1 s: loops need rule set 3
+pack out --heads --rules 3 s:r:16:0:bare.bin t:r:16:0:missing
+=> 1 cannot read
+pack out --heads --rules 3 e:r:0:0:bare.bin f:r:0:0:empty
+=> 1 image refused after 1 methods: 10 Limit
+pack out --heads --rules 3 s:r:16:0:grow.bin s:r:0:0:code
+=> 1 image refused after 1 methods: 8 Order
+pack folder --heads --rules 3 s:r:16:0:bare.bin
+=> 1 cannot write
 """
 # The method of BARE_TEXT as an image has it, and what stands before its heads.
 METHOD = bytes_of("""52434c33 0100 0000 01 73 01 1000 0000 0a00
@@ -150,7 +164,8 @@ CODE = b"".join(struct.pack("<BBhi", *words) for words in (
     (0x79, 0xa6, -8 * SLOTS, 0), *(words for slot in range(SLOTS, 1, -1) for words in (
         (0x79, 0xa3, 8 - 8 * slot, 0), (0x7b, 0x3a, -8 * slot, 0))),
     (0x7b, 0x0a, -8, 0), (7, 0, 0, 1), (0xa5, 0, -78, 1_000_000), (0xb7, 0, 0, 0), (0x95, 0, 0, 0)))
-FILES.update({"grow.img": METHOD[:15] + struct.pack("<H", len(CODE) // 8) + CODE + bytes(2)})
+FILES.update({"bare.bin": METHOD[17:], "grow.bin": CODE,
+              "grow.img": METHOD[:15] + struct.pack("<H", len(CODE) // 8) + CODE + bytes(2)})
 # The examples, each a class whose loops get heads.
 EXAMPLES = {path.name: path.read_text() for path in (TOP / "examples/loops").glob("*.txt")}
 FILES.update(EXAMPLES)
@@ -203,28 +218,31 @@ LOOP_ROWS = [
     *rows_of(LOOPS),
     finds("heads bare.txt out", 131072), finds("heads loop.txt out", 131072),
     finds("heads - out", 131072, BARE_TEXT.encode()), finds("asm - out --heads", 131072, BARE_TEXT.encode()),
+    finds("pack out --rules 3 --heads s:r:16:0:-", 131072, METHOD[17:]),
     *(finds(f"{words} --budget {budget}", budget) for budget in (1, 4096, 1048576) for words in (
-        "heads bare.txt out", "asm bare.txt out --heads")),
-    *finds_alike("heads bare.txt out", "asm loop.txt out --heads"),
+        "heads bare.txt out", "asm bare.txt out --heads", "pack --heads out s:r:16:0:bare.bin --rules=3")),
+    *finds_alike("heads bare.txt out", "asm loop.txt out --heads", "pack --rules 3 out s:r:16:0:bare.bin --heads"),
     *(row for name in sorted(EXAMPLES) for row in finds_alike(f"heads {name} out", f"asm {name} out --heads")),
     Row("asm bare.txt bare.txt --heads", wrote={"bare.txt": Headed(131072)}),
+    Row("pack bare.bin s:r:16:0:bare.bin --heads --rules 3", wrote={"bare.bin": Headed(131072)}),
     # no jump goes back: no heads
     Row("heads two.txt out", wrote={"out": TWO}), Row("heads two.img two.img", wrote={"two.img": TWO}),
     Row("heads - out", wrote={"out": b"RCL3" + TWO[4:] + bytes(2)}, stdin=(".rules 3\n" + TWO_TEXT).encode()),
-    Row("asm two.txt out --heads", wrote={"out": TWO}),
+    Row("asm two.txt out --heads", wrote={"out": TWO}), Row("pack out f:r:0:0:code --heads", wrote={"out": TWO}),
     Row("heads - out", "f: more than 64 heads\n", "", 1, stdin=MANY.encode()),
     Row("heads empty out", NO_IMAGE, "", 1),
     *(Row("verify loop.txt --loops", None, "", 1, to=to) for to in (FULL, CLOSED)),
     Row("verify loop.txt two.img --loops", "loop.txt: s ok 10 bu", "", 1, room=20),
     *(Row(words, None, "", 1, to=FULL) for words in (
-        "heads missing out", "heads - out", "asm word.txt out --heads")),
+        "heads missing out", "heads - out", "asm word.txt out --heads", "pack out s:r:16:0:bare.bin --heads")),
     # --budget without --heads, or with a number that is none; --heads with what it doesn't tell
     *(Row(f"{words} --budget {number}", "", usage(f"{NO_HEADS}\n\nUsage: radoscls {words.split()[0]} "), 2)
-      for words in ("asm bare.txt out", "asm bare.txt out --all --explain") for number in "10"),
-    *(Row(f"asm bare.txt out --heads --budget {number}", "",
-          usage(f"invalid value '{number}' for '--budget <N>': expected "), 2) for number in ("0", "1048577", "01", "x")),
+      for words in ("asm bare.txt out", "pack out f:r:0:0:code", "asm bare.txt out --all --explain") for number in "10"),
+    *(Row(f"{words} --heads --budget {number}", "", usage(f"invalid value '{number}' for '--budget <N>': expected "), 2)
+      for words in ("asm bare.txt out", "pack out f:r:0:0:code") for number in ("0", "1048577", "01", "x")),
     *(Row(f"{words} --heads", "", usage(f"{HEADS_ALONE}\n\nUsage: radoscls {words.split()[0]} "), 2)
-      for words in ("asm bare.txt out --all", "asm bare.txt out --explain", "asm bare.txt out --budget 0 --all")),
+      for words in ("asm bare.txt out --all", "asm bare.txt out --explain", "pack out f:r:0:0:code --explain",
+                    "asm bare.txt out --budget 0 --all")),
     *(Row(f"verify two.img --loops {more}", "", usage(NO_MORE), 2)
       for more in ("--all", "--json", "loop.txt --json", "--explain --all")),
     *(Row(f"run loop.txt s --loops {more}", "", usage(NOT_PLAIN), 2)

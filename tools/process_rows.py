@@ -184,7 +184,7 @@ COMMANDS = {
         "--key": " <KEY=HEX>", "--limits": " <LIMITS>", "--loops": "", "--load": " <FILE>", "--save": " <FILE>",
         "--show": "", "--trace": "", "--json": "", "--explain": ""}),
     "asm": (["<IN>", "<OUT>"], {"--all": "", "--heads": "", "--budget": " <N>", "--explain": ""}),
-    "pack": (["<OUT>", "<METHOD>..."], {"--rules": " <N>", "--explain": ""}),
+    "pack": (["<OUT>", "<METHOD>..."], {"--rules": " <N>", "--heads": "", "--budget": " <N>", "--explain": ""}),
     "dis": (["<IN>"], {"--slots": "", "--explain": ""}),
     "heads": (["<IN>", "<OUT>"], {"--budget": " <N>"}),
     "sim": (["<FILE>"], {"--class": " <NAME=IMAGE>", "--trace": "", "--explain": ""}),

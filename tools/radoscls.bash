@@ -16,7 +16,7 @@ _radoscls() {
         run) words="--caller --input --input-text --input-u64 --object --xattr --key --limits --loops --load --save --show --trace --json --explain --help" ;;
         test) words="--trace --explain --help" ;;
         asm) words="--all --heads --budget --explain --help" ;;
-        pack) words="--rules --explain --help" ;;
+        pack) words="--rules --heads --budget --explain --help" ;;
         dis) words="--slots --explain --help" ;;
         heads) words="--budget --help" ;;
         sim) words="--class --trace --explain --help" ;;

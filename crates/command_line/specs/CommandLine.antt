@@ -2,7 +2,7 @@
 -- [--input HEX] [--input-text TEXT] [--input-u64 N,..] [--object HEX] [--xattr NAME=HEX ..] [--key KEY=HEX ..]
 -- [--limits LIMITS] [--loops] [--load FILE] [--save FILE] [--show] [--trace] [--json] [--explain]`, `test IN FILE
 -- [--trace] [--explain]`, `asm IN OUT [--all] [--heads] [--budget N] [--explain]`, `pack OUT METHOD .. [--rules N]
--- [--explain]`, `dis IN [--slots] [--explain]`, `heads IN OUT [--budget N]`,
+-- [--heads] [--budget N] [--explain]`, `dis IN [--slots] [--explain]`, `heads IN OUT [--budget N]`,
 -- `sim FILE [--class NAME=IMAGE ..] [--trace] [--explain]`, and
 -- `cluster FILE [--class NAME=IMAGE ..] [--show] [--stats] [--strict] [--explain] [--follow]`.
 use Rattle.std.specs.Prelude.{[], ◌∷◌, Some, true, codes}
@@ -114,8 +114,8 @@ rules_rule = option_rule (codes "rules") (codes "1")
 -- `pack`, which makes an image of raw code
 abbrev pub pack_line : App
 pack_line =
-    with_rule (with_rule (with_rule (with_rule (new_app (codes "pack")) (required_rule (codes "OUT"))) methods_rule)
-    rules_rule) explain_rule
+    with_rule (with_rule (with_rule (with_rule (with_rule (with_rule (new_app (codes "pack"))
+    (required_rule (codes "OUT"))) methods_rule) rules_rule) heads_rule) given_budget_rule) explain_rule
 
 -- `dis`, which gives the text of a class
 abbrev pub dis_line : App

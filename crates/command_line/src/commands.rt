@@ -205,7 +205,9 @@ fn pack_command<'a>(alloc: Global) -> Result<Command<'a>, AllocError>
     let of_code = with_arg(of_image, methods_argument(alloc));
     let help = "The rules by which the class is verified, 1, 2 or 3";
     let rules = option(alloc, "rules", "N", "1", help);
-    with_arg(with_arg(of_code, rules), explain_flag(alloc))
+    let of_rules = with_arg(of_code, rules);
+    let of_heads = with_arg(with_arg(of_rules, heads_flag(alloc)), budget_value(alloc));
+    with_arg(of_heads, explain_flag(alloc))
 }
 
 fn dis_command<'a>(alloc: Global) -> Result<Command<'a>, AllocError>

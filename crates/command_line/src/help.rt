@@ -31,7 +31,8 @@ pub(crate) const ASM: &str = "Examples:
 
 pub(crate) const PACK: &str = "Examples:
   radoscls pack sum.img sum:r:16:8:sum.bin
-  radoscls pack sum.img --rules 2 sum:r:16:8:sum.bin";
+  radoscls pack sum.img --rules 2 sum:r:16:8:sum.bin
+  radoscls pack sum.img --rules 3 --heads sum:r:16:8:sum.bin";
 
 pub(crate) const DIS: &str = "Examples:
   radoscls dis count.img
@@ -59,11 +60,11 @@ pub(crate) const LOOPS: &str = "Judges loops by the heads that methods declare";
 pub(crate) const BUDGET: &str =
     "What the instructions of a call may take, 1 to 1048576: a helper's call 64, each other one 1";
 
-/// For the help of `asm`.
+/// For the help of `asm` and `pack`.
 pub(crate) const FIND_HEADS: &str =
     "Finds heads for the loops of the class, as the command heads does";
 
-/// For the help of `asm`.
+/// For the help of `asm` and `pack`.
 pub(crate) const GIVEN_BUDGET: &str =
     "With --heads: what the instructions of a call may take, 1 to 1048576; if it isn't given, 131072";
 

@@ -72,11 +72,16 @@ ended before after old new words (task.Heads asked) Refused named found =
     inr (inr (inr (inr (inr (inr (inr (inr (inr (inr (inl (record { asked = asked; named = named; ended = found })))))))))))
 ended before after old new words (task.Heads asked) Usage named found = absurd found
 ended before after old new words (task.RunLoops call e) Done named ran =
-    inr (inr (inr (inr (inr (inr (inr (inr (record { call = call; telling = e; named = named; ended = ran }))))))))
+    inr (inr (inr (inr (inr (inr (inr (inr (inl (record { call = call; telling = e; named = named; ended = ran })))))))))
 ended before after old new words (task.RunLoops call e) Refused named ran =
-    inr (inr (inr (inr (inr (inr (inr (inr (inr (inr (inr (record { call = call; telling = e; named = named; ended = ran })))))))))))
+    inr (inr (inr (inr (inr (inr (inr (inr (inr (inr (inr (inl (record { call = call; telling = e; named = named; ended = ran }))))))))))))
 ended before after old new words (task.RunLoops call e) Usage named (inl on) = absurd on.ended
 ended before after old new words (task.RunLoops call e) Usage named (inr un) = absurd (let bad : Usage ≡ Refused = un.0 in cc)
+ended before after old new words (task.PackHeads asked) Done named found =
+    inr (inr (inr (inr (inr (inr (inr (inr (inr (record { asked = asked; named = named; ended = found })))))))))
+ended before after old new words (task.PackHeads asked) Refused named found =
+    inr (inr (inr (inr (inr (inr (inr (inr (inr (inr (inr (inr (record { asked = asked; named = named; ended = found }))))))))))))
+ended before after old new words (task.PackHeads asked) Usage named found = absurd found
 ended before after old new words (task.Test asked e) Done named tested = inr (inr (inr (inr (inl (record { asked = asked; is_explained = e; named = named; left = tested.0; ended = tested.1 })))))
 ended before after old new words (task.Test asked e) Refused named tested =
     inr (inr (inr (inr (inr (inr (inr (inl (record { asked = asked; is_explained = e; named = named; left = tested.0; ended = tested.1 }))))))))
@@ -142,8 +147,10 @@ done_well before after old new words (inr (inr (inr (inr (inr (inl files)))))) =
 done_well before after old new words (inr (inr (inr (inr (inr (inr (inl loops))))))) = loops.ended.shown.1.well
 done_well before after old new words (inr (inr (inr (inr (inr (inr (inr (inl heads)))))))) =
     ap (λ (s : Stream). s.failed) heads.ended.1
-done_well before after old new words (inr (inr (inr (inr (inr (inr (inr (inr ran)))))))) =
+done_well before after old new words (inr (inr (inr (inr (inr (inr (inr (inr (inl ran))))))))) =
     ran_by_loops_well before after old new ran.call ran.telling ran.ended
+done_well before after old new words (inr (inr (inr (inr (inr (inr (inr (inr (inr packed))))))))) =
+    ap (λ (s : Stream). s.failed) packed.ended.1
 
 -- if a write fails, the status is 1
 pub failed_by : (before after : Storage) (old new : Stream) (words : List Text) (status : ExitStatus) (n : ℕ)

@@ -1,4 +1,4 @@
--- The end of `verify --loops`, of `run --loops` and of `heads`.
+-- The end of `verify --loops`, of `run --loops`, of `heads` and of `pack --heads`.
 use Rattle.std.proofs.Common.{◌≡◌, ◌++◌, ◌||◌, inl, inr, Bool, true, false, List, [], ℕ, Option, IsUtf8, subst, sym}
 use Rattle.std.proofs.lemmas.Str.{IsUtf8-nil}
 use Rattle.std.specs.Prelude.{codes}
@@ -8,7 +8,9 @@ use Rattle.class_tool.specs.declared.action_result.ActionResult.TheVariants.{Ran
 use Rattle.class_tool.specs.declared.run_report.RunReport.{RunReport}
 use Rattle.loop_tool.specs.Heads.{HeadsFail}
 use Rattle.loop_tool.specs.LoopRun.{LoopRunFails, LoopRuns}
+use Rattle.loop_tool.specs.PackedHeads.{PackHeadsFail}
 use Rattle.loop_tool.specs.Reports.{AreLoopReports}
+use Rattle.loop_tool.specs.declared.asked.HeadedPacking.{HeadedPacking}
 use Rattle.loop_tool.specs.declared.asked.HeadsAsked.{HeadsAsked}
 use Rattle.loop_tool.specs.declared.asked.LoopsAsked.{LoopsAsked}
 use Rattle.loop_tool.specs.declared.write_heads_error.WriteHeadsError.{WriteHeadsError}
@@ -16,7 +18,7 @@ use Rattle.loop_tool.specs.declared.loop_reports.LoopReports.{LoopReports}
 use Rattle.program_files.specs.Files.{Disk, Storage}
 use Rattle.object_texts.specs.declared.method_call.MethodCall.{MethodCall}
 use Rattle.program_files.specs.declared.failure.Failure.{Failure}
-use Rattle.radoscls_program.specs.Looped.{HeadsEnd, LoopRunEnds, LoopsEnd, ShowsLoops, headless_text}
+use Rattle.radoscls_program.specs.Looped.{HeadsEnd, LoopRunEnds, LoopsEnd, PackHeadsEnd, ShowsLoops, headless_text}
 use Rattle.radoscls_program.specs.Shown.{IsToldAs, IsToldBy, ShowsAnswer}
 use Rattle.radoscls_program.specs.Streams.{IsPrinted, Stream, failure_line}
 use Rattle.radoscls_program.specs.declared.status.ExitStatus.{ExitStatus}
@@ -34,6 +36,11 @@ looped disk old new asked r Usage are none = absurd none
 pub headless : (before after : Storage) (old new : Stream) (asked : HeadsAsked) (e : WriteHeadsError) → HeadsFail before after asked e
     → IsPrinted old new (headless_text e ++ codes "\n") → HeadsEnd before after old new asked Refused
 headless before after old new asked e fails told = record { error = e; fails = fails; told = told }
+
+-- and of raw code
+pub unpacked : (before after : Storage) (old new : Stream) (asked : HeadedPacking) (e : WriteHeadsError) → PackHeadsFail before after asked e
+    → IsPrinted old new (headless_text e ++ codes "\n") → PackHeadsEnd before after old new asked Refused
+unpacked before after old new asked e fails told = record { error = e; fails = fails; told = told }
 
 -- by a call whose report was printed or not
 pub ran_by_loops : (before after : Storage) (old new : Stream) (call : MethodCall) (telling : Telling) (report : RunReport) (status : ExitStatus)

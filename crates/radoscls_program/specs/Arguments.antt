@@ -15,6 +15,7 @@ use Rattle.cluster_tool.specs.declared.asked.Clustering.{Clustering}
 use Rattle.command_line.specs.Parsed.{Parsed, Text, all_in, is_set_in, one_in}
 use Rattle.file_words.specs.Words.{id_in, number_in}
 use Rattle.loop_heads.specs.declared.limits.TheConstants.{BUDGET_LIMIT}
+use Rattle.loop_tool.specs.declared.asked.HeadedPacking.{HeadedPacking}
 use Rattle.loop_tool.specs.declared.asked.HeadsAsked.{HeadsAsked}
 use Rattle.loop_tool.specs.declared.asked.LoopsAsked.{LoopsAsked}
 use Rattle.sim.specs.declared.asked.Simulation.{Simulation}
@@ -221,7 +222,7 @@ TakesAction p (Run call) = ⊥
 TakesAction p (RunLarge call) = ⊥
 TakesAction p (Assemble text image) =
     (one_in p (codes "IN") ≡ Some text.now) × (one_in p (codes "OUT") ≡ Some image.now) × FindsNone p
-TakesAction p (Pack asked) = TakesPacking p asked
+TakesAction p (Pack asked) = TakesPacking p asked × FindsNone p
 TakesAction p (Disassemble image has_slots) =
     (one_in p (codes "IN") ≡ Some image.now) × (has_slots ≡ is_set_in p (codes "slots"))
 
@@ -235,6 +236,11 @@ pub record TakesHeads (p : Parsed) (asked : HeadsAsked) : Type 0 where
 pub record TakesTextHeads (p : Parsed) (asked : HeadsAsked) : Type 0 where
   pub class : one_in p (codes "IN") ≡ Some asked.class.now
   pub image : one_in p (codes "OUT") ≡ Some asked.image.now
+  pub heads : FindsHeads p asked.budget
+
+-- `pack --heads` takes what `pack` does, and a budget.
+pub record TakesPackedHeads (p : Parsed) (asked : HeadedPacking) : Type 0 where
+  pub packing : TakesPacking p asked.packing
   pub heads : FindsHeads p asked.budget
 
 -- HEADS of the class in a file are asked for by `heads`, and by `asm --heads`.
@@ -276,6 +282,7 @@ TakesTask p (task.Loops asked) =
     TakesLoops p asked × (json_is_alone p ≡ true) × (loops_are_alone p ≡ true)
     × (is_none (one_in p (codes "IN")) ≡ false)
 TakesTask p (task.Heads asked) = AsksHeads p asked
+TakesTask p (task.PackHeads asked) = TakesPackedHeads p asked
 TakesTask p (task.Run call telling) =
     TakesCall p call × (telling ≡ telling_of p) × (json_is_alone p ≡ true)
     × (is_set_in p (codes "loops") ≡ false)
@@ -304,6 +311,7 @@ IsNameFor (task.Files asked) name = name ≡ codes "verify"
 IsNameFor (task.Each image is_explained) name = name ≡ codes "verify"
 IsNameFor (task.Loops asked) name = name ≡ codes "verify"
 IsNameFor (task.Heads asked) name = (name ≡ codes "heads") ⊎ (name ≡ codes "asm")
+IsNameFor (task.PackHeads asked) name = name ≡ codes "pack"
 IsNameFor (task.Run call telling) name = name ≡ codes "run"
 IsNameFor (task.RunLoops call telling) name = name ≡ codes "run"
 IsNameFor (task.Test asked is_explained) name = name ≡ codes "test"

@@ -1,11 +1,13 @@
--- The end of `verify --loops`, of `run --loops` and of `heads`, and the text that they printed.
+-- The end of `verify --loops`, of `run --loops`, of `heads` and of `pack --heads`, and the text that they printed.
 use Rattle.std.specs.Prelude.{◌≡◌, ◌⊎◌, ◌++◌, ℕ, true, false, List, Option, codes}
 use Rattle.class_tool.specs.declared.action_result.ActionResult.TheVariants.{Ran}
 use Rattle.class_tool.specs.declared.run_report.RunReport.{RunReport}
 use Rattle.loop_tool.specs.Heads.{HeadsFail, WritesHeads}
 use Rattle.loop_tool.specs.LoopRun.{LoopRunFails, LoopRuns}
 use Rattle.loop_tool.specs.NoHeads.{no_heads_text}
+use Rattle.loop_tool.specs.PackedHeads.{PackHeadsFail, PacksWithHeads}
 use Rattle.loop_tool.specs.Reports.{AreLoopReports, all_accepted, reports_in, reports_text}
+use Rattle.loop_tool.specs.declared.asked.HeadedPacking.{HeadedPacking}
 use Rattle.loop_tool.specs.declared.asked.HeadsAsked.{HeadsAsked}
 use Rattle.loop_tool.specs.declared.asked.LoopsAsked.{LoopsAsked}
 use Rattle.loop_tool.specs.declared.write_heads_error.WriteHeadsError.{WriteHeadsError}
@@ -83,3 +85,15 @@ abbrev pub HeadsEnd : Storage → Storage → Stream → Stream → HeadsAsked �
 HeadsEnd before after old new asked Done = WritesHeads before after asked × (new ≡ old)
 HeadsEnd before after old new asked Refused = IsHeadlessTold before after old new asked
 HeadsEnd before after old new asked Usage = ⊥
+
+-- no image of raw code was written, and a line says why
+pub record IsUnpackedTold (before after : Storage) (old new : Stream) (asked : HeadedPacking) : Type 0 where
+  pub error : WriteHeadsError
+  pub fails : PackHeadsFail before after asked error
+  pub told : IsPrinted old new (headless_text error ++ codes "\n")
+
+-- the image of raw code with heads was written, and nothing printed; or none was
+abbrev pub PackHeadsEnd : Storage → Storage → Stream → Stream → HeadedPacking → ExitStatus → Type 0
+PackHeadsEnd before after old new asked Done = PacksWithHeads before after asked × (new ≡ old)
+PackHeadsEnd before after old new asked Refused = IsUnpackedTold before after old new asked
+PackHeadsEnd before after old new asked Usage = ⊥

@@ -4,6 +4,7 @@ use Rattle.std.specs.Borrow.{Bor}
 use Rattle.command_line.specs.Parsed.{Text}
 use Rattle.class_reports.specs.declared.asked.FilesAsked.{FilesAsked}
 use Rattle.class_tool.specs.ActionResult.{Settles, Fails}
+use Rattle.loop_tool.specs.declared.asked.HeadedPacking.{HeadedPacking}
 use Rattle.loop_tool.specs.declared.asked.HeadsAsked.{HeadsAsked}
 use Rattle.loop_tool.specs.declared.asked.LoopsAsked.{LoopsAsked}
 use Rattle.program_files.specs.Files.{Disk, Storage}
@@ -18,7 +19,7 @@ use Rattle.sim.specs.declared.asked.Simulation.{Simulation}
 use Rattle.radoscls_program.specs.Clustered.{ClusterEnds}
 use Rattle.radoscls_program.specs.Asked.{AreFor, AreForNone}
 use Rattle.radoscls_program.specs.Judged.{EachEnds, FilesEnd}
-use Rattle.radoscls_program.specs.Looped.{HeadsEnd, LoopRunEnds, LoopsEnd}
+use Rattle.radoscls_program.specs.Looped.{HeadsEnd, LoopRunEnds, LoopsEnd, PackHeadsEnd}
 use Rattle.radoscls_program.specs.Playing.{SimEnds}
 use Rattle.radoscls_program.specs.Shown.{IsToldAs, IsUnshown, ShowsAnswer, answer_text}
 use Rattle.radoscls_program.specs.Streams.{Stream, Took, IsPrinted, failure_line}
@@ -158,6 +159,13 @@ pub record IsOfHeads (before after : Storage) (old new : Stream) (words : List T
   pub named : AreFor words (task.Heads asked)
   pub ended : HeadsEnd before after old new asked status
 
+-- The words name raw code that is packed with heads, and that ended so.
+pub record IsOfPackHeads (before after : Storage) (old new : Stream) (words : List Text)
+    (status : ExitStatus) : Type 0 where
+  pub asked : HeadedPacking
+  pub named : AreFor words (task.PackHeads asked)
+  pub ended : PackHeadsEnd before after old new asked status
+
 -- The words name a class and its tests, and these ended so; no file changed.
 pub record IsTestRun (before after : Storage) (old new : Stream) (words : List Text)
     (status : ExitStatus) : Type 0 where
@@ -189,7 +197,7 @@ IsDone before after old new words =
     ⊎ IsEach before after old new words Done ⊎ IsTestRun before after old new words Done ⊎
     IsOfFiles before after old new words Done
     ⊎ IsOfLoops before after old new words Done ⊎ IsOfHeads before after old new words Done ⊎
-    IsOfLoopRun before after old new words Done
+    IsOfLoopRun before after old new words Done ⊎ IsOfPackHeads before after old new words Done
 
 -- why the program ended with 1
 abbrev pub IsRefused : Storage → Storage → Stream → Stream → List Text → Type 0
@@ -200,7 +208,8 @@ IsRefused before after old new words =
     ⊎ IsEach before after old new words Refused ⊎ IsTestRun before after old new words Refused ⊎
     IsOfFiles before after old new words Refused
     ⊎ IsOfLoops before after old new words Refused ⊎ IsOfHeads before after old new words Refused ⊎
-    IsOfLoopRun before after old new words Refused
+    IsOfLoopRun before after old new words Refused ⊎
+    IsOfPackHeads before after old new words Refused
 
 -- The words have a fault or ask for help; nothing was done or printed on standard output.
 pub record IsUsage (before after : Storage) (old new : Stream) (words : List Text) : Type 0 where
@@ -270,6 +279,8 @@ TaskEnds before after old new (task.Loops asked) status =
     (after ≡ before) × LoopsEnd before.disk old new asked status
 TaskEnds before after old new (task.Heads asked) status =
     HeadsEnd before after old new asked status
+TaskEnds before after old new (task.PackHeads asked) status =
+    PackHeadsEnd before after old new asked status
 TaskEnds before after old new (task.Run call telling) status =
     CallEnds before after old new call telling status
 TaskEnds before after old new (task.RunLoops call telling) status =

@@ -39,7 +39,7 @@ use sim::Simulation;
 use std::alloc::{AllocError, Global};
 use tenant_classes::TenantClass;
 
-/// The budget of heads that `asm` finds without `--budget`.
+/// The budget of heads that `asm` and `pack` find without `--budget`.
 const USUAL_BUDGET: u32 = 131_072;
 
 /// The arguments of `run`, but for the input and the object.

@@ -15,7 +15,7 @@ use crate::task::{ClusterTask, Task, Telling, Testing};
 use class_reports::{FilesAsked, Notes, ReportForm};
 use class_tool::Action;
 use command_line::{ParsedWords, Unparsed, misused, parse};
-use loop_tool::{HeadsAsked, LoopsAsked};
+use loop_tool::{HeadedPacking, HeadsAsked, LoopsAsked};
 use std::alloc::{AllocError, Global};
 use std::convert::AsStr;
 
@@ -208,6 +208,9 @@ fn pack_task<'a>(alloc: Global, words: &ParsedWords<'a>) -> Result<Task<'a>, Mis
     ensures unnamed { IfErr result (λ m. m ≢ Mistake.NoMemory → (task : ATask) → Names (parsed_of words.now) task → ⊥) }
 {
     let packing = packing_of(alloc, words)?;
+    if let Some(budget) = heads_budget(words)? {
+        return Ok(Task::PackHeads(HeadedPacking { packing, budget }));
+    }
     Ok(Task::Class(Action::Pack(packing), telling_of(words)))
 }
 

@@ -1,8 +1,9 @@
-//! `verify --loops`, `run --loops`, and `heads`.
+//! `verify --loops`, `run --loops`, `heads`, and `pack --heads`.
 ghost use Rattle.std.specs.Prelude.{◌≡◌, ◌++◌, codes};
 ghost use Rattle.loop_tool.specs.NoHeads.{no_heads_text};
 ghost use Rattle.program_files.specs.Files.{storage};
-ghost use Rattle.radoscls_program.specs.Looped.{HeadsEnd, LoopRunEnds, LoopsEnd, ShowsLoops, headless_text};
+ghost use Rattle.radoscls_program.specs.Looped.{HeadsEnd, LoopRunEnds, LoopsEnd, PackHeadsEnd, ShowsLoops};
+ghost use Rattle.radoscls_program.specs.Looped.{headless_text};
 ghost use Rattle.radoscls_program.specs.Shown.{IsToldAs};
 ghost use Rattle.radoscls_program.specs.Streams.{IsPrinted, stream};
 
@@ -12,8 +13,8 @@ use crate::task::Telling;
 use crate::telling::{refuse, say, tell_json};
 use class_tool::ActionResult;
 use loop_tool::{
-    HeadsAsked, LoopReports, LoopsAsked, NoHeads, WriteHeadsError, note_of, run_by_loops,
-    verify_files_by_loops, write_heads,
+    HeadedPacking, HeadsAsked, LoopReports, LoopsAsked, NoHeads, WriteHeadsError, note_of,
+    pack_with_heads, run_by_loops, verify_files_by_loops, write_heads,
 };
 use object_texts::MethodCall;
 use program_files::{Failed, Failure, Files, Output};
@@ -127,6 +128,22 @@ pub(crate) fn find_heads<F: Files, O: Output>(
         (stream O.printed O.failed out.old) (stream O.printed O.failed out.new) asked.now result }
 {
     match write_heads(alloc, files, asked) {
+        Ok(()) => ExitStatus::Done,
+        Err(error) => tell_headless(&error, out),
+    }
+}
+
+/// Writes an image of raw code with heads, and prints why, if none is written.
+pub(crate) fn pack_heads<F: Files, O: Output>(
+    alloc: Global,
+    files: &mut F,
+    asked: &HeadedPacking<'_>,
+    out: &mut O,
+) -> ExitStatus
+    ensures { PackHeadsEnd (storage F.disk F.failed F.in_place files.old) (storage F.disk F.failed F.in_place files.new)
+        (stream O.printed O.failed out.old) (stream O.printed O.failed out.new) asked.now result }
+{
+    match pack_with_heads(alloc, files, asked) {
         Ok(()) => ExitStatus::Done,
         Err(error) => tell_headless(&error, out),
     }

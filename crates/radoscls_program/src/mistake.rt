@@ -25,7 +25,7 @@ pub(crate) enum Mistake<'a> {
     LoopsNotPlain,
     /// Heads are found without each line that is wrong, and without explanations.
     HeadsOfMore,
-    /// A budget is given to `asm`, and no heads are found.
+    /// A budget is given to `asm` or `pack`, and no heads are found.
     BudgetOfNone,
 }
 

@@ -17,7 +17,7 @@ ghost use Rattle.radoscls_program.specs.declared.status.ExitStatus.{ExitStatus a
 use crate::asked::asked;
 use crate::error_stream::ErrorStream;
 use crate::judging::{judge, judge_files};
-use crate::looping::{find_heads, judge_loops, run_looped};
+use crate::looping::{find_heads, judge_loops, pack_heads, run_looped};
 use crate::showing::show;
 use crate::status::{ActionEnd, ExitStatus};
 use crate::task::{ClusterTask, GivenCall, Task, Telling};
@@ -264,6 +264,7 @@ fn do_task<R: AllocGlobal + Threads + Wait + Clock + Sync, F: Files, O: Output, 
         Task::Each(image, is_explained) => judge(alloc, files, image, *is_explained, out),
         Task::Loops(asked) => judge_loops(alloc, files, asked, out),
         Task::Heads(asked) => find_heads(alloc, files, asked, out),
+        Task::PackHeads(asked) => pack_heads(alloc, files, asked, out),
         Task::Run(call, telling) => {
             let end = act_call(alloc, files, call, *telling, out);
             tell_saved(end, call, &mut *err.to);

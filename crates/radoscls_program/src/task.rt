@@ -2,7 +2,7 @@ use class_reports::{FilesAsked, Notes};
 use class_tests::TestBytes;
 use class_tool::Action;
 use cluster_tool::Clustering;
-use loop_tool::{HeadsAsked, LoopsAsked};
+use loop_tool::{HeadedPacking, HeadsAsked, LoopsAsked};
 use object_texts::SpelledEntry;
 use pg_log::ClientId;
 use sim::Simulation;
@@ -80,6 +80,8 @@ pub(crate) enum Task<'a> {
     Loops(LoopsAsked<'a>),
     /// An image with heads for the loops of the class in a file.
     Heads(HeadsAsked<'a>),
+    /// An image with heads for the loops of a class of raw code.
+    PackHeads(HeadedPacking<'a>),
     /// A call, whose values files may hold, and how that is told.
     Run(GivenCall<'a>, Telling),
     /// The same of a method that may loop, by its budget.
