@@ -176,7 +176,8 @@ try_build() {
         "1 ceph/build.sh: this is Ceph 17.2.0, and the plug-in is for 16, 18"
     {
         echo 'int missing(void); int sillarnica_version(void) { return missing(); }'
-        printf 'int sillarnica_%s(void) { return 0; }\n' verify explain needs verified_open verified_needs verified_call_part verified_close
+        printf 'int sillarnica_%s(void) { return 0; }\n' verify explain needs verified_open verified_copy verified_method_at verified_needs \
+            verified_call_part verified_close
     } > "$none/none.c"
     gcc -fPIC -c "$none/none.c" -o "$none/none.o" && ar rcs "$none/none.a" "$none/none.o"
     want "a name that the OSD doesn't export" "$(WITHIN=1800 SILLARNICA_ARCHIVE=$none/none.a said "$here/build.sh" "$none/out")" \

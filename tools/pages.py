@@ -296,6 +296,9 @@ def try_c(pages):
     build = "tools/radoscls-cc examples/c/account.c -o account.img"
     pages.row(build, "all", 2, 4, instead=build.replace("tools/radoscls-cc", tool))
     pages.row("radoscls run account.img deposit --input 6400000000000000", "all", 1, 4)
+    looped = "tools/radoscls-cc examples/loops/adler.c -o adler.img --loops"
+    pages.row(looped, "all", 1, 1, instead=looped.replace("tools/radoscls-cc", tool))
+    pages.row("radoscls run adler.img adler --loops --input-text hello", "some", 1, 1)
     pages.any_code = False
     if not pages.lacking:
         pages.row(build, "any", instead=f"for it in counter swap sum queue; do {tool} examples/c/$it.c -o c/$it.img || exit; done")
@@ -311,9 +314,6 @@ def try_c(pages):
         method = shown(pages.text, "so a method asks for an object:", 1, 9)
         (pages.work / "touch.c").write_text("\n".join(["#include <sillarnica/class.h>", *method]) + "\n")
         pages.row(touched, instead=f"{tool} touch.c -o touch.img")
-        looped = "tools/radoscls-cc examples/loops/adler.c -o adler.img --loops"
-        pages.row(looped, "all", 1, 1, instead=looped.replace("tools/radoscls-cc", tool))
-        pages.row("radoscls run adler.img adler --loops --input-text hello", "some", 1, 1)
         pages.answers("radoscls run touch.img touch", "code -55", "output -", "object absent")
         pages.answers(touched, "code 0", "output -", "object 0 2 0")
     pages.on("docs/FROM_C.md", pages.work, "cc")
