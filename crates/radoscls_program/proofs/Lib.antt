@@ -1,3 +1,4 @@
+mod Budgets
 mod Ended
 mod Entering
 mod Filling

@@ -210,8 +210,9 @@ pub record FindsHeads (p : Parsed) (budget : ℕ) : Type 0 where
   pub given : given_budget (one_in p (codes "budget")) ≡ Some budget
 
 -- neither of them is there
-abbrev pub FindsNone : Parsed → Type 0
-FindsNone p = (is_set_in p (codes "heads") ≡ false) × (heads_are_alone p ≡ true)
+pub record FindsNone (p : Parsed) : Type 0 where
+  pub unheaded : is_set_in p (codes "heads") ≡ false
+  pub alone : heads_are_alone p ≡ true
 
 -- The arguments of each action but a call: to tell whether a class is safe, the file IN, without
 -- --all; to assemble a text, the file IN and the file OUT of the image; to pack raw code, those of
