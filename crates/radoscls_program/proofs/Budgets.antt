@@ -43,6 +43,7 @@ no_asm p is unfound found (task.Heads asked) names =
     neither (λ h. apart p.name (codes "asm") (codes "heads") refl refl is (first h)) (λ h. let t : TakesTextHeads p asked = second h in unfound asked.budget t.heads) names.taken
 no_asm p is unfound found (task.PackHeads asked) names = apart p.name (codes "asm") (codes "pack") refl refl is names.name
 no_asm p is unfound found (task.Run call t) names = apart p.name (codes "asm") (codes "run") refl refl is names.name
+no_asm p is unfound found (task.RunLoops call t) names = apart p.name (codes "asm") (codes "run") refl refl is names.name
 no_asm p is unfound found (task.Test asked e) names = apart p.name (codes "asm") (codes "test") refl refl is names.name
 no_asm p is unfound found (task.Sim s) names = apart p.name (codes "asm") (codes "sim") refl refl is names.name
 no_asm p is unfound found (task.Cluster c) names = apart p.name (codes "asm") (codes "cluster") refl refl is names.name
@@ -61,6 +62,7 @@ no_pack p is unfound found (task.Heads asked) names =
     neither (λ h. apart p.name (codes "pack") (codes "heads") refl refl is (first h)) (λ h. apart p.name (codes "pack") (codes "asm") refl refl is (first h)) names.taken
 no_pack p is unfound found (task.PackHeads asked) names = unfound asked.budget names.taken.heads
 no_pack p is unfound found (task.Run call t) names = apart p.name (codes "pack") (codes "run") refl refl is names.name
+no_pack p is unfound found (task.RunLoops call t) names = apart p.name (codes "pack") (codes "run") refl refl is names.name
 no_pack p is unfound found (task.Test asked e) names = apart p.name (codes "pack") (codes "test") refl refl is names.name
 no_pack p is unfound found (task.Sim s) names = apart p.name (codes "pack") (codes "sim") refl refl is names.name
 no_pack p is unfound found (task.Cluster c) names = apart p.name (codes "pack") (codes "cluster") refl refl is names.name

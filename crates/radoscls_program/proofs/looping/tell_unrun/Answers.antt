@@ -7,4 +7,4 @@ pub returns-clause-told : goal.returns-clause-told
 returns-clause-told g c =
     let out = stream g.O.Output.printed g.O.Output.failed in
     unrun_told (out c.args.out.now) (out c.say.new.out) c.args.failed.now.failure c.args.telling (string_bytes c.note_of-note.result) (search rules) c.note_of-note.ensures
-    (rw c.deref.ensures.value at c.say.ensures)
+    (rw c.deref.ensures at c.say.ensures)
