@@ -77,6 +77,7 @@ ROUNDS = {
     "stores of 8 bytes": (["stxdw [r7+8], r5"], ()),
     "reads of 65,535 bytes": (["mov r1, 0", "mov r2, r7", f"mov r3, {MOST}", "call 2"], ("--object", "@data")),
     "writes of 65,535 bytes": (["mov r1, 0", "mov r2, r6", f"mov r3, {MOST}", "call 3"], ("--object", "@data")),
+    "writes of 4,096 bytes": (["mov r1, 0", "mov r2, r6", f"mov r3, {VALUE}", "call 3"], ("--object", "@data")),
     "writes of a byte in 64 KB": (["mov r1, 30000", "mov r2, r6", "mov r3, 1", "call 3"], ("--object", "@data")),
     "cuts and zeros of 65,536 bytes": (["mov r1, 0", "call 4", f"mov r1, {DATA}", "call 4"], ("--object", "@data")),
     "xattrs read": (["mov r1, r6", "mov r2, 8", "mov r3, r7", f"mov r4, {VALUE}", "call 6"], ("--xattr", "abcdefgh=@value")),
