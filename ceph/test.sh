@@ -354,6 +354,10 @@ on_page() {
 
 caps_of() { ceph_within 60 auth get "$1" | grep caps; }
 
+# How many classes osd.2 lacks. On a slow machine it may be down for a moment, and then it isn't asked.
+lacking() { timeout 300 radosbpf check bpf 2> /dev/null | grep -c "^osd.2 class .* isn't there"; }
+all_lacking() { [ "$(lacking)" = 8 ]; }
+
 # The list of classes and the caps are those of docs/CEPH.md, by its own commands.
 try_rights() {
     local object words number lock=$here/classes/lock.img
@@ -371,7 +375,8 @@ try_rights() {
     bpf "with bpf on it" "0 " load "$object" lock "$lock"
     bpf "an image in a request" "1 refused -95: the OSD has no class bpf, or no such method of it: those for classes \
 that are sent are off unless asked for" call "$object" @"$lock" lock --input 6d65
-    want "the check finds what osd.2 lacks" "$(said radosbpf check bpf | tr ',' '\n' | grep -c '^ *1* *osd.2 class .* isn.t there')" 8
+    await 300 all_lacking
+    want "the check finds what osd.2 lacks" "$(lacking)" 8
     touch "$folder/bpf.sent"
     ceph_within 60 config set osd osd_class_load_list \
         "$(ceph_within 60 config get osd osd_class_load_list) ${natives[*]} ${odd[*]}"
