@@ -12,6 +12,7 @@ least so many seconds. In a cluster three sessions call, each on objects of its 
 import struct
 import subprocess
 import sys
+import tempfile
 import threading
 import time
 
@@ -186,11 +187,15 @@ class Caller:
 
 def run_lines(radoscls, image, method, data, whole, caller):
     words = [radoscls, "run", "-", method.decode() or " ", "--input", data.hex(), "--caller", str(caller), "--show"]
-    if whole is not None:
-        words += ["--object", whole.data.hex()]
-        for word, part in (("--xattr", whole.xattrs), ("--key", whole.keys)):
-            words += [each for name, value in part.items() for each in (word, f"0x{name.hex()}={value.hex()}")]
-    made = subprocess.run(words, input=image, stdout=subprocess.PIPE, timeout=60, check=False)
+    # A word has less than 131,072 bytes: the digits of the largest object are one too many.
+    with tempfile.NamedTemporaryFile() as file:
+        if whole is not None:
+            file.write(whole.data)
+            file.flush()
+            words += ["--object", f"@{file.name}"]
+            for word, part in (("--xattr", whole.xattrs), ("--key", whole.keys)):
+                words += [each for name, value in part.items() for each in (word, f"0x{name.hex()}={value.hex()}")]
+        made = subprocess.run(words, input=image, stdout=subprocess.PIPE, timeout=60, check=False)
     return made.stdout.decode().splitlines()
 
 
