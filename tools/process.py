@@ -186,11 +186,14 @@ def tell(row, found, written, names):
 def count_differences(program, folder, rows):
     bad = 0
     for row in rows:
-        before = state_of(folder)
-        found = run(program, folder, row)
-        after = row.then and run(program, folder, row.then)
-        written = take_written(folder, before)
-        names = differences(row, found, written)
+        for left in reversed(range(row.again + 1)):
+            before = state_of(folder)
+            found = run(program, folder, row)
+            after = row.then and run(program, folder, row.then)
+            written = take_written(folder, before)
+            names = differences(row, found, written)
+            if not names or not left:
+                break
         if names:
             tell(row, found, written, names)
         later = row.then and differences(row.then, after, {})

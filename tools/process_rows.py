@@ -274,15 +274,16 @@ class Row:
     write of more ends the process. `space` is how many megabytes the process has, if each of its
     threads wants 256; `stack` is how many kilobytes its first thread has. `slow` is true if checks of
     memory make it take minutes. `then` is a row of words that come after these, while what they wrote
-    is still there; of it the streams and the status are compared."""
+    is still there; of it the streams and the status are compared. `again` is how often it is run anew
+    where it differs: threads that wait for a processor may miss what it looks at."""
 
     def __init__(self, words, out="", err="", status=0, stdin=b"", wrote=(), to=None, err_to=None,
-                 room=None, space=None, killed=False, stack=None, slow=False, then=None):
+                 room=None, space=None, killed=False, stack=None, slow=False, then=None, again=0):
         self.words = words.split() if isinstance(words, str) else words
         self.out, self.err, self.status = out, err, status
         self.stdin, self.wrote, self.room, self.space = stdin, dict(wrote), room, space
         self.to, self.err_to, self.killed, self.stack = to, err_to, killed, stack
-        self.slow, self.then = slow, then
+        self.slow, self.then, self.again = slow, then, again
 
 
 def lines_of(text=""):
