@@ -68,7 +68,7 @@ def telling(methods):
 
 
 BUDGETS = 131_072, 1_048_576
-# What a round does, by name: before the loop r6 is the input, r7 the output, r8 ten bytes below the stack's end; the round's
+# What a round does, by name: before the loop r6 is the input, r7 the output, r8 16 bytes below the stack's end; the round's
 # instructions; and options of `run`. The input is a name of eight bytes and zeros.
 ROUNDS = {
     "additions": (["add r4, r5"], ()),
@@ -168,8 +168,9 @@ def measure_loops(program):
             for count in (rounds, 1):
                 words = ["run", program.looped(name, budget, count), "f", "--loops", "--input", given, *options]
                 took.append(program.least(words))
-                if (program.folder / "out").read_text().split("\n")[0] not in ("code 0",):
-                    sys.exit(f"{name}: {(program.folder / 'out').read_text()[:100]}")
+                printed = (program.folder / "out").read_text()
+                if not printed.startswith("code 0\n"):
+                    sys.exit(f"{name}: {printed[:100]}")
             (many, most), (few, least) = took
             line(f"budget {budget}, {rounds} rounds of {name}", many - few, most - least)
             worst = max(worst, (many - few, name))
