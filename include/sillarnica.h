@@ -61,6 +61,10 @@
 /* What sillarnica_version answers. */
 #define SILLARNICA_CALLS 2
 
+/* The greatest budget that a host may give the methods with loops, and the usual one. */
+#define SILLARNICA_BUDGET_LIMIT 1048576
+#define SILLARNICA_BUDGET 131072
+
 #ifdef __cplusplus
 extern "C" {
 #endif
@@ -78,7 +82,8 @@ enum {
 	SILLARNICA_NO_ROOM = -34,        /* the buffer is too small; the answer says what is needed */
 	SILLARNICA_CLOSED = -9,          /* the handle is closed */
 	SILLARNICA_WANTS = -11,          /* more of the object is to be known; the want says what */
-	SILLARNICA_FULL = -28            /* one name more would be set than a call on a part can keep */
+	SILLARNICA_FULL = -28,           /* one name more would be set than a call on a part can keep */
+	SILLARNICA_TOO_LARGE = -27       /* a method declares a greater budget than the host gives; the refusal says which */
 };
 
 /* An answer in words. */
@@ -96,13 +101,15 @@ static inline const char *sillarnica_error(int32_t answer)
 	case SILLARNICA_CLOSED: return "the handle is closed";
 	case SILLARNICA_WANTS: return "more of the object is to be known";
 	case SILLARNICA_FULL: return "the call sets too many names";
+	case SILLARNICA_TOO_LARGE: return "a method declares a greater budget than the host gives";
 	default: return "no answer of this library";
 	}
 }
 
 /*
  * Why a class is refused. kind 1: the image, after `method` methods that were read whole, by the refusal `number` (1 to 11, or 13);
- * slot is -1 where it names none. kind 2: the rule `number` (1 to 17) at that method and slot, both from 0 on.
+ * slot is -1 where it names none. kind 2: the rule `number` (1 to 17) at that method and slot, both from 0 on. kind 3: the budget
+ * `number` of that method, from 0 on, which is greater than the host's; slot is -1.
  */
 struct sillarnica_refusal {
 	uint32_t kind, number;
@@ -145,8 +152,8 @@ struct sillarnica_want {
 /*
  * A handle of a verified class, so that a host verifies once and calls many times. Zeroed it is closed. The fields are the
  * library's. Assign it only to give the other one up; sillarnica_verified_copy makes a second one. It may go from thread to
- * thread, as long as one call at a time is on it. It holds the class, some 24 bytes a slot of its methods, and the memory of
- * a run, at most 132 KB, once one was made.
+ * thread, as long as one call at a time is on it. It holds the class, some 24 bytes a slot of its methods, and, once there was
+ * one, the memory of a run on a flat form, on a part, and with loops, at most 132 KB each.
  */
 struct sillarnica_verified {
 	void *held;
@@ -212,6 +219,23 @@ int32_t sillarnica_call(const uint8_t *image, size_t image_len, const uint8_t *m
  */
 int32_t sillarnica_verified_open(const uint8_t *image, size_t image_len, struct sillarnica_refusal *refusal,
 	struct sillarnica_verified *verified);
+
+/*
+ * As sillarnica_verified_open, for a class whose methods may have loops, by a host whose greatest budget is `budget`. A method
+ * with loops declares a budget and, at the head of each loop, what stays so there. By the verdict on loops it is never stuck; a
+ * call takes 64 of its budget for each call of a helper and 1 for each other instruction, and where less is left it ends with
+ * the code -62, without output and edits. Methods without loops are judged and called as ever.
+ *
+ * 0: *verified is open, and each of the calls below answers for the class by what its methods declare. 1, 2: *refusal says why
+ * there is no class. -27: *refusal says which method is the first that declares a greater budget, of a class that is accepted.
+ * -22: `budget` isn't 1 to SILLARNICA_BUDGET_LIMIT. -12. But for 0 *verified is closed. *refusal is written at 1, 2 and -27
+ * alone. Of several refusals it is the first in the order -22, 1, 2, -27; -12 may come in place of any but -22.
+ */
+int32_t sillarnica_loops_open(const uint8_t *image, size_t image_len, uint32_t budget, struct sillarnica_refusal *refusal,
+	struct sillarnica_verified *verified);
+
+/* As sillarnica_explain, by the verdict on loops; it asks no budget. */
+int64_t sillarnica_loops_explain(const uint8_t *image, size_t image_len, uint8_t *text, size_t text_len);
 
 /*
  * Calls a method of the class that is held: what sillarnica_call answers of its image, -12 apart, and *verified holds the class

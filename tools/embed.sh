@@ -9,13 +9,16 @@
 # - cc and c++ build examples/embed/host.c, and it prints what the page says, and of the built-in class `lock` what two callers
 #   get; so does examples/embed/host.py by a shared object;
 # - examples/embed/large.c, where SQLite is installed, prints what calls on parts of an object give, and how many each took;
-# - random methods on objects of any size, by rounds, need and answer what a model in Python says (tools/embed_parts.py);
+# - random methods on objects of any size, also with loops, need by rounds and answer what a model in Python says
+#   (tools/embed_parts.py);
 # - random calls, some of hostile images and flat forms, give the program's code, output, steps and refusals, and their edits
 #   make of the object before the program's object after;
+# - random calls of classes with loops, by a host's greatest budget, give what the program and a model in Python say
+#   (tools/embed_loops.py);
 # - each is made by a handle too, with too little room, on the parts that its method needs alone, and with memory refused at each
 #   growth; eight threads make all of them at once, each with a handle of its own;
-# - the largest image and the largest object, answers of over 2 MB, and handles that a host wrote over (tools/embed_large.c), which
-#   a library with a mistake, each of five, doesn't pass (tools/embed_wrong.c);
+# - the largest image, object and budget, answers of over 2 MB, and handles that a host wrote over (tools/embed_large.c), which
+#   a library with a mistake, each of seven, doesn't pass (tools/embed_wrong.c);
 # - the same under the address and undefined-behavior sanitizers, refused memory too.
 set -uo pipefail
 top=$(cd "$(dirname "$0")/.." && pwd)
@@ -109,21 +112,30 @@ cc -shared -Wl,--whole-archive "$archive" -Wl,--no-whole-archive -o "$work/libsi
 
 python3 "$top/tools/embed_parts.py" "$work/libsillarnica.so" "$radoscls" --seconds 20
 step "calls on parts of objects of any size" $?
+python3 "$top/tools/embed_parts.py" "$work/libsillarnica.so" "$radoscls" --seconds 20 --loops
+step "calls with loops on parts of objects of any size" $?
 
 python3 "$top/tools/embed.py" make "$calls" 1 "$work/calls" "$here/parts.img" "$top"/examples/{keep,count,hello,two}.img
+budget=131072
+python3 "$top/tools/embed_loops.py" images "$radoscls" "$work" &&
+    python3 "$top/tools/embed_loops.py" make $((calls / 5)) 1 "$work/looped" "$work"/loops{300,4096,131072,,_more}.img || exit 1
 cc -std=gnu11 -O2 "${flags[@]}" "${wrap[@]}" "$top/tools/embed.c" "$archive" -o "$work/embed" && "$work/embed" "$work/calls" 8 > "$work/printed"
 step "calls, and eight threads" $?
+"$work/embed" "$work/looped" 8 $budget > "$work/printed_looped"
+step "calls with loops, and eight threads" $?
 c++ -x c++ -O2 "${flags[@]}" -pthread "$top/tools/embed.c" -x none "$archive" -o "$work/embed" && "$work/embed" "$work/calls" 1 | cmp - "$work/printed"
 step "calls by c++" $?
 cc -std=gnu11 "${flags[@]}" "${wrap[@]}" "${clean[@]}" "$top/tools/embed.c" "$archive" -o "$work/embed" && "$work/embed" "$work/calls" 8 | cmp - "$work/printed"
 step "calls under sanitizers" $?
+"$work/embed" "$work/looped" 8 $budget | cmp - "$work/printed_looped"
+step "calls with loops under sanitizers" $?
 large=(-Wl,--wrap=malloc -Wl,--wrap=realloc -Wl,--wrap=free "$top/tools/embed_large.c")
 cc -std=gnu11 -O2 "${flags[@]}" "${large[@]}" "$archive" -o "$work/large" && "$work/large"
 step "large things, and handles" $?
 cc -std=gnu11 "${flags[@]}" "${clean[@]}" "${large[@]}" "$archive" -o "$work/large" && "$work/large"
 step "large things, and handles, under sanitizers" $?
-for call in verify call verified_open verified_call verified_close; do large+=("-Wl,--wrap=sillarnica_$call"); done
-for wrong in FORMS EDITS IMAGES OPENS CLOSED; do
+for call in verify call verified_open verified_call verified_close loops_open; do large+=("-Wl,--wrap=sillarnica_$call"); done
+for wrong in FORMS EDITS IMAGES OPENS CLOSED BUDGETS SPENT; do
     cc -std=gnu11 -O2 "${flags[@]}" -DWRONG=$wrong "${large[@]}" "$top/tools/embed_wrong.c" "$archive" -o "$work/large" &&
         { "$work/large" 2> "$work/lines"; [ $? = 1 ] && grep -q '^large: ' "$work/lines"; }
     step "large things fail of the mistake $wrong" $?
@@ -132,4 +144,10 @@ python3 "$top/tools/embed.py" python "$work/calls" "$work/printed" "$work/libsil
 step "calls in Python" $?
 python3 "$top/tools/embed.py" judge "$work/calls" "$work/printed" "$radoscls"
 step "calls beside the program" $?
+python3 "$top/tools/embed.py" python "$work/looped" "$work/printed_looped" "$work/libsillarnica.so" $budget
+step "calls with loops in Python" $?
+python3 "$top/tools/embed.py" judge "$work/looped" "$work/printed_looped" "$radoscls" $budget
+step "calls with loops beside the program" $?
+python3 "$top/tools/embed_loops.py" judge "$work/looped" "$work/printed_looped" $budget
+step "calls with loops beside a model" $?
 exit $bad

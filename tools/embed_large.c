@@ -1,7 +1,7 @@
 /* Large things on the library, and what a host may hand in as a handle: `embed_large`. tools/embed.sh compiles it.
  *
- * The largest image, the largest flat form, answers of over 2 MB. What is expected is computed here, after docs/IMAGE.md,
- * docs/MACHINE.md, docs/ASSEMBLY.md and the header, and taken from no answer of the library.
+ * The largest image, the largest flat form, answers of over 2 MB, the largest budget. What is expected is computed here, after docs/IMAGE.md,
+ * docs/MACHINE.md, docs/ASSEMBLY.md, docs/LOOPS.md and the header, and taken from no answer of the library.
  *
  * It is linked with -Wl,--wrap=malloc,--wrap=realloc,--wrap=free. It prints a line for each difference; the status is 0 if there
  * is none. */
@@ -57,7 +57,7 @@ static void slot(struct bytes *b, int opcode, int dst, int src, int offset, int3
 }
 
 enum { ADD = 0x07, AND = 0x57, MOV = 0xb7, ADD_R = 0x0f, MOV_R = 0xbf, CALL = 0x85, EXIT = 0x95, WIDE = 0x18, LOAD = 0x79, STORE_4 = 0x62,
-	STORE_R = 0x7b, JUMP_SLT = 0xc5 };
+	STORE_R = 0x7b, JUMP = 0x05, JUMP_SLT = 0xc5, JUMP_LT_R = 0xad, LOAD_4 = 0x61 };
 enum { STAT = 1, WRITE = 3, REMOVE = 5, GETXATTR = 6, SETXATTR = 7, MAP_GET = 9, MAP_SET = 10, MAP_NEXT = 12, OUT_LEN = 13, CREATE = 14, COPY = 17 };
 
 static int has_heads; /* of the image that is made: rule set 3 counts them behind each method's code */
@@ -612,8 +612,165 @@ static void try_handles(void) {
 	free(one.at), free(two.at), free(bad.at);
 }
 
+/* ---- classes with loops */
+
+enum { UNSET, ANY }; /* kinds of places */
+
+/* Ends a method that declares a budget and one head, of places that are unset and of one that is any number. */
+static void finish_loop(struct bytes *b, size_t code, uint32_t budget, int slot, int unset, int any) {
+	has_heads = 0, end(b, code), has_heads = 1;
+	number(b, 1, 2), number(b, budget, 4), number(b, (uint64_t)slot, 2), number(b, (uint64_t)(unset + (any >= 0)), 1);
+	for (int n = 1; n <= unset; n++) number(b, (uint64_t)n, 1), number(b, UNSET, 1);
+	if (any >= 0) number(b, (uint64_t)any, 1), number(b, ANY, 1);
+}
+
+/* `a` has no loop, `b` goes round in one instruction. `count` adds 1 up to a number, in 2 n + 3 instructions. `writes` writes 8 bytes
+ * every 8 up to a number: a round takes 70 of the budget in 7 instructions, all else 4. Unless it is whole
+ * a head lacks its place. */
+static struct bytes looped_class(int is_whole) {
+	struct bytes b = room_of(1024);
+	head(&b, 3, 4);
+	size_t code = begin(&b, "a", 1, 0, 0);
+	slot(&b, MOV, 0, 0, 0, 7), finish(&b, code);
+	code = begin(&b, "b", 1, 0, 0);
+	slot(&b, MOV, 0, 0, 0, 0), slot(&b, JUMP, 0, 0, -1, 0), finish_loop(&b, code, 5, 1, 0, -1);
+	code = begin(&b, "count", 1, 4, 0);
+	slot(&b, LOAD_4, 6, 1, 0, 0), slot(&b, MOV, 0, 0, 0, 0);
+	slot(&b, ADD, 0, 0, 0, 1), slot(&b, JUMP_LT_R, 0, 6, -2, 0), slot(&b, EXIT, 0, 0, 0, 0);
+	finish_loop(&b, code, SILLARNICA_BUDGET_LIMIT, 2, 0, is_whole ? 0 : -1);
+	code = begin(&b, "writes", 2, 4, 0);
+	slot(&b, LOAD_4, 7, 1, 0, 0), slot(&b, MOV, 6, 0, 0, 0);
+	slot(&b, MOV_R, 1, 6, 0, 0), slot(&b, MOV_R, 2, 10, 0, 0), slot(&b, ADD, 2, 0, 0, -8), slot(&b, MOV, 3, 0, 0, 8);
+	slot(&b, CALL, 0, 0, 0, WRITE), slot(&b, ADD, 6, 0, 0, 8), slot(&b, JUMP_LT_R, 6, 7, -7, 0);
+	slot(&b, MOV_R, 0, 6, 0, 0), slot(&b, EXIT, 0, 0, 0, 0);
+	finish_loop(&b, code, SILLARNICA_BUDGET_LIMIT, 2, 3, 6);
+	return b;
+}
+
+/* What opening says: the refusal is the answer's kind, or nothing is written. */
+static void opens(struct bytes image, uint32_t budget, int32_t result, uint32_t kind, uint32_t n, uint64_t method, int64_t at) {
+	struct sillarnica_refusal why;
+	struct sillarnica_verified handle;
+	memset(&why, 0xa5, sizeof why), memset(&handle, 0xa5, sizeof handle);
+	want(sillarnica_loops_open(image.at, image.len, budget, &why, &handle) == result, "a class with loops is opened otherwise", (long)budget);
+	want(handle.is_open == (result == 0) && (handle.held != NULL) == (result == 0), "whether a handle of loops is open", (long)budget);
+	if (!kind) want(is_filled(&why, 0xa5, sizeof why), "a reason is written that isn't told", (long)budget);
+	else want(why.kind == kind && why.number == n && why.method == method && why.slot == at, "why a class with loops is refused", (long)budget);
+	sillarnica_verified_close(&handle);
+}
+
+/* What is said of an image, by the verdict on loops or without loops; `line` is empty if it is accepted. */
+static void explains(struct bytes image, int loops, const char *line) {
+	uint8_t text[256];
+	size_t len = strlen(line);
+	memset(text, 0x5a, sizeof text);
+	int64_t said = loops ? sillarnica_loops_explain(image.at, image.len, text, sizeof text) : sillarnica_explain(image.at, image.len, text, sizeof text);
+	want(said == (int64_t)len && !memcmp(text, line, len) && is_filled(text + len, 0x5a, sizeof text - len), line, (long)said);
+}
+
+static void try_openings(struct bytes good, struct bytes bad) {
+	static const uint32_t none[] = { 0, SILLARNICA_BUDGET_LIMIT + 1, UINT32_MAX };
+	struct bytes cut = { good.at, good.len - 1 }, nothing = { NULL, 0 };
+	for (int i = 0; i < 3; i++) opens(good, none[i], -22, 0, 0, 0, 0), opens(nothing, none[i], -22, 0, 0, 0, 0);
+	opens(good, 1, -27, 3, 5, 1, -1), opens(good, 4, -27, 3, 5, 1, -1);
+	opens(good, 5, -27, 3, SILLARNICA_BUDGET_LIMIT, 2, -1);
+	opens(good, SILLARNICA_BUDGET_LIMIT - 1, -27, 3, SILLARNICA_BUDGET_LIMIT, 2, -1);
+	opens(good, SILLARNICA_BUDGET_LIMIT, 0, 0, 0, 0, 0);
+	/* a class that is refused is refused so by each budget */
+	opens(cut, 1, 1, 1, 1, 3, -1), opens(cut, SILLARNICA_BUDGET_LIMIT, 1, 1, 1, 3, -1);
+	opens(bad, 1, 2, 2, 1, 2, 3), opens(bad, SILLARNICA_BUDGET_LIMIT, 2, 2, 1, 2, 3);
+	explains(good, 1, ""), explains(good, 0, "refused method 1 slot 1: 1 Backward");
+	explains(bad, 1, "refused method 2 slot 3: 1 Backward"), explains(cut, 1, "image refused after 3 methods: 1 Truncated");
+	refused(good, 2, 1, 1, 1, "refused method 1 slot 1: 1 Backward");
+}
+
+/* What a call by a handle gives, on a flat form and on a part; its edits are writes of 8 zeros every 8 bytes. */
+static void runs(struct asked *a, const char *method, uint32_t input, int64_t code, uint64_t steps, size_t edits) {
+	static const struct sillarnica_limits limits = { DATA, SILLARNICA_ANY_NUMBER, SILLARNICA_ANY_NUMBER, NAME, NAME };
+	static const uint8_t zeros[8];
+	struct bytes absent = room_of(1), text = room_of(4);
+	struct sillarnica_want needs;
+	number(&absent, 0, 1), number(&text, input, 4);
+	if (*method == 'a' || *method == 'b') text.len = 0;
+	for (int on_part = 0; on_part < 2; on_part++) {
+		struct found f = ask(a, 1, method, absent, text, ROOM);
+		if (on_part) {
+			memset(&f.said, 0xa5, sizeof f.said), memset(f.out, 0x5a, ROOM);
+			f.result = sillarnica_verified_call_part(&a->handle, (const uint8_t *)method, strlen(method), absent.at, absent.len, 7, &limits,
+				text.at, text.len, &f.said, &needs, f.out, ROOM);
+		}
+		want(f.result == 0 && f.said.code == code && f.said.steps == steps, method, (long)f.said.steps);
+		want(f.said.output_len == 0 && f.said.edits_len == edits, "as many bytes of edits of a loop", (long)f.said.edits_len);
+		want(f.result || is_filled(f.out + edits, 0x5a, ROOM - edits), "behind a loop's edits the buffer changed", input);
+		want(!edits || f.out[0] == 1, "a loop's object isn't made", input);
+		for (size_t at = 1, n = 0; at + 21 <= edits; at += 21, n += 8)
+			want(f.out[at] == 8 && number_at(f.out + at + 1, 8) == n && number_at(f.out + at + 9, 4) == 8 && !memcmp(f.out + at + 13, zeros, 8),
+				"an edit of a loop", (long)n);
+	}
+	free(absent.at), free(text.at);
+}
+
+/* A call up to each end of the largest budget, and past it. */
+static void try_budgets(struct asked *a) {
+	const uint32_t most = SILLARNICA_BUDGET_LIMIT, count = (most - 3) / 2, rounds = (most - 4) / 70;
+	const size_t list = 1 + 21 * (DATA / 8); /* (what would pass the data's limit is refused) */
+	runs(a, "a", 0, 7, 2, 0), runs(a, "b", 0, -62, 5, 0);
+	runs(a, "count", 0, 1, 5, 0), runs(a, "count", 1000, 1000, 2003, 0);
+	runs(a, "count", count, count, 2 * count + 3, 0), runs(a, "count", count + 1, -62, most, 0);
+	runs(a, "writes", 8, 8, 11, 22), runs(a, "writes", DATA, DATA, 4 + 7 * (DATA / 8), list);
+	runs(a, "writes", 8 * rounds, 8 * rounds, 4 + 7 * rounds, list), runs(a, "writes", 8 * rounds + 1, -62, most, 0);
+}
+
+/* With memory refused at one growth after the other: at opening, and in a call that ends or is spent. */
+static void try_refused_loops(struct bytes image, uint32_t input, int64_t code) {
+	struct asked a = { image, { NULL, 0 } };
+	struct sillarnica_refusal why;
+	struct bytes absent = room_of(1), text = room_of(4);
+	int is_met = 1;
+	number(&absent, 0, 1), number(&text, input, 4);
+	for (long k = 0; is_met; k += 1 + k / 5) {
+		memset(&why, 0xa5, sizeof why), growths = k;
+		int32_t result = sillarnica_loops_open(image.at, image.len, SILLARNICA_BUDGET_LIMIT, &why, &a.handle);
+		is_met = growths == 0, growths = -1;
+		want((result == 0 || (is_met && result == -12)) && a.handle.is_open == (result == 0), "a class with loops where memory is refused", k);
+		want(is_filled(&why, 0xa5, sizeof why), "a reason where memory is refused", k);
+		sillarnica_verified_close(&a.handle);
+	}
+	want(sillarnica_loops_open(image.at, image.len, SILLARNICA_BUDGET_LIMIT, &why, &a.handle) == 0, "a class with loops after it", 0);
+	is_met = 1;
+	for (long k = 0; is_met; k += 1 + k / 5) {
+		growths = k;
+		struct found f = ask(&a, 1, "writes", absent, text, ROOM);
+		is_met = growths == 0, growths = -1;
+		want(f.result == 0 ? f.said.code == code : is_met && f.result == -12, "a loop where memory is refused", k);
+		want(f.result == 0 || (is_filled(f.out, 0x5a, ROOM) && is_filled(&f.said, 0xa5, sizeof f.said)), "-12 of a loop writes", k);
+	}
+	runs(&a, "b", 0, -62, 5, 0);
+	sillarnica_verified_close(&a.handle);
+	free(absent.at), free(text.at);
+}
+
+static void try_loops(void) {
+	struct bytes good = looped_class(1), bad = looped_class(0);
+	struct asked a = { good, { NULL, 0 } }, copy = a;
+	struct sillarnica_refusal why;
+	try_openings(good, bad);
+	want(sillarnica_loops_open(good.at, good.len, SILLARNICA_BUDGET_LIMIT, &why, &a.handle) == 0, "a class with loops", 0);
+	try_budgets(&a);
+	want(sillarnica_verified_copy(&a.handle, &copy.handle) == 0 && copy.handle.is_open == 1, "a copy of a handle with loops", 0);
+	runs(&copy, "count", 1000, 1000, 2003, 0);
+	sillarnica_verified_close(&a.handle);
+	want(sillarnica_verified_copy(&a.handle, &a.handle) == -9, "a copy of a closed handle with loops", 0);
+	try_budgets(&copy);
+	want(sillarnica_verified_needs(&copy.handle, (const uint8_t *)"writes", 6) == 1, "what a method with a loop needs", 0);
+	sillarnica_verified_close(&copy.handle);
+	try_refused_loops(good, 800, 800), try_refused_loops(good, DATA * 4, -62);
+	free(good.at), free(bad.at);
+}
+
 int main(void) {
 	try_handles();
+	try_loops();
 	for (int rules = 1; rules <= 3; rules++) try_largest_image(rules);
 	try_largest_regions();
 	try_full_object();

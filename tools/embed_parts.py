@@ -1,18 +1,20 @@
 """Random methods on objects of any size, through the library's call on parts, for tools/embed.sh.
 
-    embed_parts.py LIBRARY RADOSCLS [--seconds N] [--seed N]
+    embed_parts.py LIBRARY RADOSCLS [--seconds N] [--seed N] [--loops]
 
 LIBRARY is a shared object, RADOSCLS assembles the methods. Objects have up to 128 MiB of data, 100,000 keys and 100
 xattrs. Each call goes by rounds: the host here keeps the object, and fetches what a need names, often with more that
 follows. What each round should answer, a need, -28 or the answer, is told beforehand by a model that is written after
 docs/EMBED.md and docs/ASSEMBLY.md alone, over the interpreter of ceph/tests/model.py: need, code, output, steps, edits and
-the object after them are compared. N is 10 seconds, and seed 1."""
+the object after them are compared. With --loops the methods have loops, whose heads RADOSCLS finds, and run by budgets. N is 10
+seconds, and seed 1."""
 import argparse, bisect, os, random, struct, subprocess, sys, tempfile, time
 
 TOP = os.path.join(os.path.dirname(os.path.abspath(__file__)), "..")
 sys.path[:0] = [os.path.join(TOP, "examples", "embed"), os.path.join(TOP, "ceph", "tests")]
 sys.dont_write_bytecode = True
 import host, model
+from embed_loops import SPENT, ByBudget, Spent, loops_of
 
 BLOCK = 4096
 ANY = 0xFFFFFFFF
@@ -166,11 +168,12 @@ def need(kind, name):
     return Needs(bytes([kind]) + struct.pack("<H", len(name)) + name)
 
 
-class Run(model.Run):
+class Run(ByBudget):
     """One round: a run on a whole object, by limits, that stops where a part of it doesn't say what a helper asks for."""
 
-    def __init__(self, method, whole, part, limits, caller, data):
+    def __init__(self, method, budget, whole, part, limits, caller, data):
         super().__init__(method, None, caller, data)
+        self.budget = budget
         self.base, self.part, self.limits, self.list = whole, part, limits, []
         self.is_there, self.size, self.calls, self.removals = whole.is_there, whole.size, 0, 0
         self.low = -(-whole.size // BLOCK)  # the object before has nothing in blocks from there on
@@ -354,22 +357,29 @@ HELPERS = {
 
 
 # Methods at random, as text: registers 6 and 7 have the input and the output, whose first words are the answers of the
-# helpers. The input has 16 numbers, 8 lengths of names, and from 256 on room for 8 names, 70 bytes each.
+# helpers. The input has 16 numbers, 8 lengths of names, and from 256 on room for 8 names, 70 bytes each. In a loop register 8
+# counts the rounds, which may say the number and the name.
 
 NUMBERS, NAMES, ANSWERS = 16, 8, 40
 
 
 class Text:
-    def __init__(self, r):
+    def __init__(self, r, loops):
         self.r, self.lines, self.at, self.answers, self.labels = r, [], 8 * ANSWERS, 0, 0
+        self.loops, self.is_inside = loops, False
 
     def put(self, *lines):
         self.lines += lines
 
     def number(self, register):
+        if self.is_inside and self.r.random() < 0.7:
+            return self.put("mov r9, r8", "mul r9, 8", "add r9, r6", f"ldxdw r{register}, [r9+{8 * self.r.randrange(NUMBERS - NAMES + 1)}]")
         self.put(f"ldxdw r{register}, [r6+{8 * self.r.randrange(NUMBERS)}]")
 
     def name(self, register):
+        if self.is_inside and self.r.random() < 0.7:
+            self.put("mov r9, r8", "add r9, r6", f"ldxb r{register + 1}, [r9+128]")
+            return self.put(f"mov r{register}, r8", f"mul r{register}, 70", f"add r{register}, r6", f"add r{register}, 256")
         n = self.r.randrange(NAMES)
         self.put(f"mov r{register}, r6", f"add r{register}, {256 + 70 * n}", f"ldxb r{register + 1}, [r6+{128 + n}]")
 
@@ -442,6 +452,19 @@ class Text:
             self.put("mov r1, 0")
             self.call(14)
 
+    def loop(self):
+        """A statement or two, up to as often as there are names; or on and on, till the budget is used up."""
+        head, self.is_inside = self.label(), True
+        self.put("mov r8, 0", f"{head}:")
+        for _ in range(self.r.choice((1, 1, 2))):
+            if self.answers + 20 <= ANSWERS and OUT - self.at >= 600:
+                self.statement()
+        rounds = self.r.randrange(1, NAMES + 1)
+        self.put("add r8, 1", f"jlt r8, {rounds}, {head}")
+        if self.r.random() < 0.03:
+            self.put("mov r8, 0", f"ja {head}")
+        self.is_inside = False
+
     def write(self):
         skip = None
         for _ in range(self.r.choice((1, 2, 3, 4, 6, 10))):
@@ -450,7 +473,7 @@ class Text:
             if skip is None and self.r.random() < 0.15 and self.answers:
                 skip = self.label()
                 self.put("jslt r0, 0, " + skip if self.r.random() < 0.5 else "jsge r0, 0, " + skip)
-            self.statement()
+            self.loop() if self.loops and self.r.random() < 0.6 else self.statement()
             if skip is not None and self.r.random() < 0.5:
                 self.put(f"{skip}:")
                 skip = None
@@ -463,10 +486,10 @@ class Text:
         return self.lines
 
 
-def class_text(r, count):
+def class_text(r, count, loops):
     lines = [".rules 3"]
     for n in range(count):
-        lines += [f".method m{n:02} rw {IN} {OUT}", "mov r6, r1", "mov r7, r3", "mov r0, 0", *Text(r).write()]
+        lines += [f".method m{n:02} rw {IN} {OUT}", "mov r6, r1", "mov r7, r3", "mov r8, 0", "mov r0, 0", *Text(r, loops).write()]
     return "\n".join(lines) + "\n"
 
 
@@ -543,11 +566,12 @@ def want(is_so, *what):
 class Caller:
     """The host: one class, and its calls."""
 
-    def __init__(self, library, image, r, tally):
-        self.library, self.methods, self.r, self.tally = library, model.methods_of(image), r, tally
+    def __init__(self, library, image, r, tally, budget):
+        self.library, self.methods, self.r, self.tally = library, loops_of(image), r, tally
         self.last = None
-        result, self.verified = library.open(image)
-        want(result == 0, "the class is refused:", library.explain(image))
+        result, self.verified = library.open(image, budget)
+        self.is_open = result == 0
+        want(self.is_open or budget and result == 2, "the class is refused:", library.explain(image, budget))
 
     def learn_some(self, part, whole):
         """Something more, at random."""
@@ -590,9 +614,11 @@ class Caller:
 
     def told(self, method, whole, part, limits, caller, data):
         """What a round should come to, and its run."""
-        run = Run(self.methods[method], whole, part, limits, caller, data)
+        run = Run(*self.methods[method], whole, part, limits, caller, data)
         try:
             run.steps = run.go()
+        except Spent:
+            return ("answer", SPENT, run.budget, b"", b""), run
         except Needs as needs:
             return ("needs", needs.args[0]), run
         except Full:
@@ -630,16 +656,16 @@ class Caller:
             told, run = self.told(method, whole, part, limits, caller, data)
             found = self.found(method, whole, part, limits, caller, data)
             self.tally.rounds += 1
-            self.tally.count(f"need {told[1][0]}" if told[0] == "needs" else told[0])
+            self.tally.count(f"need {told[1][0]}" if told[0] == "needs" else "spent" if told[1:2] == (SPENT,) else told[0])
             want(found == told, f"{method.decode()} answers {found}, not {told}")
             if told[0] != "needs":
                 break
             needs += 1
+            want(needs <= run.calls + run.removals, "more needs than calls of helpers, up to this one, and removals")
             if not self.fetch(part, whole, told[1]):
                 break
         self.tally.calls += 1
         self.tally.most = max(self.tally.most, needs)
-        want(needs <= run.calls + run.removals, "more needs than calls of helpers and removals")
         if told[0] != "answer":
             return
         self.more(told, method, whole, part, limits, caller, data)
@@ -687,6 +713,7 @@ def main(words):
     asked.add_argument("radoscls")
     asked.add_argument("--seconds", type=float, default=10)
     asked.add_argument("--seed", type=int, default=1)
+    asked.add_argument("--loops", action="store_true")
     asked = asked.parse_args(words)
     r, tally, end = random.Random(asked.seed), Tally(), time.monotonic() + asked.seconds
     library, whole = host.Library(asked.library), some_object(r)
@@ -694,10 +721,16 @@ def main(words):
         text, image = os.path.join(folder, "text"), os.path.join(folder, "image")
         while time.monotonic() < end:
             with open(text, "w") as file:
-                file.write(class_text(r, 32))
-            subprocess.run([asked.radoscls, "asm", text, image], check=True, stdout=subprocess.DEVNULL)
-            caller = Caller(library, open(image, "rb").read(), r, tally)
-            for _ in range(500):
+                file.write(class_text(r, 8 if asked.loops else 32, asked.loops))
+            budget = r.choice((500, 3000, 20000, 1 << 17)) if asked.loops else None
+            heads = ["--heads", "--budget", str(budget)] if asked.loops else []
+            subprocess.run([asked.radoscls, "asm", text, image, *heads], check=True, stdout=subprocess.DEVNULL)
+            caller = Caller(library, open(image, "rb").read(), r, tally, budget)
+            if not caller.is_open:  # (what is found for a loop may be too little)
+                verdict = subprocess.run([asked.radoscls, "verify", image, "--loops"], capture_output=True, text=True).stdout
+                want(verdict == library.explain(open(image, "rb").read(), budget) + "\n", "another verdict:", verdict)
+                tally.count("refused class")
+            for _ in range((100 if asked.loops else 500) if caller.is_open else 0):
                 if time.monotonic() >= end:
                     break
                 if r.random() < 0.02:
@@ -710,7 +743,7 @@ def main(words):
                     raise
             library.close(caller.verified)
     kinds = ", ".join(f"{tally.kinds[kind]} of {kind}" for kind in sorted(tally.kinds))
-    print(f"{tally.calls} calls on parts, seed {asked.seed}: {kinds}; at most {tally.most} needs in one")
+    print(f"{tally.calls} calls on parts{' with loops' if asked.loops else ''}, seed {asked.seed}: {kinds}; at most {tally.most} needs in one")
 
 
 if __name__ == "__main__":

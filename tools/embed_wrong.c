@@ -3,7 +3,7 @@
 #include "sillarnica.h"
 #include <string.h>
 
-enum { FORMS = 1, EDITS, IMAGES, OPENS, CLOSED };
+enum { FORMS = 1, EDITS, IMAGES, OPENS, CLOSED, BUDGETS, SPENT };
 
 int32_t __real_sillarnica_verify(const uint8_t *, size_t, struct sillarnica_refusal *);
 int32_t __wrap_sillarnica_verify(const uint8_t *, size_t, struct sillarnica_refusal *);
@@ -13,6 +13,8 @@ int32_t __wrap_sillarnica_call(const uint8_t *, size_t, const uint8_t *, size_t,
 	struct sillarnica_refusal *, struct sillarnica_answer *, uint8_t *, size_t);
 int32_t __real_sillarnica_verified_open(const uint8_t *, size_t, struct sillarnica_refusal *, struct sillarnica_verified *);
 int32_t __wrap_sillarnica_verified_open(const uint8_t *, size_t, struct sillarnica_refusal *, struct sillarnica_verified *);
+int32_t __real_sillarnica_loops_open(const uint8_t *, size_t, uint32_t, struct sillarnica_refusal *, struct sillarnica_verified *);
+int32_t __wrap_sillarnica_loops_open(const uint8_t *, size_t, uint32_t, struct sillarnica_refusal *, struct sillarnica_verified *);
 int32_t __real_sillarnica_verified_call(struct sillarnica_verified *, const uint8_t *, size_t, const uint8_t *, size_t, uint64_t, const uint8_t *,
 	size_t, struct sillarnica_answer *, uint8_t *, size_t);
 int32_t __wrap_sillarnica_verified_call(struct sillarnica_verified *, const uint8_t *, size_t, const uint8_t *, size_t, uint64_t, const uint8_t *,
@@ -60,6 +62,13 @@ int32_t __wrap_sillarnica_verified_open(const uint8_t *image, size_t image_len, 
 	return __real_sillarnica_verified_open(image, image_len, why, verified);
 }
 
+/* A class is opened whatever budget the host gives. */
+int32_t __wrap_sillarnica_loops_open(const uint8_t *image, size_t image_len, uint32_t budget, struct sillarnica_refusal *why,
+	struct sillarnica_verified *verified) {
+	if (WRONG == BUDGETS) budget = SILLARNICA_BUDGET_LIMIT;
+	return __real_sillarnica_loops_open(image, image_len, budget, why, verified);
+}
+
 int32_t __wrap_sillarnica_verified_call(struct sillarnica_verified *verified, const uint8_t *method, size_t method_len,
 	const uint8_t *object, size_t object_len, uint64_t caller, const uint8_t *input, size_t input_len,
 	struct sillarnica_answer *said, uint8_t *out, size_t out_len) {
@@ -68,7 +77,10 @@ int32_t __wrap_sillarnica_verified_call(struct sillarnica_verified *verified, co
 	if (WRONG == FORMS && object_len > 100000) return -22;
 	int32_t result = __real_sillarnica_verified_call(verified, method, method_len, object, object_len, caller, input, input_len, &found, out, 0);
 	if (has_many(result, &found)) return -12;
-	return __real_sillarnica_verified_call(verified, method, method_len, object, object_len, caller, input, input_len, said, out, out_len);
+	result = __real_sillarnica_verified_call(verified, method, method_len, object, object_len, caller, input, input_len, said, out, out_len);
+	/* a spent call leaves an edit */
+	if (WRONG == SPENT && result == 0 && said->code == -62 && out_len) out[0] = 1, said->edits_len = 1;
+	return result;
 }
 
 void __wrap_sillarnica_verified_close(struct sillarnica_verified *verified) {

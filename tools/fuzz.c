@@ -12,7 +12,7 @@
 #include <string.h>
 #include <sys/mman.h>
 
-enum { PLACE = 1 << 24, BEFORE = 64, BEHIND = 16 };
+enum { PLACE = 1 << 24, BEFORE = 64, BEHIND = 16, ROUNDS = 200 };
 struct call { struct slice image, method, object, input; uint64_t caller; };
 struct found { int32_t result; struct sillarnica_refusal why; struct sillarnica_answer said; size_t room; };
 enum { FORM = FIELDS, OUT, TEXT, KEPT, SAID, PLACES };
@@ -123,6 +123,14 @@ static int is_same(const struct found *first, const struct found *f) {
 	return f->result || !memcmp(ends[KEPT] - used, ends[OUT] - f->room, used);
 }
 
+/* Opens a handle, by a host's greatest budget if there is one. */
+static int32_t open_class(const struct call *c, uint32_t budget, struct sillarnica_refusal *why, struct sillarnica_verified *held) {
+	if (budget) return INSIDE(sillarnica_loops_open(c->image.at, c->image.len, budget, why, held));
+	return INSIDE(sillarnica_verified_open(c->image.at, c->image.len, why, held));
+}
+
+static void close_class(struct sillarnica_verified *held) { is_inside = 1, sillarnica_verified_close(held), is_inside = 0; }
+
 /* ---- what it should answer */
 
 static const char *const ERRORS[] = { "", "Truncated", "Magic", "Opcode", "Register", "NonzeroField", "WideHalf", "Name", "Order", "Flags",
@@ -131,9 +139,24 @@ static const char *const RULES[] = { "", "Backward", "Target", "FallsOff", "Loca
 	"PointerCompare", "PointerStored", "Bounds", "ReadOnlyRegion", "UnknownHelper", "HelperArgument", "WriteHelperInReader",
 	"ReturnsPointer", "NoMemory", "PointerBytes" };
 
-/* The verdict of an image: 0, 1 or 2, and why. Of rules 5 and above it is the library's own, as far as it is possible. */
+/* Whether it may be that a rule refuses a class so: of rules 5 and above, and of a jump back to a head, it is the library's word. */
+static void test_rule(const struct sillarnica_refusal *why, int by_loops) {
+	struct where plain = plain_rules(&class, by_loops);
+	want(why->kind == 2 && why->number >= 1 && why->number <= 17 && why->number != 16, "a rule's number");
+	want(why->method < class.count && why->slot >= 0 && why->slot < class.methods[why->method].slots, "a rule's place");
+	const struct method *m = &class.methods[why->method];
+	int is_before = why->method < plain.method || (why->method == plain.method && why->slot < plain.slot);
+	int is_plain = why->number == plain.number && why->method == plain.method && why->slot == plain.slot;
+	int is_own = why->number > 4 || (by_loops && why->number == 1 && goes_to_head(m, why->slot));
+	want(is_own ? !plain.number || is_before : is_plain, "it isn't the first refusal");
+	const uint8_t *slot = m->code + 8 * why->slot;
+	want(slot[0] != 0, "a rule refuses half an instruction");
+	refusals[why->number << 8 | slot[0]]++;
+}
+
+/* The verdict of an image: 0, 1 or 2, and why. */
 static int32_t verdict(const struct call *c, struct sillarnica_refusal *why) {
-	struct where refused = read_class(c->image, &class), plain = plain_rules(&class);
+	struct where refused = read_class(c->image, &class);
 	memset(why, 0xa5, sizeof *why);
 	int32_t result = INSIDE(sillarnica_verify(c->image.at, c->image.len, why));
 	if (refused.number) {
@@ -143,21 +166,15 @@ static int32_t verdict(const struct call *c, struct sillarnica_refusal *why) {
 		return 1;
 	}
 	if (result == 0) {
-		want(is_filled(why, 0xa5, sizeof *why) && !plain.number, "a class is accepted that a plain rule refuses");
+		want(is_filled(why, 0xa5, sizeof *why) && !plain_rules(&class, 0).number, "a class is accepted that a plain rule refuses");
 		return 0;
 	}
-	want(result == 2 && why->kind == 2 && why->number >= 1 && why->number <= 17 && why->number != 16, "a rule's number");
-	want(why->method < class.count && why->slot >= 0 && why->slot < class.methods[why->method].slots, "a rule's place");
-	int is_before = why->method < plain.method || (why->method == plain.method && why->slot < plain.slot);
-	int is_plain = why->number == plain.number && why->method == plain.method && why->slot == plain.slot;
-	want(why->number <= 4 ? is_plain : !plain.number || is_before, "it isn't the first refusal");
-	const uint8_t *slot = class.methods[why->method].code + 8 * why->slot;
-	want(slot[0] != 0, "a rule refuses half an instruction");
-	refusals[why->number << 8 | slot[0]]++;
+	want(result == 2, "the number of a verdict");
+	test_rule(why, 0);
 	return 2;
 }
 
-static void test_explain(const struct call *c, int32_t result, const struct sillarnica_refusal *why, size_t room) {
+static void test_explain(const struct call *c, int32_t result, const struct sillarnica_refusal *why, size_t room, int by_loops) {
 	char line[256] = "";
 	int n = 0;
 	if (result == 1) {
@@ -170,7 +187,9 @@ static void test_explain(const struct call *c, int32_t result, const struct sill
 	uint8_t *text = ends[TEXT] - room;
 	size_t written = (size_t)n < room ? (size_t)n : room;
 	memset(text, 0x5a, room);
-	want(INSIDE(sillarnica_explain(c->image.at, c->image.len, text, room)) == n, "the length of the line");
+	int64_t length = by_loops ? INSIDE(sillarnica_loops_explain(c->image.at, c->image.len, text, room))
+		: INSIDE(sillarnica_explain(c->image.at, c->image.len, text, room));
+	want(length == n, "the length of the line");
 	want(!memcmp(text, line, written) && is_filled(text + written, 0x5a, room - written), "the line");
 }
 
@@ -203,14 +222,15 @@ static void test_method(const struct call *c, int32_t result, const struct metho
 	for (size_t n = 0; test_method_at(c, NULL, n, result == 1 ? 1 : 0); n++) {}
 }
 
-/* What a call answers, before its room is looked at. An answer is in `outcome`, and the object in `after`. */
-static int32_t wanted(const struct call *c, int32_t result, const struct method *m, unsigned layout) {
+/* What a call answers, before its room is looked at, by its budget if there is one. An answer is in `outcome`, and the object in
+ * `after`. */
+static int32_t wanted(const struct call *c, int32_t result, const struct method *m, unsigned budget, unsigned layout) {
 	if (result) return result;
 	if (!m) return -95;
 	if (c->input.len > m->in_cap) return -7;
 	if (c->caller >> 32 || !read_flat(c->object, &before)) return -22;
 	copy_object(&after, &before);
-	const char *stuck = run_method(m, &after, (uint32_t)c->caller, c->input, layout, &outcome);
+	const char *stuck = run_method(m, &after, (uint32_t)c->caller, c->input, budget, layout, &outcome);
 	want(!stuck, stuck);
 	if (outcome.code < 0) copy_object(&after, &before);
 	return 0;
@@ -266,13 +286,13 @@ static void with_refused_memory(const struct call *c, const struct found *first,
 	int32_t copied = INSIDE(sillarnica_verified_copy(&held, &second));
 	growths = -1;
 	want((copied == 0 || copied == -12) && second.is_open == (copied == 0) && held.is_open == 1, "a copy where memory is refused");
-	is_inside = 1, sillarnica_verified_close(&second), is_inside = 0;
+	close_class(&second);
 	had = granted, f = ask(c, &held, first->room);
 	refuse(number, had), f = ask(c, &held, first->room);
 	want(f.result == -12 || is_same(first, &f), "a handle's answer where memory is refused");
 	growths = -1, f = ask(c, &held, first->room);
 	want(is_same(first, &f), "a handle's answer after memory was refused");
-	is_inside = 1, sillarnica_verified_close(&held), is_inside = 0;
+	close_class(&held);
 }
 
 /* By a handle, and by a closed one. */
@@ -298,28 +318,28 @@ static void by_handle(const struct call *c, const struct found *first, int32_t r
 	if (result == 0) {
 		const struct method *m = method_named(&class, c->method);
 		f = ask(c, &second, first->room), want(is_same(first, &f), "a copy's answer");
-		is_inside = 1, sillarnica_verified_close(&held), is_inside = 0;
+		close_class(&held);
 		f = ask(c, &second, first->room), want(is_same(first, &f), "a copy's answer once the first is closed");
 		want(INSIDE(sillarnica_verified_needs(&second, c->method.at, c->method.len)) == (m ? needs_of(m) : -95), "what a handle's method needs");
-		is_inside = 1, sillarnica_verified_close(&second), is_inside = 0;
+		close_class(&second);
 	}
 	want(INSIDE(sillarnica_verified_needs(&second, c->method.at, c->method.len)) == -9, "what a closed handle's method needs");
 	for (int i = 0; i < 2; i++) {
-		is_inside = 1, sillarnica_verified_close(&held), is_inside = 0;
+		close_class(&held);
 		f = ask(c, &held, room);
 		want(held.is_open == 0 && f.result == -9, "a closed handle");
 	}
 }
 
 /* On the parts that the method needs alone; and for another client, if its code asks for none. */
-static void on_parts(const struct call *c, const struct found *first, const struct method *m) {
+static void on_parts(const struct call *c, struct sillarnica_verified *held, const struct found *first, const struct method *m) {
 	struct call other = *c;
 	struct slice form = { ends[FORM] - PLACE / 2, write_flat(&before, needs_of(m), ends[FORM] - PLACE / 2) };
 	other.object = placed(FORM, form);
 	int asks = 0;
 	for (unsigned i = 0; i < m->slots; i++) asks |= m->code[8 * i] == 0x85 && m->code[8 * i + 4] == 15;
 	other.caller ^= asks ? 0 : 0x80000001;
-	struct found f = ask(&other, NULL, first->room);
+	struct found f = ask(&other, held, first->room);
 	want(is_same(first, &f), "another answer on the parts alone, or for another client");
 }
 
@@ -395,7 +415,8 @@ static void by_rounds(const struct call *c, struct sillarnica_verified *held, co
 }
 
 /* Calls on parts, by a handle of its own; by rounds where there is an answer on the whole object, as `first` is it. */
-static void on_parts_by_rounds(const struct call *c, const struct found *first, const struct method *m, struct slice chosen, size_t room) {
+static void on_parts_by_rounds(const struct call *c, uint32_t budget, const struct found *first, const struct method *m, struct slice chosen,
+	size_t room) {
 	static struct known known;
 	struct sillarnica_limits limits = { UINT64_C(1) << 31, SILLARNICA_ANY_NUMBER, SILLARNICA_ANY_NUMBER, NAME, NAME };
 	struct sillarnica_limits whole = { DATA, XATTRS, KEYS, NAME, NAME }, any = { DATA, SILLARNICA_ANY_NUMBER, SILLARNICA_ANY_NUMBER, NAME, NAME };
@@ -403,24 +424,111 @@ static void on_parts_by_rounds(const struct call *c, const struct found *first, 
 	struct sillarnica_refusal why;
 	struct slice none = { NULL, 0 };
 	if (chosen.len) memcpy(&limits, chosen.at, chosen.len < sizeof limits ? chosen.len : sizeof limits);
-	want(INSIDE(sillarnica_verified_open(c->image.at, c->image.len, &why, &held)) == 0, "a handle for parts");
+	want(open_class(c, budget, &why, &held) == 0, "a handle for parts");
 	on_any_part(c, &held, m, limits, room);
-	if (first->result == 0) {
-		unsigned calls = 0;
-		for (unsigned i = 0; i < m->slots; i += is_wide(m->code + 8 * i) ? 2 : 1) calls += m->code[8 * i] == 0x85;
+	unsigned calls = outcome.calls;
+	/* (a loop of many calls would take as many rounds) */
+	if (first->result == 0 && calls <= ROUNDS) {
 		long number = chosen.len ? chosen.at[0] : 0;
 		/* nothing is known; or all, and then nothing is needed; or names alone */
 		memset(&known, 0, sizeof known);
 		if (before.parts[0].count + calls <= XATTRS && before.parts[1].count + calls <= KEYS)
-			by_rounds(c, &held, first, &known, &any, 2 * calls, number);
+			by_rounds(c, &held, first, &known, &any, calls + outcome.removals, number);
 		memset(&known, 0, sizeof known), memset(known.blocks, 1, sizeof known.blocks);
 		learn_names(&known, 0, none, none), learn_names(&known, 1, none, none);
 		by_rounds(c, &held, first, &known, &whole, 0, number);
 		memset(known.blocks, 0, sizeof known.blocks);
 		by_rounds(c, &held, first, &known, &whole, calls, number);
 	}
-	is_inside = 1, sillarnica_verified_close(&held), is_inside = 0;
+	close_class(&held);
 	want(ask_part(c, &held, &limits, room).of.result == -9, "a closed handle for parts");
+}
+
+/* An answer that is whole, by its room, and kept in KEPT; or the refusal. Whether the answer isn't too long to be kept. */
+static int settle(const struct call *c, struct sillarnica_verified *held, int32_t wants, const struct method *m, size_t room,
+	struct found *first) {
+	*first = ask(c, held, room);
+	if (wants) return want(first->result == wants, "the number of a refused call"), 1;
+	size_t used = first->said.output_len + first->said.edits_len;
+	want(first->result == (used > room ? -34 : 0), "an answer by its room");
+	if (used >= PLACE / 2) return 0; /* a list of many long writes */
+	if (first->result) *first = ask(c, held, used);
+	want(first->result == 0 && first->said.output_len + first->said.edits_len == used, "the call again, with more room");
+	memcpy(ends[KEPT] - used, ends[OUT] - first->room, used);
+	test_answer(first, m, ends[KEPT] - used);
+	on_parts(c, held, first, m);
+	struct found less = ask(c, held, used ? used - 1 : 0);
+	return want(is_same(first, &less), "with a byte of room too little"), 1;
+}
+
+/* ---- classes with loops */
+
+/* The verdict on loops: 0, 1 or 2, and why. Where no method declares any it is the other verdict. */
+static int32_t verdict_on_loops(const struct call *c, int32_t result, const struct sillarnica_refusal *plain, struct sillarnica_refusal *why) {
+	struct sillarnica_verified held;
+	int declares = 0;
+	memset(why, 0xa5, sizeof *why), memset(&held, 0xa5, sizeof held);
+	int32_t said = open_class(c, SILLARNICA_BUDGET_LIMIT, why, &held);
+	want(held.is_open == (said == 0), "whether a handle of a class with loops is open");
+	close_class(&held);
+	for (unsigned i = 0; i < class.count; i++) declares |= class.methods[i].budget != 0;
+	if (result == 1 || !declares) want(said == result && !memcmp(why, plain, sizeof *why), "a verdict on loops where there are none");
+	else if (said) want(said == 2, "the number of a verdict on loops"), test_rule(why, 1);
+	else want(is_filled(why, 0xa5, sizeof *why) && !plain_rules(&class, 1).number, "loops are accepted that a plain rule refuses");
+	return said;
+}
+
+/* With memory refused: at opening, and in a call. */
+static void loops_with_refused_memory(const struct call *c, uint32_t budget, const struct found *first, long number) {
+	struct sillarnica_verified held;
+	struct sillarnica_refusal why;
+	long had = granted;
+	int32_t opened = open_class(c, budget, &why, &held);
+	close_class(&held);
+	refuse(number, had), opened = open_class(c, budget, &why, &held), growths = -1;
+	want((opened == 0 || opened == -12) && held.is_open == (opened == 0), "a handle with loops where memory is refused");
+	if (opened) want(open_class(c, budget, &why, &held) == 0, "a handle with loops after memory was refused");
+	had = granted;
+	struct found f = ask(c, &held, first->room);
+	refuse(number, had), f = ask(c, &held, first->room), growths = -1;
+	want(f.result == -12 || is_same(first, &f), "a loop's answer where memory is refused");
+	f = ask(c, &held, first->room);
+	want(is_same(first, &f), "a loop's answer after memory was refused");
+	close_class(&held);
+}
+
+/* By a host's greatest budget: how it is opened, and what it answers then. `result` and `plain` are the other verdict's. */
+static void by_loops(const struct call *c, int32_t result, const struct sillarnica_refusal *plain, const struct method *m, const uint8_t *choices,
+	struct slice chosen, size_t room) {
+	static const uint32_t none[] = { SILLARNICA_BUDGET_LIMIT + 1, UINT32_MAX }, some[] = { 20000, 20000, 20000, SILLARNICA_BUDGET_LIMIT, 1000, 1 };
+	struct sillarnica_verified held, second;
+	struct sillarnica_refusal why, other;
+	struct found first, f;
+	uint32_t budget = some[choices[6] / LAYOUTS % 6];
+	memset(&other, 0xa5, sizeof other), memset(&held, 0xa5, sizeof held), memset(&second, 0xa5, sizeof second);
+	want(open_class(c, none[choices[6] % 2], &other, &held) == -22 && held.is_open == 0, "a budget that no host may give");
+	want(INSIDE(sillarnica_loops_open(c->image.at, c->image.len, 0, &other, &held)) == -22 && held.is_open == 0, "a budget of 0");
+	want(is_filled(&other, 0xa5, sizeof other), "a reason that isn't told");
+	int32_t opens = verdict_on_loops(c, result, plain, &why);
+	test_explain(c, opens, &why, choices[3], 1);
+	for (unsigned i = 0; !opens && i < class.count; i++)
+		if (class.methods[i].budget > budget) opens = -27, why.kind = 3, why.number = class.methods[i].budget, why.method = i, why.slot = -1;
+	want(open_class(c, budget, &other, &held) == opens && held.is_open == (opens == 0), "a class is opened for a host's budget");
+	want(!memcmp(&other, &why, sizeof why), "why a class isn't opened for a host's budget");
+	if (opens) return;
+	int32_t wants = wanted(c, 0, m, m ? m->budget : 0, choices[6]);
+	if (settle(c, &held, wants, m, room, &first)) {
+		want(wants || !m->budget || first.said.steps <= m->budget, "more steps than the budget");
+		f = ask(c, &held, first.room), want(is_same(&first, &f), "the same call of a loop again");
+		want(INSIDE(sillarnica_verified_copy(&held, &second)) == 0 && second.is_open == 1, "a copy of a handle with loops");
+		for (size_t n = 0; test_method_at(c, &held, n, 0); n++) {}
+		close_class(&held);
+		f = ask(c, &second, first.room), want(is_same(&first, &f), "a copy's answer of a loop");
+		want(INSIDE(sillarnica_verified_needs(&second, c->method.at, c->method.len)) == (m ? needs_of(m) : -95), "what a method with loops needs");
+		on_parts_by_rounds(c, budget, &first, m, chosen, room);
+		loops_with_refused_memory(c, budget, &first, (long)number_at(choices + 4, 2));
+	}
+	close_class(&held), close_class(&second);
 }
 
 int LLVMFuzzerInitialize(int *count, char ***words);
@@ -451,32 +559,20 @@ int LLVMFuzzerTestOneInput(const uint8_t *at, size_t len) {
 
 	int32_t result = verdict(&c, &why);
 	const struct method *m = method_named(&class, c.method);
-	test_explain(&c, result, &why, choices[3]);
+	test_explain(&c, result, &why, choices[3], 0);
 	test_method(&c, result, m);
-	int32_t wants = wanted(&c, result, m, choices[6]);
-	struct found first = ask(&c, NULL, room);
-	if (wants == 0) {
-		size_t used = first.said.output_len + first.said.edits_len;
-		want(first.result == (used > room ? -34 : 0), "an answer by its room");
-		if (used >= PLACE / 2) return 0; /* a list of many long writes */
-		if (first.result) first = ask(&c, NULL, used);
-		want(first.result == 0 && first.said.output_len + first.said.edits_len == used, "the call again, with more room");
-		memcpy(ends[KEPT] - used, ends[OUT] - first.room, used);
-		test_answer(&first, m, ends[KEPT] - used);
-		on_parts(&c, &first, m);
-		struct found less = ask(&c, NULL, used ? used - 1 : 0);
-		want(is_same(&first, &less), "with a byte of room too little");
-	} else {
-		want(first.result == wants, "the number of a refused call");
-		if (wants > 0) want(!memcmp(&first.why, &why, sizeof why), "a call's refusal");
-	}
+	int32_t wants = wanted(&c, result, m, 0, choices[6]);
+	struct found first;
+	if (!settle(&c, NULL, wants, m, room, &first)) return 0;
+	if (wants > 0) want(!memcmp(&first.why, &why, sizeof why), "a call's refusal");
 	struct found again = ask(&c, NULL, first.room);
 	want(is_same(&first, &again), "the same call again");
 	by_handle(&c, &first, result, &why, room);
 	struct slice chosen = { NULL, 0 };
 	if (cut.fields[CHOICES].len > 7) chosen.at = cut.fields[CHOICES].at + 7, chosen.len = cut.fields[CHOICES].len - 7;
-	if (result == 0) on_parts_by_rounds(&c, &first, m, chosen, room);
+	if (result == 0) on_parts_by_rounds(&c, 0, &first, m, chosen, room);
 	with_refused_memory(&c, &first, result, m, (long)number_at(choices + 4, 2));
+	by_loops(&c, result, &why, m, choices, chosen, room);
 	want(held_memory == 0, "the library kept memory");
 	return 0;
 }

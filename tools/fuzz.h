@@ -1,11 +1,11 @@
 /* Of the files of the fuzzer: fuzz.c makes calls, fuzz_change.c changes them, fuzz_model.c, fuzz_machine.c and fuzz_parts.c say what
- * the pages say of them, in plain C after docs/IMAGE.md, docs/MACHINE.md, docs/ASSEMBLY.md and the header, with nothing of the
- * library's. Of the verifier they have rules 1 to 4 alone. */
+ * the pages say of them, in plain C after docs/IMAGE.md, docs/MACHINE.md, docs/ASSEMBLY.md, docs/LOOPS.md and the header, with
+ * nothing of the library's. Of the verifier they have rules 1 to 4 alone. */
 #include <stddef.h>
 #include <stdint.h>
 
 enum { METHODS = 32, DATA = 65536, XATTRS = 32, KEYS = 1024, NAME = 64, VALUE = 4096, CAPACITY = 65535, STACK = 512, LAYOUTS = 12, LISTED = 1 << 22,
-	INTERVALS = 1025 };
+	INTERVALS = 1025, SLOTS = 4096, BUDGET = 1048576, HELPER = 64 };
 
 struct slice { const uint8_t *at; size_t len; };
 
@@ -15,14 +15,28 @@ enum { IMAGE, METHOD, OBJECT, CALLER, INPUT, CHOICES, FIELDS };
 struct cut_input { struct slice fields[FIELDS]; };
 struct cut_input cut_input(struct slice from);
 
-/* In rule set 3 its loops have so many bytes behind its code. */
-struct method { struct slice name; unsigned flags, in_cap, out_cap, slots; const uint8_t *code; size_t loops; };
+/* In rule set 3 what it declares of its loops has so many bytes behind its code: a budget, 0 if it declares none, and heads. */
+struct method {
+	struct slice name;
+	unsigned flags, in_cap, out_cap, slots, budget;
+	const uint8_t *code;
+	size_t loops;
+	uint8_t is_head[SLOTS];
+};
 struct class_of { unsigned rules, count; struct method methods[METHODS]; };
 struct entry { struct slice name, value; };
 struct part { size_t count; struct entry at[KEYS]; };
 struct object { int is_there; size_t len; uint8_t data[DATA]; struct part parts[2]; }; /* xattrs, keys */
-/* its edits as they are written, if they are not too many for the model */
-struct outcome { int64_t code; uint64_t steps; size_t len; uint8_t output[CAPACITY]; int is_listed; struct slice edits; };
+/* its edits as they are written, if they are not too many for the model; how many helpers it called, and names it removed */
+struct outcome {
+	int64_t code;
+	uint64_t steps;
+	size_t len;
+	uint8_t output[CAPACITY];
+	int is_listed;
+	struct slice edits;
+	unsigned calls, removals;
+};
 /* a refusal as the library tells it; number 0 is none */
 struct where { uint32_t number; uint64_t method; int64_t slot; };
 
@@ -41,8 +55,10 @@ const struct method *method_named(const struct class_of *c, struct slice name);
 unsigned instructions(const struct method *m);
 /* The parts that its code needs, by the helpers in it. */
 int needs_of(const struct method *m);
-/* The first of a class that one of the rules 1 to 4 refuses. */
-struct where plain_rules(const struct class_of *c);
+/* The first of a class that one of the rules 1 to 4 refuses; by the verdict on loops a jump back to a head is none of these. */
+struct where plain_rules(const struct class_of *c, int by_loops);
+/* Whether a slot is a jump back to a head. */
+int goes_to_head(const struct method *m, int64_t at);
 int is_wide(const uint8_t *slot);
 int is_arithmetic(unsigned opcode);
 int is_comparison(unsigned opcode);
@@ -65,8 +81,9 @@ void clear_object(struct object *o, int is_there);
 /* Makes edits: whether they are edits, and each can be made. Names and values lie in them. */
 int make_edits(struct object *o, struct slice edits);
 
-/* Runs a method on an object, in one of so many layouts. NULL; or why the run is stuck, so that the method isn't safe. */
-const char *run_method(const struct method *m, struct object *o, uint32_t caller, struct slice input, unsigned layout,
+/* Runs a method on an object, in one of so many layouts, by a budget if that isn't 0. NULL; or why the run is stuck, so that the
+ * method isn't safe. */
+const char *run_method(const struct method *m, struct object *o, uint32_t caller, struct slice input, unsigned budget, unsigned layout,
 	struct outcome *to);
 
 /* Whether bytes are a part; which has all xattrs if `counted` has 1, and all keys if it has 2. */

@@ -85,7 +85,9 @@ for name in "${names[@]}"; do
     jobs=("${jobs[@]:1}")
     [ "$status" = 0 ] || { cat "$work/$name.log"; echo "DIFFERS $name isn't built"; exit 1; }
 done
-python3 "$top/tools/embed.py" seeds 60 1 "$work/seeds/library" "$top"/examples/embed/parts.img "$top"/examples/*.img "$top"/ceph/classes/*.img &&
+mkdir "$work/looped" && python3 "$top/tools/embed_loops.py" images "$radoscls" "$work/looped" &&
+    python3 "$top/tools/embed.py" seeds 60 1 "$work/seeds/library" "$top"/examples/embed/parts.img "$top"/examples/*.img "$top"/ceph/classes/*.img \
+        "$work"/looped/*.img &&
     { [ "${#names[@]}" = 1 ] || python3 "$top/ceph/tests/fuzz_seeds.py" "$work/images" "$work/seeds/plugin"; } || exit 1
 for name in "${names[@]}"; do
     run "$name" "$([ "$name" = library ] && echo 20000 || echo 4096)" &

@@ -19,7 +19,7 @@ static unsigned chance(unsigned n) {
 
 /* ---- code */
 
-struct code { uint8_t at[8 * 96]; unsigned slots; };
+struct code { uint8_t at[8 * 192]; unsigned slots; };
 
 static void add(struct code *c, unsigned opcode, unsigned dst, unsigned src, int offset, int32_t imm) {
 	uint8_t *p = c->at + 8 * c->slots++;
@@ -188,9 +188,47 @@ static void change_loops(const struct method *m) {
 	lengths[IMAGE] = lengths[IMAGE] - m->loops + len;
 }
 
+/* Some code that is made again and again, as often as a number in the first slot of the stack says. Where it goes back to. */
+static unsigned add_loop(struct code *c) {
+	add(c, 0x7a, 10, 0, -512, 0);
+	unsigned head = c->slots;
+	for (unsigned left = 1 + chance(3); left && c->slots < 64; left--) add_some(c);
+	/* (a comparison may go on up to three slots further) */
+	for (unsigned i = 0; i < 3; i++) add(c, 0xb7, 5, 0, 0, 0);
+	add(c, 0x79, 5, 10, -512, 0), add(c, 0x07, 5, 0, 0, 1), add(c, 0x7b, 10, 5, -512, 0);
+	if (chance(8)) add(c, 0xa5, 5, 0, (int)head - (int)c->slots - 1, (int32_t)(1 + chance(chance(4) ? 5 : 300)));
+	else add(c, 0x05, 0, 0, (int)head - (int)c->slots - 1, 0), add(c, 0xb7, 0, 0, 0, 0);
+	return head;
+}
+
+/* A class of one method with a loop or two, at whose heads all is declared that they may change. */
+static void new_loops(void) {
+	static const unsigned budgets[] = { 64, 300, 1000, 5000, 20000 };
+	struct code c = { { 0 }, 0 };
+	unsigned heads[2], count = 1 + chance(2);
+	uint8_t *p = fields[IMAGE];
+	add_beginning(&c);
+	for (unsigned i = 0; i < count; i++) heads[i] = add_loop(&c);
+	if (chance(3)) add(&c, 0xb7, 1, 0, 0, (int32_t)chance(16)), add(&c, 0x85, 0, 0, 0, 13), add(&c, 0xbf, 0, 9, 0, 0);
+	if (chance(3)) add(&c, 0x57, 0, 0, 0, 0x7fffffff);
+	add(&c, 0x95, 0, 0, 0, 0);
+	memcpy(p, "RCL3\1\0\0\0\1f\3\x10\0\x10\0\0\0", 17), p[15] = (uint8_t)c.slots, p += 17;
+	memcpy(p, c.at, 8 * c.slots), p += 8 * c.slots;
+	put_number(&p, count, 2), put_number(&p, budgets[chance(5)], 4);
+	for (unsigned i = 0; i < count; i++) {
+		/* registers 0 and 9 and the stack are numbers, 1 to 5 may be unset */
+		put_number(&p, heads[i], 2), put_number(&p, 7 + 64, 1);
+		for (unsigned n = 0; n < 75; n++)
+			if (n <= 5 || n == 9 || n > 10) put_number(&p, n, 1), put_number(&p, n == 0 || n == 9 || n > 10, 1);
+	}
+	lengths[IMAGE] = (size_t)(p - fields[IMAGE]);
+	fields[METHOD][0] = 'f', lengths[METHOD] = 1;
+}
+
 static void new_image(void) {
 	struct code c;
 	uint8_t *p = fields[IMAGE];
+	if (!chance(3)) return new_loops();
 	make_code(&c);
 	memcpy(p, "RCL1\1\0\0\0\1f\3\x10\0\x10\0\0\0", 17);
 	p[3] = (uint8_t)('1' + chance(3)), p[15] = (uint8_t)c.slots;

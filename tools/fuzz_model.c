@@ -120,14 +120,14 @@ static uint32_t read_place(struct slice *rest, unsigned *least) {
 }
 
 /* Reads the loops behind a method's code. */
-static uint32_t read_loops(struct slice *rest, const struct method *m, int64_t *slot) {
-	unsigned heads = 0, budget = 0, at = 0, places = 0;
+static uint32_t read_loops(struct slice *rest, struct method *m, int64_t *slot) {
+	unsigned heads = 0, at = 0, places = 0;
 	uint32_t why = read_number(rest, 2, 0, 64, 10, &heads);
-	if (!why && heads) why = read_number(rest, 4, 1, 1048576, 10, &budget);
+	if (!why && heads) why = read_number(rest, 4, 1, BUDGET, 10, &m->budget);
 	for (unsigned least = 0; !why && heads; heads--) {
 		if ((why = read_number(rest, 2, least, 65535, 13, &at)) == 0 && !begins(m, at)) why = 13;
 		least = at + 1;
-		if (!why) why = read_number(rest, 1, 0, 255, 1, &places);
+		if (!why) m->is_head[at] = 1, why = read_number(rest, 1, 0, 255, 1, &places);
 		for (unsigned number = 0; !why && places; places--) why = read_place(rest, &number);
 		if (why == 13) *slot = at;
 	}
@@ -150,6 +150,7 @@ static uint32_t read_method(struct slice *rest, unsigned rules, const struct met
 		if ((why = slot_refusal(to->code + 8 * i, to->slots - i))) return why;
 	}
 	*slot = -1;
+	to->budget = 0, memset(to->is_head, 0, sizeof to->is_head);
 	size_t behind = rest->len;
 	why = rules == 3 ? read_loops(rest, to, slot) : 0;
 	to->loops = behind - rest->len;
@@ -208,10 +209,17 @@ int64_t target_of(const uint8_t *slot, int64_t at) {
 	return slot[0] == 0x05 || is_comparison(slot[0]) ? at + 1 + (int16_t)number_at(slot + 2, 2) : at;
 }
 
-static uint32_t plain_rule(const struct method *m, unsigned i) {
+int goes_to_head(const struct method *m, int64_t at) {
+	const uint8_t *slot = m->code + 8 * at;
+	int64_t to = target_of(slot, at);
+	return (slot[0] == 0x05 || slot[0] == 0x06 || is_comparison(slot[0])) && to >= 0 && to <= at && m->is_head[to];
+}
+
+static uint32_t plain_rule(const struct method *m, unsigned i, int by_loops) {
 	const uint8_t *slot = m->code + 8 * i;
 	int64_t to = target_of(slot, i);
-	if (to <= i && slot[0] != 0x85 && (slot[0] == 0x05 || slot[0] == 0x06 || is_comparison(slot[0]))) return 1;
+	if (to <= i && slot[0] != 0x85 && (slot[0] == 0x05 || slot[0] == 0x06 || is_comparison(slot[0])))
+		if (!by_loops || !goes_to_head(m, i)) return 1;
 	if (to >= m->slots) return 2;
 	/* a slot is a second half if it has no opcode */
 	if (!m->code[8 * to]) return 2;
@@ -219,12 +227,12 @@ static uint32_t plain_rule(const struct method *m, unsigned i) {
 	return slot[0] == 0x85 && slot[1] ? 4 : 0;
 }
 
-struct where plain_rules(const struct class_of *c) {
+struct where plain_rules(const struct class_of *c, int by_loops) {
 	struct where why = { 0, 0, 0 };
 	for (; why.method < c->count; why.method++) {
 		const struct method *m = &c->methods[why.method];
 		for (why.slot = 0; why.slot < m->slots; why.slot += is_wide(m->code + 8 * why.slot) ? 2 : 1)
-			if ((why.number = plain_rule(m, (unsigned)why.slot))) return why;
+			if ((why.number = plain_rule(m, (unsigned)why.slot, by_loops))) return why;
 	}
 	return why;
 }

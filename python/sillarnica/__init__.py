@@ -11,6 +11,9 @@ instructions than it has. A call is a function of its arguments. Its reply has t
 refuses, and then nothing changes; its output; the edits, one for each thing that the method did to the object, in order, also
 where it changed nothing; and the object after them.
 
+A class whose methods may loop is opened with a budget, the greatest that the caller gives: `Class.open("sum.img", budget=BUDGET)`.
+A call that would take more than its method's own has the code -62, and changes nothing.
+
 An object of any size stays where the caller keeps it: `Class.call_on` asks a `Store` for what the method touches.
 
 The shared library is the one of the environment's variable SILLARNICA_LIBRARY, or the system's `libsillarnica.so.2`.
@@ -25,8 +28,8 @@ import threading
 from typing import Dict, Iterator, List, Mapping, NamedTuple, Optional, Protocol, Tuple, Union
 
 __version__ = "0.5.0.dev0"
-__all__ = ["Class", "Done", "Edit", "Full", "InputTooLong", "Limits", "Malformed", "Method", "NoMethod", "Object", "Refused", "Reply",
-           "Store", "edited"]
+__all__ = ["BUDGET", "BUDGET_LIMIT", "Class", "Done", "Edit", "Full", "InputTooLong", "Limits", "Malformed", "Method", "NoMethod",
+           "Object", "Refused", "Reply", "Store", "edited"]
 
 # The number of what the library declares: it rises when a call or a format changes.
 CALLS = 2
@@ -34,13 +37,16 @@ DATA, XATTRS, KEYS = 1, 2, 4
 # Of a part of an object: the bytes of a block, and how many a call can have.
 BLOCK, BLOCKS = 4096, 1024
 ANY_NUMBER = 2**32 - 1
+# What a call of a method with loops may take: usually, and at most.
+BUDGET, BUDGET_LIMIT = 131072, 1048576
 
 
 class Refused(Exception):
-    """The image spells no class, or a rule refuses the class: the text says which and where, as `radoscls verify` does.
+    """The image spells no class, or a rule refuses the class: the text says which and where, as `radoscls verify` does. Or a
+    method declares a greater budget than the caller gives.
 
-    `kind` is 1 for the image and 2 for a rule, `number` that of the refusal or of the rule; `method` counts from 0, and `slot`
-    is -1 where none is named.
+    `kind` is 1 for the image, 2 for a rule and 3 for a budget, `number` that of the refusal or of the rule, or the method's
+    budget; `method` counts from 0, and `slot` is -1 where none is named.
     """
 
     def __init__(self, text: str, kind: int, number: int, method: int, slot: int) -> None:
@@ -178,7 +184,7 @@ class _Want(ctypes.Structure):
 def _load() -> ctypes.CDLL:
     calls = ctypes.CDLL(os.environ.get("SILLARNICA_LIBRARY", f"libsillarnica.so.{CALLS}"))
     calls.sillarnica_version.restype = ctypes.c_uint32
-    calls.sillarnica_explain.restype = ctypes.c_int64
+    calls.sillarnica_explain.restype = calls.sillarnica_loops_explain.restype = ctypes.c_int64
     found = calls.sillarnica_version()
     if found != CALLS:
         raise ImportError(f"the library's calls have the number {found}, not {CALLS}")
@@ -338,22 +344,31 @@ class _Part:
 class Class:
     """A verified class. Several threads may use it at once: each call has a handle of its own, all of one class."""
 
-    def __init__(self, image: bytes) -> None:
-        """Verifies the class of an image. Raises `Refused`, or MemoryError."""
+    def __init__(self, image: bytes, budget: Optional[int] = None) -> None:
+        """Verifies the class of an image. With a budget its methods may have loops, and declare no greater budget. Raises `Refused`,
+        or MemoryError; ValueError if the budget isn't 1 to `BUDGET_LIMIT`."""
+        if budget is not None and not 1 <= budget <= BUDGET_LIMIT:
+            raise ValueError(f"{budget}: a budget is 1 to {BUDGET_LIMIT}")
         self._verified, refusal = _Verified(), _Refusal()
         self._lock = threading.Lock()
         self._free: List[_Verified] = []
-        result = _calls.sillarnica_verified_open(*_slices(image), ctypes.byref(refusal), ctypes.byref(self._verified))
-        if result in (1, 2):
-            raise Refused(_explained(image), refusal.kind, refusal.number, refusal.method, refusal.slot)
+        opened = [ctypes.byref(refusal), ctypes.byref(self._verified)]
+        if budget is None:
+            result = _calls.sillarnica_verified_open(*_slices(image), *opened)
+        else:
+            result = _calls.sillarnica_loops_open(*_slices(image), ctypes.c_uint32(budget), *opened)
+        if result in (1, 2, -27):
+            text = f"method {refusal.method} declares the budget {refusal.number}, greater than {budget}"
+            text = text if result == -27 else _explained(image, budget is not None)
+            raise Refused(text, refusal.kind, refusal.number, refusal.method, refusal.slot)
         if result:
             raise MemoryError("no memory for the class")
 
     @classmethod
-    def open(cls, path: Union[str, "os.PathLike[str]"]) -> "Class":
-        """Verifies the class of an image in a file."""
+    def open(cls, path: Union[str, "os.PathLike[str]"], budget: Optional[int] = None) -> "Class":
+        """Verifies the class of an image in a file, as the class's own call does."""
         with open(path, "rb") as file:
-            return cls(file.read())
+            return cls(file.read(), budget)
 
     @property
     def methods(self) -> List[Method]:
@@ -471,9 +486,10 @@ class Class:
             self.close()
 
 
-def _explained(image: bytes) -> str:
+def _explained(image: bytes, may_loop: bool) -> str:
     text = ctypes.create_string_buffer(256)
-    length = _calls.sillarnica_explain(*_slices(image), text, ctypes.c_size_t(256))
+    explain = _calls.sillarnica_loops_explain if may_loop else _calls.sillarnica_explain
+    length = explain(*_slices(image), text, ctypes.c_size_t(256))
     return text.raw[: max(0, length)].decode()
 
 

@@ -43,6 +43,12 @@ RefusesImage image (load.Image e) = image_of image ≡ Err e
 RefusesImage image (load.Verdict r) = RefusesClass image r
 RefusesImage image load.NoMemory = Unit {0}
 
+-- why its bytes are read as no class
+abbrev pub RefusesReading : List ℕ → ClassError → Type 0
+RefusesReading image (load.Image e) = image_of image ≡ Err e
+RefusesReading image (load.Verdict r) = ⊥
+RefusesReading image load.NoMemory = Unit {0}
+
 -- what a refusal of reading, or a verdict, is here: that memory was refused is said alone
 abbrev pub IsOfImage : ImageError → ClassError → Type 0
 IsOfImage e (load.Image f) = (f ≡ e) × (e.error ≢ decode.NoMemory)
@@ -80,13 +86,30 @@ abbrev pub IsOfFlat : FlatError → MethodError → Type 0
 IsOfFlat flat.Malformed e = e ≡ method.Malformed
 IsOfFlat flat.NoMemory e = e ≡ method.NoMemory
 
+-- no object is spelled, or the caller's number is beyond 32 bits
+abbrev pub SpellsNone : List ℕ → ℕ → Type 0
+SpellsNone object caller = ((plain : PlainObject) → Spells object plain → ⊥) ⊎ (2 ^ 32 ≤ caller)
+
 -- The method of that name takes the input, and no object is spelled, or the caller's number is
 -- beyond 32 bits.
 pub record IsMalformed (class : List ClassMethod) (name object : List ℕ) (caller : ℕ) (input : List ℕ) : Type 0 where
   pub method : ClassMethod
   pub named : method_named class name ≡ Some method
   pub short : length input ≤ method.in_cap
-  pub none : ((plain : PlainObject) → Spells object plain → ⊥) ⊎ (2 ^ 32 ≤ caller)
+  pub none : SpellsNone object caller
+
+-- what a call of a method of that in_cap begins with: the object that is spelled
+pub record BeginsCall (in_cap : ℕ) (object : List ℕ) (caller : ℕ) (input : List ℕ) (plain : PlainObject) : Type 0 where
+  pub short : length input ≤ in_cap
+  pub client : caller < 2 ^ 32
+  pub spelled : Spells object plain
+
+-- why it doesn't begin: the first that applies
+abbrev pub RefusesToBegin : ℕ → List ℕ → ℕ → List ℕ → MethodError → Type 0
+RefusesToBegin in_cap object caller input method.NoMethod = ⊥
+RefusesToBegin in_cap object caller input method.InputTooLong = in_cap < length input
+RefusesToBegin in_cap object caller input method.Malformed = (length input ≤ in_cap) × SpellsNone object caller
+RefusesToBegin in_cap object caller input method.NoMemory = Unit {0}
 
 -- why a class gives no answer: the first that applies
 abbrev pub RefusesMethod : List ClassMethod → List ℕ → List ℕ → ℕ → List ℕ → MethodError → Type 0

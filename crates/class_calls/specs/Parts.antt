@@ -3,6 +3,8 @@ use Rattle.std.specs.Prelude.{◌≡◌, ◌⊎◌, ◌↔◌, ℕ, ◌^◌, ◌
 use Rattle.bpf_decode.specs.Class.{ClassMethod}
 use Rattle.object_store.specs.declared.limits.Limits.{Limits}
 use Rattle.object_store.specs.Object.{PlainObject}
+use Rattle.helpers.specs.declared.helper.Helper.{Helper}
+use Rattle.helpers.specs.Effect.{Given}
 use Rattle.object_store.specs.Limits.{IsLimits, IsAnyObject}
 use Rattle.part_bytes.specs.Part.{Block, Content, Names, PlainPart, Spells, IsHeld}
 use Rattle.part_bytes.specs.declared.need.Need.{Need}
@@ -10,11 +12,13 @@ use Rattle.part_bytes.specs.declared.need.Need.TheVariants.{Blocks, Xattr, Key, 
 use Rattle.part_data.specs.Known.{blocks_of}
 use Rattle.parts.specs.Known.{KnownObject, Stands}
 use Rattle.parts.specs.Agreed.{AgreesPart, KnowsPart, HasAllNames}
+use Rattle.parts.specs.Grows.{Grows}
 use Rattle.parts.specs.declared.stop.Stop.{Stop}
 use Rattle.parts.specs.declared.stop.Stop.TheVariants as stop
 use Rattle.verifier.specs.Verified.{IsVerified}
 use Rattle.interp.specs.Plain.{InputPasses, method_named}
 use Rattle.part_calls.specs.Parts.{AnswersOn, AreCounted, MayBe, NeedsNoMore, StopsPart}
+use Rattle.part_calls.specs.Needed.{NeededBy}
 use Rattle.part_calls.specs.declared.answer.PartAnswer.{PartAnswer}
 use Rattle.class_calls.specs.declared.part_call.PartCallError.{PartCallError}
 use Rattle.class_calls.specs.declared.part_call.PartCallError.TheVariants as call
@@ -91,6 +95,12 @@ pub record IsAnsweredByPart (class : List ClassMethod) (name part : List ℕ) (c
 
 -- ---- why nothing is answered
 
+-- the caller's number is beyond 32 bits, or no host may give the limits, or no part is spelled that has the names
+-- which they have a number of
+abbrev pub SpellsNoPart : List ℕ → ℕ → Limits → Type 0
+SpellsNoPart part caller limits =
+    (2 ^ 32 ≤ caller) ⊎ ((MayLimit limits → ⊥) ⊎ ((p : PlainPart) → SpellsCounted limits part p → ⊥))
+
 -- The method of that name takes the input, and the caller's number is beyond 32 bits, or no host may give the limits,
 -- or no part is spelled that has the names which they have a number of.
 pub record IsMalformedPart (class : List ClassMethod) (name part : List ℕ) (caller : ℕ) (limits : Limits)
@@ -98,8 +108,7 @@ pub record IsMalformedPart (class : List ClassMethod) (name part : List ℕ) (ca
   pub method : ClassMethod
   pub named : method_named class name ≡ Some method
   pub short : length input ≤ method.in_cap
-  pub none : (2 ^ 32 ≤ caller) ⊎
-      ((MayLimit limits → ⊥) ⊎ ((p : PlainPart) → SpellsCounted limits part p → ⊥))
+  pub none : SpellsNoPart part caller limits
 
 -- The call is well formed, and what the part says isn't enough: the run on each object that agrees stops for this. What
 -- is needed isn't in the part.
@@ -153,3 +162,29 @@ RefusesBytes l bytes call.Malformed = (p : PlainPart) → SpellsCounted l bytes 
 RefusesBytes l bytes call.NoMemory = Unit {0}
 RefusesBytes l bytes call.Full = ⊥
 RefusesBytes l bytes (call.Needs need) = ⊥
+
+-- What a call on a part begins with, of a method of that in_cap.
+pub record BeginsPart (in_cap : ℕ) (part : List ℕ) (caller : ℕ) (limits : Limits) (input : List ℕ)
+    (known : KnownObject) : Type 0 where
+  pub short : length input ≤ in_cap
+  pub client : caller < 2 ^ 32
+  pub limited : MayLimit limits
+  pub staged : IsStagedOf limits part known
+
+-- why it doesn't begin: the first that applies
+abbrev pub RefusesToBeginPart : ℕ → List ℕ → ℕ → Limits → List ℕ → PartCallError → Type 0
+RefusesToBeginPart in_cap part caller limits input call.NoMethod = ⊥
+RefusesToBeginPart in_cap part caller limits input call.InputTooLong = in_cap < length input
+RefusesToBeginPart in_cap part caller limits input call.Malformed =
+    (length input ≤ in_cap) × SpellsNoPart part caller limits
+RefusesToBeginPart in_cap part caller limits input call.NoMemory = Unit {0}
+RefusesToBeginPart in_cap part caller limits input call.Full = ⊥
+RefusesToBeginPart in_cap part caller limits input (call.Needs need) = ⊥
+
+-- ---- what is needed
+
+-- What a run that began with what a part says needs of the object, as it knows more and more, isn't in the part.
+abbrev pub NeedsAreLacking : Type 0
+NeedsAreLacking =
+    (p : PlainPart) (first last : KnownObject) → KnowsPart p first → Grows first last →
+    (helper : Helper) (given : Given) (need : Need) → NeededBy helper last given need → IsNotIn p need

@@ -1,13 +1,16 @@
 //! A call on bytes.
 
-ghost use Rattle.std.specs.Prelude.{◌≡◌, IfOk, IfErr};
-ghost use Rattle.class_calls.specs.Answers.{IsAnsweredBy, IsOfFlat, RefusesMethod, Says};
+ghost use Rattle.std.specs.Prelude.{◌≡◌, IfOk, IfErr, List, Some};
+ghost use Rattle.bpf_decode.specs.Class.{ClassMethod};
+ghost use Rattle.verifier.specs.Verified.{method_named};
+ghost use Rattle.class_calls.specs.Answers.{BeginsCall, IsAnsweredBy, IsOfFlat, RefusesMethod, RefusesToBegin, Says};
 
 use crate::class::place_of;
 use interp::{Listed, Outcome, Room};
 use object_bytes::{FlatError, read_object};
+use object_store::Object;
 use std::alloc::Global;
-use verifier::VerifiedClass;
+use verifier::{VerifiedClass, VerifiedMethod};
 
 /// What is asked of a class: a method on an object, for a client.
 #[derive(Clone, Copy)]
@@ -51,7 +54,7 @@ pub struct Answer {
 
 /// The answer of a run with its list.
 #[inline(always)]
-fn said(listed: Listed) -> Answer
+fn listed_answer(listed: Listed) -> Answer
     ensures { Says listed result }
 {
     let Listed { outcome, edits } = listed;
@@ -79,6 +82,61 @@ fn of_flat(error: FlatError) -> MethodError
     }
 }
 
+/// Checks what a call of a method of that in_cap is given, and reads its object, which may be absent.
+pub fn begin_call(
+    alloc: Global,
+    in_cap: u16,
+    request: ClassCall,
+) -> Result<Option<Object>, MethodError>
+    ensures begun { IfOk result
+        (BeginsCall in_cap request.entry.object.now request.entry.caller request.entry.input.now) }
+    ensures refused { IfErr result
+        (RefusesToBegin in_cap request.entry.object.now request.entry.caller request.entry.input.now) }
+{
+    if request.input.len() > usize::from(in_cap) {
+        return Err(MethodError::InputTooLong);
+    }
+    if request.caller >= 0x1_0000_0000 {
+        return Err(MethodError::Malformed);
+    }
+    match read_object(alloc, request.object) {
+        Ok(object) => Ok(object),
+        Err(error) => Err(of_flat(error)),
+    }
+}
+
+/// Calls a verified method on an object in its flat form, in a room that calls share one after the
+/// other. The name in the request isn't looked at.
+pub fn call_method_on(
+    alloc: Global,
+    room: &mut Room,
+    method: &VerifiedMethod,
+    request: ClassCall,
+) -> Result<Answer, MethodError>
+    ensures ok { (class : List ClassMethod) → method_named class request.entry.method.now ≡ Some method.now →
+        IfOk result (IsAnsweredBy class request.entry.method.now request.entry.object.now request.entry.caller
+        request.entry.input.now) }
+    ensures refused { (class : List ClassMethod) → method_named class request.entry.method.now ≡ Some method.now →
+        IfErr result (RefusesMethod class request.entry.method.now request.entry.object.now request.entry.caller
+        request.entry.input.now) }
+{
+    let object = match begin_call(alloc, method.caps().in_cap, request) {
+        Ok(object) => object,
+        Err(error) => return Err(error),
+    };
+    // For the proof: the method is verified.
+    method.ops();
+    match room.call_method_listed(
+        method,
+        object.as_ref(),
+        request.caller as u32,
+        request.input,
+    ) {
+        Ok(listed) => Ok(listed_answer(listed)),
+        Err(_) => Err(MethodError::NoMemory),
+    }
+}
+
 /// Calls a method of a verified class on an object in its flat form, in a room that calls share one
 /// after the other.
 pub fn call_on(
@@ -94,30 +152,9 @@ pub fn call_on(
         (RefusesMethod class.now request.entry.method.now request.entry.object.now request.entry.caller
         request.entry.input.now) }
 {
-    let ClassCall {
-        method,
-        object,
-        caller,
-        input,
-    } = request;
-    let Some(place) = place_of(class, method) else {
+    let Some(place) = place_of(class, request.method) else {
         return Err(MethodError::NoMethod);
     };
     let found = &class.methods()[place];
-    if input.len() > usize::from(found.caps().in_cap) {
-        return Err(MethodError::InputTooLong);
-    }
-    if caller >= 0x1_0000_0000 {
-        return Err(MethodError::Malformed);
-    }
-    let object = match read_object(alloc, object) {
-        Ok(object) => object,
-        Err(error) => return Err(of_flat(error)),
-    };
-    // For the proof: the method is verified.
-    found.ops();
-    match room.call_method_listed(found, object.as_ref(), caller as u32, input) {
-        Ok(listed) => Ok(said(listed)),
-        Err(_) => Err(MethodError::NoMemory),
-    }
+    call_method_on(alloc, room, found, request)
 }

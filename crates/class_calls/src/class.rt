@@ -3,7 +3,7 @@
 ghost use Rattle.std.specs.Prelude.{◌≡◌, IfOk, IfErr, IfSome, None};
 ghost use Rattle.bpf_decode.specs.Class.{IsImage};
 ghost use Rattle.verifier.specs.Verified.{method_named};
-ghost use Rattle.class_calls.specs.Answers.{IsLoaded, RefusesImage, IsOfImage, IsOfVerdict};
+ghost use Rattle.class_calls.specs.Answers.{IsLoaded, RefusesImage, RefusesReading, IsOfImage, IsOfVerdict};
 ghost use Rattle.class_calls.specs.Handle.{IsPlace};
 
 use bpf_decode::{ClassImage, DecodeError, ImageError, read_image};
@@ -33,7 +33,7 @@ fn of_image(error: ImageError) -> ClassError
 }
 
 /// The refusal of a class for a verdict. Want of memory is its own: it says nothing of the class.
-fn of_verdict(refusal: Refusal) -> ClassError
+pub fn verdict_refusal(refusal: Refusal) -> ClassError
     ensures { IsOfVerdict refusal result }
 {
     match refusal.rule {
@@ -44,9 +44,9 @@ fn of_verdict(refusal: Refusal) -> ClassError
 }
 
 /// The class that an image spells.
-pub(crate) fn read(alloc: Global, image: &[u8]) -> Result<ClassImage, ClassError>
+pub fn read_class(alloc: Global, image: &[u8]) -> Result<ClassImage, ClassError>
     ensures found { IfOk result (λ class. IsImage image.now class) }
-    ensures refused { IfErr result (RefusesImage image.now) }
+    ensures refused { IfErr result (RefusesReading image.now) }
 {
     match read_image(alloc, image) {
         Ok(class) => Ok(class),
@@ -67,7 +67,7 @@ pub(crate) fn judged(
 {
     match verify(alloc, class) {
         Ok(verified) => Ok(verified),
-        Err(refusal) => Err(of_verdict(refusal)),
+        Err(refusal) => Err(verdict_refusal(refusal)),
     }
 }
 
@@ -76,7 +76,7 @@ pub fn load(alloc: Global, image: &[u8]) -> Result<VerifiedClass, ClassError>
     ensures found { IfOk result (IsLoaded image.now) }
     ensures refused { IfErr result (RefusesImage image.now) }
 {
-    let class = read(alloc, image)?;
+    let class = read_class(alloc, image)?;
     judged(alloc, image, &class)
 }
 

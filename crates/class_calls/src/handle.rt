@@ -8,7 +8,7 @@ ghost use Rattle.class_calls.specs.Handle.{IsPlace, declared_of, told, told_of};
 ghost use Rattle.class_calls.specs.Parts.{IsAnsweredByPart, RefusesPart};
 
 use crate::answer::{Answer, ClassCall, MethodError, call_on};
-use crate::class::{ClassError, judged, place_of, read};
+use crate::class::{ClassError, judged, place_of, read_class};
 use crate::part_call::{PartCall, PartCallError, call_part};
 use bpf_decode::ClassImage;
 use footprint::{Parts, needed};
@@ -60,8 +60,8 @@ impl Model for Held {
     ghost invariant = { λ h. h.declared.items ≡ map declared_of h.class };
 }
 
-/// What the methods of a class declare.
-fn declared_by(alloc: Global, class: &ClassImage) -> Result<Vec<Declared>, AllocError>
+/// What the methods of a class declare, by number.
+pub fn declared_by(alloc: Global, class: &ClassImage) -> Result<Vec<Declared>, AllocError>
     ensures { IfOk result (λ found. found.items ≡ map declared_of class.now.methods) }
 {
     let mut found = Vec::new(alloc);
@@ -113,7 +113,7 @@ impl ClassHandle {
         ensures found { IfOk result (IsLoaded image.now) }
         ensures refused { IfErr result (RefusesImage image.now) }
     {
-        let class = read(alloc, image)?;
+        let class = read_class(alloc, image)?;
         let verified = judged(alloc, image, &class)?;
         let Ok(declared) = declared_by(alloc, &class) else {
             return Err(ClassError::NoMemory);

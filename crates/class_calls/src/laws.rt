@@ -12,6 +12,7 @@ ghost use Rattle.class_calls.specs.Over.{ListsStand, MadeIsEdited};
 ghost use Rattle.class_calls.specs.OnParts.{AllIsEnough, IsNeededOnce, MoreOfPartIsEnough};
 ghost use Rattle.class_calls.specs.OnParts.{MoreOfPartStopsNoEarlier};
 ghost use Rattle.class_calls.specs.OnParts.{PartsAreAnsweredAlike, PartsAreAnsweredAsWhole};
+ghost use Rattle.class_calls.specs.Parts.{NeedsAreLacking};
 
 /// An image has one class, or but for want of memory one reason to have none.
 pub fn one_class()
@@ -99,3 +100,8 @@ pub fn more_of_a_part_is_enough()
     part_bytes::one_part();
     part_calls::more_is_enough();
 }
+
+/// What a run on a part needs of its object isn't in the part.
+pub fn needs_are_lacking()
+    ensures { NeedsAreLacking }
+{}

@@ -10,11 +10,13 @@ mod handle;
 mod laws;
 mod part_call;
 
-pub use answer::{Answer, ClassCall, MethodError, call_on};
-pub use class::{ClassError, load, place_of};
-pub use handle::{ClassHandle, Declared};
+pub use answer::{Answer, ClassCall, MethodError, begin_call, call_method_on, call_on};
+pub use class::{ClassError, load, place_of, read_class, verdict_refusal};
+pub use handle::{ClassHandle, Declared, declared_by};
 pub use laws::{
-    lists_stand_over_others, more_of_a_part_is_enough, one_answer, one_class,
+    lists_stand_over_others, more_of_a_part_is_enough, needs_are_lacking, one_answer, one_class,
     parts_have_one_answer, parts_may_be_left_out,
 };
-pub use part_call::{PartCall, PartCallError, call_part};
+pub use part_call::{
+    PartCall, PartCallError, begin_part, call_method_part, call_part, stop_refusal,
+};

@@ -1,18 +1,20 @@
 //! A call on a part of an object.
 
-ghost use Rattle.std.specs.Prelude.{◌≡◌, ◌↔◌, IfOk, IfErr, IsTrue, IfSome};
+ghost use Rattle.std.specs.Prelude.{◌≡◌, ◌↔◌, IfOk, IfErr, IsTrue, IfSome, List, Some};
+ghost use Rattle.bpf_decode.specs.Class.{ClassMethod};
+ghost use Rattle.verifier.specs.Verified.{method_named};
 ghost use Rattle.std.specs.Option.{option_copied};
 ghost use Rattle.part_bytes.specs.View.{names_view, part_view};
 ghost use Rattle.part_bytes.specs.Part.{Everything};
-ghost use Rattle.class_calls.specs.Parts.{HasCounted, IsAnsweredByPart, IsStagedOf, MayLimit, RefusesBytes};
-ghost use Rattle.class_calls.specs.Parts.{RefusesPart, of_stop};
+ghost use Rattle.class_calls.specs.Parts.{BeginsPart, HasCounted, IsAnsweredByPart, IsStagedOf, MayLimit};
+ghost use Rattle.class_calls.specs.Parts.{RefusesBytes, RefusesPart, RefusesToBeginPart, of_stop};
 
 use crate::class::place_of;
 use object_store::{Limits, NAME_LIMIT, NameLimits};
 use part_bytes::{Names, Need, ObjectPart, PartError, read_part};
 use part_calls::{PartAnswer, PartRoom, StagedPart, Stop};
 use std::alloc::Global;
-use verifier::VerifiedClass;
+use verifier::{VerifiedClass, VerifiedMethod};
 
 /// What is asked of a class: a method on a part of an object, for a client.
 #[derive(Clone, Copy)]
@@ -104,13 +106,73 @@ fn staged(alloc: Global, limits: Limits, bytes: &[u8]) -> Result<StagedPart, Par
 }
 
 /// The refusal of a call for a stop of its run.
-fn of_stop(stop: Stop) -> PartCallError
+pub fn stop_refusal(stop: Stop) -> PartCallError
     ensures { result ≡ of_stop stop }
 {
     match stop {
         Stop::NoMemory => PartCallError::NoMemory,
         Stop::Full => PartCallError::Full,
         Stop::Needs(need) => PartCallError::Needs(need),
+    }
+}
+
+/// Checks what a call of a method of that in_cap is given, and reads its part.
+pub fn begin_part(
+    alloc: Global,
+    in_cap: u16,
+    request: PartCall,
+) -> Result<StagedPart, PartCallError>
+    ensures begun { IfOk result
+        (BeginsPart in_cap request.entry.part.now request.entry.caller request.entry.limits request.entry.input.now) }
+    ensures refused { IfErr result
+        (RefusesToBeginPart in_cap request.entry.part.now request.entry.caller request.entry.limits
+        request.entry.input.now) }
+{
+    if request.input.len() > usize::from(in_cap) {
+        return Err(PartCallError::InputTooLong);
+    }
+    if request.caller >= 0x1_0000_0000 {
+        return Err(PartCallError::Malformed);
+    }
+    if !may_limit(request.limits) {
+        return Err(PartCallError::Malformed);
+    }
+    match staged(alloc, request.limits, request.part) {
+        Ok(known) => Ok(known),
+        Err(error) => Err(error),
+    }
+}
+
+/// Calls a verified method on a part of an object, as `call_part` does. The name in the request isn't
+/// looked at.
+pub fn call_method_part(
+    alloc: Global,
+    room: &mut PartRoom,
+    method: &VerifiedMethod,
+    request: PartCall,
+) -> Result<PartAnswer, PartCallError>
+    ensures ok { (class : List ClassMethod) → method_named class request.entry.method.now ≡ Some method.now →
+        IfOk result (IsAnsweredByPart class request.entry.method.now request.entry.part.now request.entry.caller
+        request.entry.limits request.entry.input.now) }
+    ensures refused { (class : List ClassMethod) → method_named class request.entry.method.now ≡ Some method.now →
+        IfErr result (RefusesPart class request.entry.method.now request.entry.part.now request.entry.caller
+        request.entry.limits request.entry.input.now) }
+{
+    let known = match begin_part(alloc, method.caps().in_cap, request) {
+        Ok(known) => known,
+        Err(error) => return Err(error),
+    };
+    // For the proof: the method is verified.
+    method.ops();
+    match room.call_method(
+        method,
+        request.limits,
+        known,
+        request.caller as u32,
+        request.input,
+    ) {
+        Ok(answer) => Ok(answer),
+        Err(stop) => Err(stop_refusal(stop)),
     }
 }
 
@@ -130,34 +192,9 @@ pub fn call_part(
         (RefusesPart class.now request.entry.method.now request.entry.part.now request.entry.caller
         request.entry.limits request.entry.input.now) }
 {
-    let PartCall {
-        method,
-        part,
-        caller,
-        limits,
-        input,
-    } = request;
-    let Some(place) = place_of(class, method) else {
+    let Some(place) = place_of(class, request.method) else {
         return Err(PartCallError::NoMethod);
     };
     let found = &class.methods()[place];
-    if input.len() > usize::from(found.caps().in_cap) {
-        return Err(PartCallError::InputTooLong);
-    }
-    if caller >= 0x1_0000_0000 {
-        return Err(PartCallError::Malformed);
-    }
-    if !may_limit(limits) {
-        return Err(PartCallError::Malformed);
-    }
-    let known = match staged(alloc, limits, part) {
-        Ok(known) => known,
-        Err(error) => return Err(error),
-    };
-    // For the proof: the method is verified.
-    found.ops();
-    match room.call_method(found, limits, known, caller as u32, input) {
-        Ok(answer) => Ok(answer),
-        Err(stop) => Err(of_stop(stop)),
-    }
+    call_method_part(alloc, room, found, request)
 }

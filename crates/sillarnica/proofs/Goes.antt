@@ -22,10 +22,10 @@ use denote.Triple.Carry.{grown, spared}
 use denote.Triple.Clauses.{Ended, lasts}
 use denote.Triple.Spec.{Back, triple_of}
 use denote.Triple.Table.{run_framed, widened}
-use Rattle.class_calls.specs.contracts.handle.ClassHandle as Class
-use Rattle.class_calls.specs.contracts.handle.ClassHandle.drop as its_drop
-use Rattle.class_calls.proofs.handle.ClassHandle.drop.Met.{met}
-use Rattle.class_calls.proofs.handle.ClassHandle.drop.Symbol.{code, as_method, symbol, name}
+use Rattle.class_loops.specs.contracts.held.HeldClass as Class
+use Rattle.class_loops.specs.contracts.held.HeldClass.drop as its_drop
+use Rattle.class_loops.proofs.held.HeldClass.drop.Met.{met}
+use Rattle.class_loops.proofs.held.HeldClass.drop.Symbol.{code, as_method, symbol, name}
 
 abbrev pub drops : Dict
 drops = impl (symbol ∷ []) tnil dnil

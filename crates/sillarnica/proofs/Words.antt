@@ -39,8 +39,8 @@ use Rattle.std_heap.specs.contracts.Global as Heap
 use Rattle.std_heap.specs.contracts.GlobalAllocator.TheImpl.{ghosts}
 use Rattle.std_heap.proofs.Global.TheLaws as heap
 use Rattle.std_heap.proofs.Handle.{heap_val, heap_Tells}
-use Rattle.class_calls.specs.contracts.handle.ClassHandle as Class
-use Rattle.class_calls.proofs.handle.ClassHandle.TheLaws as class
+use Rattle.class_loops.specs.contracts.held.HeldClass as Class
+use Rattle.class_loops.proofs.held.HeldClass.TheLaws as class
 use Rattle.sillarnica.specs.Held.{IsHeld}
 use Rattle.sillarnica.specs.contracts.pointer.ClassPointer as Pointer
 use Rattle.sillarnica.proofs.pointer.ClassPointer.TheLaws as pointer

@@ -1,14 +1,14 @@
 -- What C is told of a call on a part of an object.
 use Rattle.std.specs.Prelude.{◌≡◌, ◌⊎◌, ℕ, ℤ, negsuc, List, Option, Some, None, Result, Ok, Err, ◌==◌}
 use Rattle.std.specs.Prelude.{if◌then◌else◌, length, min}
-use Rattle.bpf_decode.specs.Class.{ClassMethod}
 use Rattle.object_store.specs.Edits.{overlaid}
 use Rattle.object_store.specs.declared.limits.Limits.{Limits}
 use Rattle.object_store.specs.declared.limits.NameLimits.{NameLimits}
 use Rattle.part_bytes.specs.Need.{need_bytes}
 use Rattle.part_bytes.specs.declared.need.Need.{Need}
 use Rattle.part_calls.specs.declared.answer.PartAnswer.{PartAnswer}
-use Rattle.class_calls.specs.Parts.{IsAnsweredByPart, RefusesPart}
+use Rattle.class_loops.specs.Held.{IsAnsweredByHeldPart, RefusesHeldPart}
+use Rattle.class_loops.specs.declared.held.HeldClass.{HeldClass}
 use Rattle.class_calls.specs.declared.answer.Answer.{Answer}
 use Rattle.class_calls.specs.declared.part_call.PartCallError.{PartCallError}
 use Rattle.class_calls.specs.declared.part_call.PartCallError.TheVariants as call
@@ -77,33 +77,32 @@ TellsPartFound (Err e) old new result =
 -- ---- a call of a class
 
 -- the class answers on the part, and the buffer begins with what it has to say if it has room
-pub record IsCalledOnPart (class : List ClassMethod) (name part : List ℕ) (caller : ℕ) (limits : Limits)
+pub record IsCalledOnPart (held : HeldClass) (name part : List ℕ) (caller : ℕ) (limits : Limits)
     (input : List ℕ) (old new : PartMemory) (result : ℤ) : Type 0 where
   pub answer : PartAnswer
-  pub answered : IsAnsweredByPart class name part caller limits input answer
+  pub answered : IsAnsweredByHeldPart held name part caller limits input answer
   pub told : TellsAnswer (answer_of answer) new.answer
   pub out : Tells (answer_of answer) old.out new.out result
   pub want : new.want ≡ old.want
 
 -- why the class gives no answer on the part; answer and buffer stay
-pub record TellsNoPartAnswer (class : List ClassMethod) (name part : List ℕ) (caller : ℕ) (limits : Limits)
+pub record TellsNoPartAnswer (held : HeldClass) (name part : List ℕ) (caller : ℕ) (limits : Limits)
     (input : List ℕ) (old new : PartMemory) (result : ℤ) : Type 0 where
   pub error : PartCallError
-  pub refused : RefusesPart class name part caller limits input error
+  pub refused : RefusesHeldPart held name part caller limits input error
   pub told : TellsPartRefusal error old.want new.want result
   pub answer : new.answer ≡ old.answer
   pub out : new.out ≡ old.out
 
 -- one of both
-abbrev pub TellsPartCall : List ClassMethod → List ℕ → List ℕ → ℕ → Limits → List ℕ → PartMemory → PartMemory → ℤ →
-    Type 0
-TellsPartCall class name part caller limits input old new result =
-    IsCalledOnPart class name part caller limits input old new result
-    ⊎ TellsNoPartAnswer class name part caller limits input old new result
+abbrev pub TellsPartCall : HeldClass → List ℕ → List ℕ → ℕ → Limits → List ℕ → PartMemory → PartMemory → ℤ → Type 0
+TellsPartCall held name part caller limits input old new result =
+    IsCalledOnPart held name part caller limits input old new result
+    ⊎ TellsNoPartAnswer held name part caller limits input old new result
 
 -- as the class answers; -9 if the handle is closed, and nothing is written
-abbrev pub TellsHeldPartCall : Option (List ClassMethod) → List ℕ → List ℕ → ℕ → Limits → List ℕ → PartMemory →
-    PartMemory → ℤ → Type 0
+abbrev pub TellsHeldPartCall : Option HeldClass → List ℕ → List ℕ → ℕ → Limits → List ℕ → PartMemory → PartMemory →
+    ℤ → Type 0
 TellsHeldPartCall None name part caller limits input old new result = (result ≡ negsuc 8) × (new ≡ old)
-TellsHeldPartCall (Some class) name part caller limits input old new result =
-    TellsPartCall class name part caller limits input old new result
+TellsHeldPartCall (Some held) name part caller limits input old new result =
+    TellsPartCall held name part caller limits input old new result

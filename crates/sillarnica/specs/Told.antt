@@ -15,6 +15,12 @@ use Rattle.class_calls.specs.Needs.{AreEnough}
 use Rattle.class_calls.specs.declared.answer.Answer.{Answer}
 use Rattle.class_calls.specs.declared.answer.MethodError.{MethodError}
 use Rattle.class_calls.specs.declared.answer.MethodError.TheVariants as method
+use Rattle.class_loops.specs.Opened.{IsAcceptedByLoops, IsLoadedByLoops, IsTooLarge, RefusesClassByLoops}
+use Rattle.class_loops.specs.Held.{IsAnsweredByHeld, methods_of}
+use Rattle.class_loops.specs.declared.class.OverBudget.{OverBudget}
+use Rattle.class_loops.specs.declared.held.HeldClass.{HeldClass}
+use Rattle.class_loops.specs.declared.held.HeldClass.TheVariants.{Plain, Looped}
+use Rattle.loop_heads.specs.declared.limits.TheConstants.{BUDGET_LIMIT}
 use Rattle.footprint.specs.Parts as footprint
 use Rattle.footprint.specs.Needed.{needed}
 use Rattle.sillarnica.specs.declared.told.ToldRefusal.{ToldRefusal}
@@ -262,29 +268,39 @@ TellsCall image name object caller input why told old new result =
 -- ---- a class that a handle holds, if it is open
 
 -- 0: it holds the image's class. Else it is closed, and the answer says why
-abbrev pub TellsOpen : List ℕ → ToldRefusal → ToldRefusal → Option (List ClassMethod) → ℤ → Type 0
+abbrev pub TellsOpen : List ℕ → ToldRefusal → ToldRefusal → Option HeldClass → ℤ → Type 0
 TellsOpen image old new None result = TellsClass image old new result
-TellsOpen image old new (Some class) result = (result ≡ pos 0) × IsLoaded image class × (new ≡ old)
+TellsOpen image old new (Some (Plain class)) result = (result ≡ pos 0) × IsLoaded image class × (new ≡ old)
+TellsOpen image old new (Some (Looped class)) result = ⊥
 
--- as the class answers; -9 if the handle is closed, and nothing is written
-abbrev pub TellsHeldCall : Option (List ClassMethod) → List ℕ → List ℕ → ℕ → List ℕ → Memory → Memory → ℤ → Type 0
+-- the class answers by the verdict that it was opened by, and the buffer begins with what it has to say if it has room
+pub record IsHeldCalled (held : HeldClass) (name object : List ℕ) (caller : ℕ) (input : List ℕ) (old new : Memory)
+    (result : ℤ) : Type 0 where
+  pub answer : Answer
+  pub answered : IsAnsweredByHeld held name object caller input answer
+  pub told : TellsAnswer answer new.answer
+  pub out : Tells answer old.out new.out result
+
+-- 0, -34, or why there is no answer, and then nothing is written; -9 if the handle is closed
+abbrev pub TellsHeldCall : Option HeldClass → List ℕ → List ℕ → ℕ → List ℕ → Memory → Memory → ℤ → Type 0
 TellsHeldCall None name object caller input old new result = (result ≡ negsuc 8) × (new ≡ old)
-TellsHeldCall (Some class) name object caller input old new result =
-    TellsClassCall class name object caller input old new result
+TellsHeldCall (Some held) name object caller input old new result =
+    IsHeldCalled held name object caller input old new result
+    ⊎ (TellsNoAnswer (methods_of held) name object caller input result × (new ≡ old))
 
 -- another handle of the class: 0 and it holds the same; -9 if the handle is closed, or -12, and the
 -- other is closed
-abbrev pub TellsCopy : Option (List ClassMethod) → Option (List ClassMethod) → ℤ → Type 0
+abbrev pub TellsCopy : Option HeldClass → Option HeldClass → ℤ → Type 0
 TellsCopy None other result = (result ≡ negsuc 8) × (other ≡ None)
-TellsCopy (Some class) other result =
-    ((result ≡ pos 0) × (other ≡ Some class)) ⊎ ((result ≡ negsuc 11) × (other ≡ None))
+TellsCopy (Some held) other result =
+    ((result ≡ pos 0) × (other ≡ Some held)) ⊎ ((result ≡ negsuc 11) × (other ≡ None))
 
 -- a method by its number, as of its class; -9 if the handle is closed, and nothing is written
-abbrev pub TellsHeldMethod : Option (List ClassMethod) → ℕ → NamedMethod → NamedMethod → ℤ → Type 0
+abbrev pub TellsHeldMethod : Option HeldClass → ℕ → NamedMethod → NamedMethod → ℤ → Type 0
 TellsHeldMethod None n old new result = (result ≡ negsuc 8) × (new ≡ old)
-TellsHeldMethod (Some class) n old new result = TellsMethodOf class n old new result
+TellsHeldMethod (Some held) n old new result = TellsMethodOf (methods_of held) n old new result
 
--- the parts that a method of the class needs are enough
+-- the parts that a method of the class needs are enough, as far as it declares no loops
 pub record HeldNeeds (class : List ClassMethod) (name : List ℕ) (result : ℤ) : Type 0 where
   pub method : ClassMethod
   pub named : method_named class name ≡ Some method
@@ -292,7 +308,73 @@ pub record HeldNeeds (class : List ClassMethod) (name : List ℕ) (result : ℤ)
   pub enough : AreEnough class name (needed method.instructions)
 
 -- or -95 without such a method; -9 if the handle is closed
-abbrev pub TellsHeldNeeds : Option (List ClassMethod) → List ℕ → ℤ → Type 0
+abbrev pub TellsHeldNeeds : Option HeldClass → List ℕ → ℤ → Type 0
 TellsHeldNeeds None name result = result ≡ negsuc 8
-TellsHeldNeeds (Some class) name result =
-    HeldNeeds class name result ⊎ ((result ≡ negsuc 94) × (method_named class name ≡ None))
+TellsHeldNeeds (Some held) name result =
+    HeldNeeds (methods_of held) name result
+    ⊎ ((result ≡ negsuc 94) × (method_named (methods_of held) name ≡ None))
+
+-- ---- the verdict on loops
+
+-- a rule refuses the class, and the reason says which and where
+pub record TellsLoopsVerdict (image : List ℕ) (why : ToldRefusal) : Type 0 where
+  pub refusal : Refusal
+  pub refused : RefusesClassByLoops image refusal
+  pub kind : why.kind ≡ 2
+  pub number : why.number ≡ rule_number refusal.rule
+  pub method : why.method ≡ refusal.method
+  pub slot : why.slot ≡ slot_number (Some refusal.slot)
+
+-- a method declares a greater budget than the host's, and the reason says which and what it declares
+pub record TellsTooLarge (image : List ℕ) (most : ℕ) (why : ToldRefusal) : Type 0 where
+  pub over : OverBudget
+  pub refused : IsTooLarge image most over
+  pub kind : why.kind ≡ 3
+  pub number : why.number ≡ over.budget
+  pub method : why.method ≡ over.method
+  pub slot : why.slot ≡ negsuc 0
+
+-- why the verdict on loops gives no class: 1 the image, 2 the verdict, -12 memory
+abbrev pub TellsLoopsClass : List ℕ → ToldRefusal → ToldRefusal → ℤ → Type 0
+TellsLoopsClass image old new result =
+    ((result ≡ pos 1) × TellsImage image new)
+    ⊎ (((result ≡ pos 2) × TellsLoopsVerdict image new)
+    ⊎ ((result ≡ negsuc 11) × (new ≡ old)))
+
+-- or -27: a method declares a greater budget
+abbrev pub TellsLoopsRefusal : List ℕ → ℕ → ToldRefusal → ToldRefusal → ℤ → Type 0
+TellsLoopsRefusal image most old new result =
+    TellsLoopsClass image old new result ⊎ ((result ≡ negsuc 26) × TellsTooLarge image most new)
+
+-- a host's greatest budget
+pub record IsBudget (most : ℕ) : Type 0 where
+  pub some : 1 ≤ most
+  pub bounded : most ≤ BUDGET_LIMIT
+
+-- 0: the handle holds the image's class. Else it is closed, and the answer says why: -22 if no host may give the budget
+abbrev pub TellsLoopsOpen : List ℕ → ℕ → ToldRefusal → ToldRefusal → Option HeldClass → ℤ → Type 0
+TellsLoopsOpen image most old new None result =
+    ((result ≡ negsuc 21) × (IsBudget most → ⊥) × (new ≡ old))
+    ⊎ (IsBudget most × TellsLoopsRefusal image most old new result)
+TellsLoopsOpen image most old new (Some (Plain class)) result = ⊥
+TellsLoopsOpen image most old new (Some (Looped class)) result =
+    (result ≡ pos 0) × IsBudget most × IsLoadedByLoops image most class × (new ≡ old)
+
+-- the line says which rule refuses the class by the verdict on loops
+pub record ExplainsLoopsVerdict (image old new : List ℕ) (result : ℤ) : Type 0 where
+  pub refusal : Refusal
+  pub refused : RefusesClassByLoops image refusal
+  pub written : Writes (refusal_text refusal) old new result
+
+-- that, or why the image is refused; or -12 and nothing, if memory was refused
+abbrev pub ExplainsLoopsClass : List ℕ → List ℕ → List ℕ → ℤ → Type 0
+ExplainsLoopsClass image old new result =
+    ExplainsImage image old new result
+    ⊎ (ExplainsLoopsVerdict image old new result
+    ⊎ ((result ≡ negsuc 11) × (new ≡ old)))
+
+-- 0 and nothing for an accepted class, else its line
+abbrev pub TellsLoopsExplain : List ℕ → List ℕ → List ℕ → ℤ → Type 0
+TellsLoopsExplain image old new result =
+    ((result ≡ pos 0) × ((class : List ClassMethod) × IsAcceptedByLoops image class) × (new ≡ old))
+    ⊎ ExplainsLoopsClass image old new result

@@ -20,11 +20,11 @@ pub use pointer::ClassPointer;
 pub use told::{ToldAnswer, ToldMethod, ToldRefusal};
 pub use told_part::{GivenLimits, ToldWant};
 pub use verified::{
-    Verified, sillarnica_verified_call, sillarnica_verified_call_part, sillarnica_verified_close,
-    sillarnica_verified_copy, sillarnica_verified_method_at, sillarnica_verified_needs,
-    sillarnica_verified_open,
+    Verified, sillarnica_loops_open, sillarnica_verified_call, sillarnica_verified_call_part,
+    sillarnica_verified_close, sillarnica_verified_copy, sillarnica_verified_method_at,
+    sillarnica_verified_needs, sillarnica_verified_open,
 };
-pub use verify::{sillarnica_explain, sillarnica_verify};
+pub use verify::{sillarnica_explain, sillarnica_loops_explain, sillarnica_verify};
 
 /// The version of these calls, of the flat form, of the edits and of the structs: 2.
 #[unsafe(no_mangle)]

@@ -4,12 +4,14 @@ ghost use Rattle.std.specs.Prelude.{◌≡◌, ◌⊎◌, negsuc, None};
 ghost use Rattle.bpf_decode.specs.Class.{ClassMethod};
 ghost use Rattle.verifier.specs.Verified.{method_named};
 ghost use Rattle.class_calls.specs.Handle.{declared_of};
+ghost use Rattle.class_loops.specs.Held.{methods_of};
 ghost use Rattle.sillarnica.specs.Told.{TellsMethod, TellsMethodAt, TellsNeeds, TellsOf, given, HeldNeeds};
 
 use crate::told::{IMAGE, NO_MEMORY, NO_METHOD, ToldMethod};
 use crate::verify::write_front;
 use bpf_decode::{ClassImage, DecodeError, Method, read_image};
-use class_calls::{ClassHandle, Declared, parts_may_be_left_out};
+use class_calls::{Declared, parts_may_be_left_out};
+use class_loops::HeldClass;
 use footprint::needed;
 use std::alloc::Global;
 
@@ -134,8 +136,9 @@ pub extern "C" fn sillarnica_method_at(
 
 /// The parts of an object that a method of a class needs: 1 data, 2 xattrs, 4 keys, added. Refused:
 /// no such method, -95.
-pub(crate) fn needs_of(class: &ClassHandle, name: &[u8]) -> i32
-    ensures { HeldNeeds class.now name.now result ⊎ ((result ≡ negsuc 94) × (method_named class.now name.now ≡ None)) }
+pub(crate) fn needs_of(class: &HeldClass, name: &[u8]) -> i32
+    ensures { HeldNeeds (methods_of class.now) name.now result ⊎
+        ((result ≡ negsuc 94) × (method_named (methods_of class.now) name.now ≡ None)) }
 {
     // For the proof: without the other parts a call answers the same.
     parts_may_be_left_out();

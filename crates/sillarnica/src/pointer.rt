@@ -1,23 +1,22 @@
 //! A verified class behind a pointer that C keeps.
 
-ghost use Rattle.std.specs.Prelude.{◌≡◌, ℕ, List, Option, Some, None};
-ghost use Rattle.bpf_decode.specs.Class.{ClassMethod};
+ghost use Rattle.std.specs.Prelude.{◌≡◌, Option, Some, None};
 ghost use Rattle.sillarnica.specs.Held.{IsHeld};
-ghost use Rattle.sillarnica.specs.inner.Owned.{pointer_owns, coded_class};
+ghost use Rattle.sillarnica.specs.inner.Owned.{Held, pointer_owns, coded_class};
 
-use class_calls::ClassHandle;
+use class_loops::HeldClass;
 use std::alloc::Global;
 use std::marker::Model;
 
 /// The pointer to a class on the heap, which it owns; or null.
 ///
-/// C sees a `void *`: a `ClassHandle` is no type of C's. A `Global` takes no bytes.
+/// C sees a `void *`: a `HeldClass` is no type of C's. A `Global` takes no bytes.
 #[repr(C)]
 #[derive(Drop)]
 pub struct ClassPointer {
     at: *mut u8,
     alloc: Global,
-    pub(crate) ghost class: { Option (List ClassMethod) } by { coded_class },
+    pub(crate) ghost class: { Option Held } by { coded_class },
 }
 
 impl Model for ClassPointer {
@@ -39,7 +38,7 @@ impl ClassPointer {
     }
 
     /// The pointer of a box, which is taken apart.
-    pub(crate) fn of(whole: Box<ClassHandle, Global>) -> ClassPointer
+    pub(crate) fn of(whole: Box<HeldClass, Global>) -> ClassPointer
         ensures { result.class ≡ Some whole.value }
     {
         let (ptr, alloc) = Box::into_raw_with_allocator(whole);
@@ -50,11 +49,11 @@ impl ClassPointer {
     }
 
     /// The box again, of the class that is held.
-    pub(crate) fn into_box(self) -> Box<ClassHandle, Global>
+    pub(crate) fn into_box(self) -> Box<HeldClass, Global>
         requires { IsHeld self.class }
         ensures { self.class ≡ Some result.value }
     {
         let ClassPointer { at, alloc } = self;
-        unsafe { Box::from_raw(alloc, at.cast::<ClassHandle>()) }
+        unsafe { Box::from_raw(alloc, at.cast::<HeldClass>()) }
     }
 }

@@ -2,15 +2,21 @@
 
 ghost use Rattle.std.specs.Prelude.{◌≡◌, ℕ, Some, None};
 ghost use Rattle.sillarnica.specs.Told.{TellsOpen, TellsCopy, TellsHeldCall, TellsHeldMethod, TellsHeldNeeds};
+ghost use Rattle.sillarnica.specs.Told.{TellsLoopsOpen};
 ghost use Rattle.sillarnica.specs.Held.{IsHeld, open_number};
 ghost use Rattle.sillarnica.specs.Parts.{TellsHeldPartCall, limits_of};
 
 use crate::call::tell;
 use crate::method::{needs_of, tell_method};
 use crate::pointer::ClassPointer;
-use crate::told::{CLOSED, NO_MEMORY, NO_METHOD, ToldAnswer, ToldMethod, ToldRefusal, tell_class};
+use crate::told::{
+    CLOSED, MALFORMED, NO_MEMORY, NO_METHOD, ToldAnswer, ToldMethod, ToldRefusal, tell_class,
+    tell_loops_refusal,
+};
 use crate::told_part::{GivenLimits, ToldWant, limits_of, tell_part};
 use class_calls::{ClassCall, ClassHandle, PartCall};
+use class_loops::{HeldClass, LoopHandle};
+use loop_heads::BUDGET_LIMIT;
 use std::alloc::Global;
 use std::mem::replace;
 
@@ -33,7 +39,7 @@ fn closed(alloc: Global) -> Verified
     }
 }
 
-fn opened(class: Box<ClassHandle, Global>) -> Verified
+fn opened(class: Box<HeldClass, Global>) -> Verified
     ensures { result.pointer.class ≡ Some class.value }
 {
     Verified {
@@ -43,7 +49,7 @@ fn opened(class: Box<ClassHandle, Global>) -> Verified
 }
 
 /// Takes the class out of an open one, and leaves it closed.
-fn take(alloc: Global, verified: &mut Verified) -> Box<ClassHandle, Global>
+fn take(alloc: Global, verified: &mut Verified) -> Box<HeldClass, Global>
     requires { IsHeld verified.old.pointer.class }
     ensures class { verified.old.pointer.class ≡ Some result.value }
     ensures closed { verified.new.pointer.class ≡ None }
@@ -69,13 +75,43 @@ pub extern "C" fn sillarnica_verified_open(
     *verified = closed(alloc);
     match ClassHandle::open(alloc, image) {
         Ok(class) => {
-            let Ok(boxed) = Box::new(alloc, class) else {
+            let Ok(boxed) = Box::new(alloc, HeldClass::Plain(class)) else {
                 return NO_MEMORY;
             };
             *verified = opened(boxed);
             0
         }
         Err(error) => tell_class(image, refusal, error),
+    }
+}
+
+/// Judges the image's class by the verdict on loops, for a host whose greatest budget is `budget`,
+/// and holds it in the handle until it is closed: 0; -22 if the budget isn't 1 to 1,048,576; 1 or 2
+/// with the reason; -27 with the first method that declares a greater budget; or -12. But for 0 the
+/// handle is closed then. What it held before isn't looked at.
+#[unsafe(no_mangle)]
+pub extern "C" fn sillarnica_loops_open(
+    alloc: Global,
+    image: &[u8],
+    budget: u32,
+    refusal: &mut ToldRefusal,
+    verified: &mut Verified,
+) -> i32
+    ensures { TellsLoopsOpen image.now budget refusal.old refusal.new verified.new.pointer.class result }
+{
+    *verified = closed(alloc);
+    if budget < 1 || budget > BUDGET_LIMIT {
+        return MALFORMED;
+    }
+    match LoopHandle::open(alloc, image, budget) {
+        Ok(class) => {
+            let Ok(boxed) = Box::new(alloc, HeldClass::Looped(class)) else {
+                return NO_MEMORY;
+            };
+            *verified = opened(boxed);
+            0
+        }
+        Err(error) => tell_loops_refusal(image, budget, refusal, error),
     }
 }
 

@@ -5,11 +5,14 @@ ghost use Rattle.object_store.specs.Edits.{overlaid};
 ghost use Rattle.bpf_decode.specs.Refusal.{image_text_of};
 ghost use Rattle.verifier.specs.RuleNumber.{refusal_text};
 ghost use Rattle.class_calls.specs.Answers.{RefusesImage};
+ghost use Rattle.class_loops.specs.Opened.{RefusesByLoops};
 ghost use Rattle.sillarnica.specs.Told.{TellsVerify, TellsExplain, ExplainsClass, Writes, WritesOrNot};
+ghost use Rattle.sillarnica.specs.Told.{ExplainsLoopsClass, TellsLoopsExplain};
 
 use crate::told::{NO_MEMORY, ToldRefusal, tell_class};
 use bpf_decode::ImageError;
 use class_calls::{ClassError, load};
+use class_loops::load_loops;
 use std::alloc::Global;
 use verifier::Refusal;
 
@@ -88,5 +91,29 @@ pub extern "C" fn sillarnica_explain(alloc: Global, image: &[u8], text: &mut [u8
     match load(alloc, image) {
         Ok(_class) => 0,
         Err(error) => explain_class(alloc, image, error, text),
+    }
+}
+
+/// The line of a refusal by the verdict on loops.
+fn explain_loops_class(alloc: Global, image: &[u8], error: ClassError, text: &mut [u8]) -> i64
+    requires { RefusesByLoops image.now error }
+    ensures { ExplainsLoopsClass image.now text.old text.new result }
+{
+    match error {
+        ClassError::Image(error) => explain_image(alloc, error, text),
+        ClassError::Verdict(refusal) => explain_verdict(alloc, refusal, text),
+        ClassError::NoMemory => i64::from(NO_MEMORY),
+    }
+}
+
+/// Writes the line that says why the image is refused, or the class by the verdict on loops, as many
+/// bytes of it as fit. Returns the length of the line; 0 if the class is accepted; or -12.
+#[unsafe(no_mangle)]
+pub extern "C" fn sillarnica_loops_explain(alloc: Global, image: &[u8], text: &mut [u8]) -> i64
+    ensures { TellsLoopsExplain image.now text.old text.new result }
+{
+    match load_loops(alloc, image) {
+        Ok(_class) => 0,
+        Err(error) => explain_loops_class(alloc, image, error, text),
     }
 }

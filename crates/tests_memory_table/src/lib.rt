@@ -9,6 +9,7 @@
 
 mod calls;
 mod ending;
+mod handles;
 mod images;
 mod lists;
 mod logs;

@@ -1,6 +1,7 @@
 //! The table of calls that can be refused memory.
 
 use crate::ending::Ending;
+use crate::handles::{class_held, held_called};
 use crate::lists::{acts, board, packed, queues, unpacked};
 use crate::logs::{Verb, logged};
 use crate::loops::{called_by_budget, class_verified, loops_read, loops_verified};
@@ -42,6 +43,8 @@ pub enum Row {
     VerifyByHeads,
     VerifyLoops,
     CallByBudget,
+    OpenLoops,
+    CallLoops,
     Log(Verb),
     PackLog,
     UnpackLog,
@@ -54,7 +57,7 @@ pub enum Row {
 
 /// Each row with its name.
 #[rattlefmt::skip]
-pub const ROWS: [(&str, Row); 54] = [
+pub const ROWS: [(&str, Row); 56] = [
     ("decode", Row::Decode),
     ("encode", Row::Encode),
     ("read_image", Row::ReadImage),
@@ -97,6 +100,8 @@ pub const ROWS: [(&str, Row); 54] = [
     ("verify_by_heads", Row::VerifyByHeads),
     ("verify_loops", Row::VerifyLoops),
     ("call_by_budget", Row::CallByBudget),
+    ("open_loops", Row::OpenLoops),
+    ("call_loops", Row::CallLoops),
     ("append", Row::Log(Verb::Append)),
     ("append_at", Row::Log(Verb::AppendAt)),
     ("adopt", Row::Log(Verb::Adopt)),
@@ -163,6 +168,8 @@ impl Row {
             Row::VerifyByHeads => loops_verified(alloc),
             Row::VerifyLoops => class_verified(alloc),
             Row::CallByBudget => called_by_budget(alloc),
+            Row::OpenLoops => class_held(alloc),
+            Row::CallLoops => held_called(alloc),
             Row::Log(verb) => logged(alloc, verb),
             Row::PackLog => packed(alloc),
             Row::UnpackLog => unpacked(alloc),

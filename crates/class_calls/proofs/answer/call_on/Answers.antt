@@ -1,28 +1,18 @@
-use Rattle.std.proofs.Common.{◌≡◌, ◌∙◌, List, ap, arith, subst, Some, get_or}
+use Rattle.std.proofs.Common.{◌≡◌, ◌∙◌, List, ap, Some, get_or}
 use Rattle.bpf_decode.specs.Class.{ClassMethod}
-use Rattle.interp.specs.Plain.{AnswersMethod, ListsMethod}
 use Rattle.class_calls.proofs.Place.{is_that}
 use Rattle.class_calls.proofs.answer.call_on.Goals as goal
 
-pub returns-in-Ok-call_method_listed-clause-ok : goal.returns-in-Ok-call_method_listed-clause-ok
-returns-in-Ok-call_method_listed-clause-ok c =
-    let run = c.in-Ok-call_method_listed in
+pub returns-clause-ok : goal.returns-clause-ok
+returns-clause-ok c =
     let m = c.index-methods-place.result in
     let place = c.in-Some.ensures.found in
     let at : m ≡ get_or c.args.class.now c.in-Some.place m = c.index-methods-place.is ∙ ap (λ (xs : List ClassMethod). get_or xs c.in-Some.place m) c.methods.ensures.methods in
-    let same : place.method ≡ m = is_that c.args.class.now c.in-Some.place place.method m place.at at in
-    record {
-      plain = c.in-Ok.object;
-      spelled = c.in-Ok.ensures.found;
-      listed = run.listed;
-      answers = record {
-        method = m;
-        named = place.named ∙ ap Some same;
-        short = run.ensures.short;
-        answers = subst (λ o. AnswersMethod m o c.args.request.caller c.args.request.input.now run.listed.outcome) c.as_ref.ensures.value run.ensures.ok;
-        lists = subst (λ o. ListsMethod m o c.args.request.caller c.args.request.input.now run.listed) c.as_ref.ensures.value run.ensures.list;
-      };
-      verified = c.ops.ensures.verified;
-      client = omega (arith, c.if-caller-ge4294967296.false);
-      says = c.said.ensures;
-    }
+    c.call_method_on.ensures.ok c.args.class.now (place.named ∙ ap Some (is_that c.args.class.now c.in-Some.place place.method m place.at at))
+
+pub returns-clause-refused : goal.returns-clause-refused
+returns-clause-refused c =
+    let m = c.index-methods-place.result in
+    let place = c.in-Some.ensures.found in
+    let at : m ≡ get_or c.args.class.now c.in-Some.place m = c.index-methods-place.is ∙ ap (λ (xs : List ClassMethod). get_or xs c.in-Some.place m) c.methods.ensures.methods in
+    c.call_method_on.ensures.refused c.args.class.now (place.named ∙ ap Some (is_that c.args.class.now c.in-Some.place place.method m place.at at))

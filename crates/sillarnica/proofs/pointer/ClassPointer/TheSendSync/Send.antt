@@ -11,8 +11,8 @@ use Rattle.sillarnica.specs.inner.Owned.{pointer_owns}
 use Rattle.std.proofs.Crossing as heap
 use Rattle.std_alloc.proofs.SendSync.{quiet, lies}
 use Rattle.std_heap.proofs.Global.TheSendSync as handle
-use Rattle.class_calls.specs.contracts.handle.ClassHandle as Class
-use Rattle.class_calls.proofs.handle.ClassHandle.TheSendSync.{the_send as class}
+use Rattle.class_loops.specs.contracts.held.HeldClass as Class
+use Rattle.class_loops.proofs.held.HeldClass.TheSendSync.{the_send as class}
 use Rattle.sillarnica.specs.contracts.pointer.ClassPointer.{the_row, the_type}
 
 -- what a pointer owns goes to another thread: nothing, or a class and the right to free its block

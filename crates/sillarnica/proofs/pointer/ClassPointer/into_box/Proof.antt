@@ -34,8 +34,8 @@ use Rattle.std_heap.specs.contracts.Global as Heap
 use Rattle.std_heap.specs.contracts.GlobalAllocator.TheImpl.{ghosts, dict}
 use Rattle.std_heap.proofs.Global.TheLaws as heap
 use Rattle.std_heap.proofs.GlobalAllocator.TheImpl.Met as allocator
-use Rattle.class_calls.specs.contracts.handle.ClassHandle as Class
-use Rattle.class_calls.proofs.handle.ClassHandle.TheLaws as class
+use Rattle.class_loops.specs.contracts.held.HeldClass as Class
+use Rattle.class_loops.proofs.held.HeldClass.TheLaws as class
 use Rattle.sillarnica.specs.Held.{IsHeld}
 use Rattle.sillarnica.specs.inner.Owned.{pointer_owns}
 use Rattle.sillarnica.specs.contracts.pointer.ClassPointer as Pointer

@@ -33,8 +33,8 @@ use Rattle.std_heap.specs.contracts.Global as Heap
 use Rattle.std_heap.specs.contracts.GlobalAllocator.TheImpl.{ghosts, dict}
 use Rattle.std_heap.proofs.Global.TheLaws as heap
 use Rattle.std_heap.proofs.GlobalAllocator.TheImpl.Met as allocator
-use Rattle.class_calls.specs.contracts.handle.ClassHandle as Class
-use Rattle.class_calls.proofs.handle.ClassHandle.TheLaws as class
+use Rattle.class_loops.specs.contracts.held.HeldClass as Class
+use Rattle.class_loops.proofs.held.HeldClass.TheLaws as class
 use Rattle.sillarnica.specs.contracts.pointer.ClassPointer as Pointer
 use Rattle.sillarnica.specs.contracts.pointer.ClassPointer.of as f
 use Rattle.sillarnica.proofs.Destruct++none.drop.Code.{code as gone}
@@ -56,7 +56,7 @@ of_spec {M} 𝓤 𝓛 𝓜 𝓡 wired =
     let allocates = allocator.passed γ (code.calls-std_heap::GlobalAllocator::allocate γ wired) (code.calls-std_heap::GlobalAllocator::deallocate γ wired) (code.calls-std_heap::GlobalAllocator::grow γ wired) (code.calls-std_heap::GlobalAllocator::shrink γ wired) M 𝓤 𝓛 𝓜 𝓡 in
     let handle_goes = glues "sillarnica::Destruct++none::drop" γ (code.calls-sillarnica::Destruct++none::drop γ wired) AHandle handle_laws M 𝓤 𝓛 𝓜 𝓡 in
     let met = comes_apart.met 𝓤 𝓛 𝓜 𝓡 (code.calls-std_alloc::boxed::Box::into_raw_with_allocator γ wired) AClass AHandle class_laws handle_laws ghosts dict lets_go drops
-    allocates handle_goes (goes 𝓤 𝓛 𝓜 𝓡 (code.calls-class_calls::handle::ClassHandle::drop γ wired)) in
+    allocates handle_goes (goes 𝓤 𝓛 𝓜 𝓡 (code.calls-class_loops::held::HeldClass::drop γ wired)) in
     let c = f.clauses 𝓛 𝓜.mem 𝓡.returns in
     proved 𝓛 f.ended stayed c 𝓜 𝓡 (Goes-dropped 𝓛 0 (plain (λ _. ClassBox)) yes (λ κs d w. refl), tt) f.Key.name code.function (code.unfolded 𝓤 H 𝓜 𝓡 wired)
     (λ κs. ((λ d. word d.ptr ∷ []), tt)) (λ κs. (box_is, tt)) (λ κs qs bounds a _ are.
