@@ -3,8 +3,10 @@
 # docs/CEPH.md; or one of a class.
 #
 #     ceph/package.sh OUT                     OUT/sillarnica-ceph_VERSION_ARCHITECTURE.deb
-#     ceph/package.sh OUT --class NAME.img    OUT/sillarnica-class-NAME_VERSION_ARCHITECTURE.deb, which
-#                                             installs the class NAME for the machine's OSDs
+#     ceph/package.sh OUT --class NAME.img [--budget N]
+#                                             OUT/sillarnica-class-NAME_VERSION_ARCHITECTURE.deb, which
+#                                             installs the class NAME for the machine's OSDs, as
+#                                             radosbpf install does with these words
 #
 # It builds the plug-in by ceph/build.sh, whose environment it hands on; for a class only if the
 # package of the plug-in isn't installed. The packages want a Ceph of the oldest release that the
@@ -19,9 +21,9 @@ usage() {
     sed -n 's/^#  *\(ceph\/\)/\1/p' "$0" >&2
     exit 2
 }
-case $#,${2-} in 1,* | 3,--class) ;; *) usage ;; esac
+case $#,${2-},${4-} in 1,*,* | 3,--class,* | 5,--class,--budget) ;; *) usage ;; esac
 mkdir -p "$1"
-out=$(cd "$1" && pwd) image=${3-}
+out=$(cd "$1" && pwd) image=${3-} budget=("${@:4}")
 architecture=$(dpkg --print-architecture)
 oldest=$(sed -n 's/^constexpr int RELEASES\[\] = {\([0-9]*\).*;$/\1/p' "$here/plugin/osd.h")
 version=$(sed 's/-dev$/~dev/' "$here/../VERSION")
@@ -80,7 +82,7 @@ package_class() {
         source=$out/build
     fi
     cp "$source"/{libcls_bpf,sillarnica_engine,sillarnica_calls}.so "$tree/$folder"
-    "$here/radosbpf" install "$image" --dir "$tree/$folder"
+    "$here/radosbpf" install "$image" --dir "$tree/$folder" "${budget[@]}"
     rm "$tree/$folder"/{libcls_bpf,sillarnica_engine,sillarnica_calls}.so
     pack "sillarnica-class-$(tr 'A-Z_' 'a-z-' <<< "$name")" "${CLASS_VERSION:-1}" "sillarnica-ceph" \
         "the verified class $name for the OSDs of a Ceph cluster

@@ -18,7 +18,7 @@ ports=(cmpomap hello lock numops refcount version)
 make_images() {
     mkdir "$1"
     for name in "${ports[@]}"; do
-        "$top/tools/radoscls-cc" "$top/examples/ceph/$name.c" -o "$1/$name.img" \
+        "$top/tools/radoscls-cc" "$top/examples/ceph/$name.c" -o "$1/$name.img" --loops \
             --radoscls "${RADOSCLS:-$top/crates/radoscls/out/radoscls}" > /dev/null
     done
 }

@@ -28,7 +28,7 @@ work=$(mktemp -d /tmp/sillarnica-ceph.XXXXXX)
 cluster=$work/cluster ported=$work/ported libraries=/usr/lib/$(uname -m)-linux-gnu
 folder=$libraries/rados-classes
 # Classes that are installed, and files in the folder that are none, besides `counter`, a package.
-natives=(helpers count lock.2 environment third) odd=(cut none bpf.old link)
+natives=(helpers count lock.2 environment loops older third) odd=(cut none bpf.old link greater damaged)
 # The tests take the cluster and the command from here, and nothing of the caller's settings.
 export CEPH_CONF=$cluster/ceph.conf RADOSBPF=/usr/bin/radosbpf PYTHONDONTWRITEBYTECODE=1
 unset CLASSES LISTED STORE EXTRA
@@ -47,7 +47,8 @@ other_release() {
     cp -r "$here" "$top/docs" "$top/include" "$top/examples" "$top/LICENSE" "$top/VERSION" "$to"
     RADOSCLS=$radoscls "$here/ports.sh" images "$to/ports" || exit 1
     cp "$SILLARNICA_ARCHIVE" "$SILLARNICA_LIBC" "$radoscls" "$to"
-    "$here/package.sh" "$to/packages" && "$here/package.sh" "$to/packages" --class "$here/classes/counter.img" || exit 1
+    "$here/package.sh" "$to/packages" || exit 1
+    "$here/package.sh" "$to/packages" --class "$here/classes/counter.img" --budget 5000 || exit 1
     trap 'umount "$root/dev" "$root/proc"; rm -rf "$to" "$work"' EXIT
     mount --bind /proc "$root/proc"
     mount --bind /dev "$root/dev"
@@ -69,7 +70,7 @@ esac
 uninstall() {
     local name
     for name in "${natives[@]}"; do radosbpf uninstall "$name" > /dev/null 2>&1; done
-    for name in "${odd[@]}" bpf; do rm -f "$folder/libcls_$name.so" "$folder/$name".{img,sent}; done
+    for name in "${odd[@]}" bpf; do rm -f "$folder/libcls_$name.so" "$folder/$name".{img,budget,sent}; done
     dpkg --purge sillarnica-class-counter sillarnica-ceph > /dev/null 2>&1
 }
 
@@ -164,6 +165,9 @@ make_images() {
     for name in helpers third environment; do
         "$radoscls" asm "$here/tests/$name.txt" "$work/images/$name.img" || stop_at "radoscls makes no images"
     done
+    # Apart from the others: the class `bpf` takes none of these.
+    mkdir "$work/loops"
+    "$radoscls" asm "$here/tests/loops.txt" "$work/loops/loops.img" || stop_at "radoscls makes no images"
     cp "$here/classes/lock.img" "$top/examples/count.img" "$work/images"
 }
 
@@ -176,8 +180,8 @@ try_build() {
         "1 ceph/build.sh: this is Ceph 17.2.0, and the plug-in is for 16, 18"
     {
         echo 'int missing(void); int sillarnica_version(void) { return missing(); }'
-        printf 'int sillarnica_%s(void) { return 0; }\n' verify explain needs verified_open verified_copy verified_method_at verified_needs \
-            verified_call_part verified_close
+        printf 'int sillarnica_%s(void) { return 0; }\n' verify explain needs loops_open loops_explain verified_open \
+            verified_copy verified_method_at verified_needs verified_call_part verified_close
     } > "$none/none.c"
     gcc -fPIC -c "$none/none.c" -o "$none/none.o" && ar rcs "$none/none.a" "$none/none.o"
     want "a name that the OSD doesn't export" "$(WITHIN=1800 SILLARNICA_ARCHIVE=$none/none.a said "$here/build.sh" "$none/out")" \
@@ -196,18 +200,19 @@ install_package() {
         /usr/share/bash-completion/completions/radosbpf /usr/share/doc/sillarnica-ceph/CEPH.md; do
         want "the package has $file" "$(dpkg -S "$file" 2>&1)" "sillarnica-ceph: $file"
     done
-    timeout 1800 "$here/package.sh" "$work/package" --class "$here/classes/counter.img" > "$work/log" 2>&1 ||
-        stop_at "there is no package of a class"
+    timeout 1800 "$here/package.sh" "$work/package" --class "$here/classes/counter.img" --budget 5000 \
+        > "$work/log" 2>&1 || stop_at "there is no package of a class"
     if [ -n "${PACKAGES-}" ]; then cp "$PACKAGES"/*.deb "$work/package"; fi
     dpkg -i "$work"/package/sillarnica-class-counter_1_*.deb > "$work/log" 2>&1 ||
         stop_at "a class's package can't be installed"
-    for file in "$folder"/{libcls_counter.so,counter.img}; do
+    for file in "$folder"/{libcls_counter.so,counter.img,counter.budget}; do
         want "a class's package has $file" "$(dpkg -S "$file" 2>&1)" "sillarnica-class-counter: $file"
     done
     want "the man page" "$(man --warnings -P cat radosbpf 2>&1 | head -n 1 | tr -s ' ')" \
         "RADOSBPF(1) User Commands RADOSBPF(1)"
     want "the completion" "$(completed radosbpf -p bpf -N tenant lo)" "load"
     want "the completion of an option" "$(completed radosbpf --na)" "--namespace --name"
+    want "the completion of a budget" "$(completed radosbpf install counter.img --b)" "--budget"
     want "the completion of a class" "$(cd "$here/classes" && completed radosbpf -p bpf call a @lock.i)" "@lock.img"
 }
 
@@ -229,6 +234,7 @@ try_stand_in() {
     "$work/address/lists" || bad=1
     test_of threads "$work/images" "$work/thread/stand_in" "$work/thread/classes"
     words=(stand-in "$work/address/stand_in" "$work/address/classes")
+    test_of loops "$work/loops" "${words[@]}"
     for each in native refusals lock limits rounds; do test_of $each "$work/images" "${words[@]}"; done
     test_of bad_requests "$work/images" "$radoscls" 255 "${words[@]}"
     test_of random_calls "$work/images" - 6000 0 5 "${words[@]}"
@@ -256,20 +262,24 @@ try_ports() {
 
 # What radosbpf says on an OSD's machine, and what it leaves in the folder of classes.
 try_install() {
-    local name sum there=$work/there line
+    local name sum budget there=$work/there line
     install_of() { want "$1" "$(said radosbpf "${@:3}")" "$2"; }
     upgrade() { echo "$2" > "$work/upgraded" && mv -f "$work/upgraded" "$1"; }
     sum=$(sha256sum < "$here/classes/counter.img" | cut -c 1-64)
     cp "$work/images/lock.img" "$work/images/lock.2.img"
+    for name in loops older; do cp "$work/loops/loops.img" "$work/images/$name.img"; done
     head -c 40 "$here/classes/lock.img" > "$work/cut.img"
     for name in "${natives[@]}"; do
         radosbpf install "$work/images/$name.img" > "$work/log" 2>&1 || stop_at "$name can't be installed"
     done
-    rm "$work/images/lock.2.img"
+    rm "$work/images"/{lock.2,loops,older}.img
     want "the lines of a class of rule set 3" "$(sed '$d' "$work/log")" "$("$radoscls" verify "$work/images/third.img")"
-    want "installed" "$(radosbpf installed)" "$(for name in count counter environment helpers lock.2 third; do
-        echo "$name $(sha256sum < "$folder/$name.img" | cut -c 1-64)"
-    done)"
+    # As what installed it before there were budgets left it.
+    rm "$folder/older.budget"
+    want "installed" "$(radosbpf installed)" "$(for name in "${natives[@]}" counter; do
+        case $name in counter) budget=5000 ;; *) budget=131072 ;; esac
+        echo "$name $(sha256sum < "$folder/$name.img" | cut -c 1-64) $budget"
+    done | LC_ALL=C sort)"
     install_of "a cut image" "1 refused: image refused after 0 methods: 1 Truncated" install "$work/cut.img"
     install_of "a class of Ceph's own" "1 refused: it would replace $folder/libcls_lock.so, a class of another's: \
 --replace does so" install "$here/classes/lock.img"
@@ -282,7 +292,8 @@ and not bpf" install "$(cp "$here/classes/lock.img" "$work/bpf.img" && echo "$wo
     ln -s "$folder/libcls_lock.so" "$there"
     line=$(radosbpf install "$here/classes/lock.img" --dir "$there" --replace | head -n 1)
     want "replaced" "$line" "replaced $there/libcls_lock.so, a class of another's"
-    want "the files" "$(ls -A "$there")" "$(printf '%s\n' libcls_lock.so libcls_lock.so.replaced lock.img sillarnica_engine.so)"
+    want "the files" "$(ls -A "$there")" \
+        "$(printf '%s\n' libcls_lock.so libcls_lock.so.replaced lock.budget lock.img sillarnica_engine.so)"
     install_of "uninstalled" "0 $there/libcls_lock.so is there again, uninstalled lock from $there" \
         uninstall lock --dir "$there"
     want "Ceph's own again" "$(readlink "$there/libcls_lock.so")" "$folder/libcls_lock.so"
@@ -297,10 +308,51 @@ and not bpf" install "$(cp "$here/classes/lock.img" "$work/bpf.img" && echo "$wo
         uninstall lock --dir "$there"
     want "the newest one stays" "$(cat "$there/libcls_lock.so")" newest
     want "its files" "$(ls -A "$there")" "$(printf '%s\n' libcls_lock.so sillarnica_engine.so)"
+    try_budget "$there"
     # What no OSD can open as a class, and has to survive.
     for name in cut none bpf.old; do cp "$folder/libcls_bpf.so" "$folder/libcls_$name.so"; done
     cp "$work/cut.img" "$folder"
     ln -s libcls_count.so "$folder/libcls_link.so"
+    # Two that were installed: of one the image is replaced by another, whose budget is greater, of one the budget.
+    for name in greater damaged; do
+        cp "$work/loops/loops.img" "$work/$name.img"
+        radosbpf install "$work/$name.img" > "$work/log" 2>&1 || stop_at "$name can't be installed"
+    done
+    sed 's/^.budget 131072/.budget 131073/' "$here/tests/loops.txt" > "$work/greater.txt"
+    "$radoscls" asm "$work/greater.txt" "$folder/greater.img"
+    echo many > "$folder/damaged.budget"
+}
+
+# try_budget FOLDER: what radosbpf says of budgets, and keeps beside an image.
+try_budget() {
+    local image=$work/loops/loops.img number kept=$1/loops.budget
+    printf '.rules 3\n.method f r 0 0\nmov r0, 0\nja -1\n' > "$work/again.txt"
+    "$radoscls" asm "$work/again.txt" "$work/again.img"
+    install_of "a loop without a head" "1 refused: refused method 0 slot 1: 1 Backward" \
+        install "$work/again.img" --dir "$1"
+    install_of "a smaller budget than the image's" "1 refused: method fill declares a budget of 131072, over 131071: \
+--budget 131072 allows it" install "$image" --dir "$1" --budget 131071
+    for number in 0 1048577 -1 +5 05 5k ''; do
+        want "$number is no budget" "$(said radosbpf install "$image" --dir "$1" --budget="$number" | cut -c 1)" 2
+    done
+    want "what a refusal leaves" "$(ls -A "$1")" "$(printf '%s\n' libcls_lock.so sillarnica_engine.so)"
+    want "the lines of a class with loops" "$(radosbpf install "$image" --dir "$1" | sed '$d')" \
+        "$("$radoscls" verify --loops "$image")"
+    want "the usual budget" "$(cat "$kept")" 131072
+    for number in 1048576 200000 131072; do
+        want "installed anew, by $number" "$(radosbpf install "$image" --dir "$1" --budget $number | tail -n 1)" \
+            "installed loops in $1, image $(sha256sum < "$image" | cut -c 1-64), budget $number"
+        want "its budget" "$(cat "$kept")" $number
+    done
+    install_of "a smaller budget, over it" "1 refused: method fill declares a budget of 131072, over 5: \
+--budget 131072 allows it" install "$image" --dir "$1" --budget 5
+    want "the budget stays" "$(cat "$kept")" 131072
+    echo 0 > "$kept"
+    want "a file that keeps none" "$(radosbpf installed --dir "$1")" "loops $(sha256sum < "$image" | cut -c 1-64) -"
+    radosbpf install "$image" --dir "$1" > "$work/log"
+    want "it is made anew" "$(cat "$kept")" 131072
+    install_of "uninstalled with its budget" "0 uninstalled loops from $1" uninstall loops --dir "$1"
+    want "what is left of it" "$(ls -A "$1")" "$(printf '%s\n' libcls_lock.so sillarnica_engine.so)"
 }
 
 try_demo() {
@@ -356,7 +408,7 @@ caps_of() { ceph_within 60 auth get "$1" | grep caps; }
 
 # How many classes osd.2 lacks. On a slow machine it may be down for a moment, and then it isn't asked.
 lacking() { timeout 300 radosbpf check bpf 2> /dev/null | grep -c "^osd.2 class .* isn't there"; }
-all_lacking() { [ "$(lacking)" = 8 ]; }
+all_lacking() { [ "$(lacking)" = $((${#natives[@]} + ${#odd[@]} - 1)) ]; } # the link is none
 
 # The list of classes and the caps are those of docs/CEPH.md, by its own commands.
 try_rights() {
@@ -376,7 +428,7 @@ try_rights() {
     bpf "an image in a request" "1 refused -95: the OSD has no class bpf, or no such method of it: those for classes \
 that are sent are off unless asked for" call "$object" @"$lock" lock --input 6d65
     await 300 all_lacking
-    want "the check finds what osd.2 lacks" "$(lacking)" 8
+    want "the check finds what osd.2 lacks" "$(lacking)" $((${#natives[@]} + ${#odd[@]} - 1))
     touch "$folder/bpf.sent"
     ceph_within 60 config set osd osd_class_load_list \
         "$(ceph_within 60 config get osd osd_class_load_list) ${natives[*]} ${odd[*]}"
@@ -400,7 +452,10 @@ that are sent are off unless asked for" call "$object" @"$lock" lock --input 6d6
 # What the OSDs say of the files in the folder, in their logs.
 try_opened() {
     local log=$cluster/log/osd.0.log name line number
-    for line in "class counter is opened, image $(sha256sum < "$here/classes/counter.img" | cut -c 1-64)" \
+    for line in "class counter is opened, image $(sha256sum < "$here/classes/counter.img" | cut -c 1-64), budget 5000" \
+        "class older is opened, image $(sha256sum < "$work/loops/loops.img" | cut -c 1-64), budget 131072" \
+        "class greater is refused: method 0 declares a budget of 131073, over the class's of 131072" \
+        "class damaged is refused: $folder/damaged.budget has no number from 1 to 1048576" \
         "class cut is refused: image refused after 0 methods: 1 Truncated" \
         "class none is refused: there is no image $folder/none.img" \
         "class bpf.old is refused: there is no image $folder/bpf.old.img" \
@@ -412,7 +467,9 @@ try_opened() {
     want "stats for Prometheus" "$(radosbpf -p bpf stats o --prometheus | grep -cE \
         '^sillarnica_calls_total\{osd="[012]",class="counter",method="(add|get)"\} [0-9]+$')" 2
     want "check" "$(radosbpf check bpf)" "$(for number in 0 1 2; do
-        for name in bpf.old cut none; do echo "osd.$number class $name is refused: the OSD's log says why"; done
+        for name in bpf.old cut damaged greater none; do
+            echo "osd.$number class $name is refused: the OSD's log says why"
+        done
     done | sort -k 3,3 -s; echo "3 OSDs asked: they differ")"
 }
 
@@ -425,6 +482,8 @@ try_command() {
     bpf "verify" "0 break ok 19, lock ok 52, unlock ok 50" verify lock.img
     want "verify, as radoscls does it" "$(radosbpf -p bpf verify lock.img)" "$("$radoscls" verify lock.img)"
     bpf "verify, refused" "1 image refused after 0 methods: 1 Truncated" verify "$bad_class"
+    bpf "verify, a class with loops" "1 refused method 0 slot 23: 1 Backward, it has loops, which installed classes \
+alone may have: radosbpf install verifies it with them" verify "$work/loops/loops.img"
     bpf "call" "0 code -61, output -, steps 10" call o lock break
     bpf "call, with an image" "0 code -2, output -, steps 10, object absent" call new @lock.img break --show
     bpf "call, as a read" "1 refused -30: the call changes the object, and was asked to read alone" \
@@ -452,9 +511,11 @@ OSD's osd_class_load_list lacks bpf" -N tenant -n client.tenant call new lock lo
     cd "$here" || exit 1
 }
 
-# Random calls and counters, while two OSDs are lost one after the other and come back.
+# Random calls and counters, while two OSDs are lost one after the other and come back. A class gets another budget
+# before that, which these two take when they are started.
 try_lost() {
     local calls counters number
+    radosbpf install "$work/loops/loops.img" --budget 200000 > "$work/log" 2>&1 || stop_at "loops can't be installed"
     timeout 7200 python3 "$here/tests/random_calls.py" "$work/images" "$radoscls" 2000 45 "${SEED:-1}" \
         cluster "$CEPH_CONF" > "$work/calls" 2>&1 &
     calls=$!
@@ -473,6 +534,9 @@ try_lost() {
     wait $counters
     want "counters end" $? 0
     tail -n 25 "$work/calls" "$work/counters" | cut -c 1-600
+    await 600 all_asked
+    want "the check tells budgets apart" "$(radosbpf check bpf | grep budget)" \
+        "osd.2 class loops has the budget 131072, others have 200000"
 }
 
 # All OSDs are lost at once: what was answered is there.
@@ -526,6 +590,7 @@ for step in start_cluster try_rights try_command; do
     $step
 done
 test_of native "$work/images" cluster "$CEPH_CONF" client.adder "$work/adder.keyring"
+test_of loops "$work/loops" cluster "$CEPH_CONF"
 try_opened
 for each in refusals lock limits rounds; do test_of $each "$work/images" cluster "$CEPH_CONF"; done
 test_of operations "$CEPH_CONF"

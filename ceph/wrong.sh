@@ -21,8 +21,9 @@ radoscls=${RADOSCLS:-$top/crates/radoscls/out/radoscls}
 work=$(mktemp -d /tmp/sillarnica-wrong.XXXXXX)
 trap 'rm -rf "$work"' EXIT
 bad=0
-mkdir "$work/images"
+mkdir "$work/images" "$work/loops"
 for name in helpers third environment; do "$radoscls" asm "$here/tests/$name.txt" "$work/images/$name.img" || exit 1; done
+"$radoscls" asm "$here/tests/loops.txt" "$work/loops/loops.img" || exit 1
 cp "$here/classes/lock.img" "$top/examples/count.img" "$work/images"
 
 # build NAME SANITIZERS: what the folder $work/NAME/ceph has, over what was built for `right`.
@@ -34,8 +35,9 @@ build() {
 
 # passes NAME WORDS ..: whether a test passes. One that stands still counts for nothing.
 passes() {
-    local status
-    timeout 7200 python3 "$here/tests/$1.py" "$work/images" "${@:2}" > "$said" 2>&1
+    local status images=$work/images
+    if [ "$1" = loops ]; then images=$work/loops; fi
+    timeout 7200 python3 "$here/tests/$1.py" "$images" "${@:2}" > "$said" 2>&1
     status=$?
     [ $status != 124 ] || { echo "BAD  $1 stands still" >&2; exit 1; }
     return $status
@@ -46,7 +48,7 @@ failing() {
     local to=$work/$1/address said=$work/$1/said test words
     "$to/lists" > "$said" 2>&1 || { echo lists; return; }
     words=(stand-in "$to/stand_in" "$to/classes")
-    for test in native refusals limits rounds; do passes $test "${words[@]}" || { echo $test; return; }; done
+    for test in native loops refusals limits rounds; do passes $test "${words[@]}" || { echo $test; return; }; done
     passes random_calls - 1000 0 5 "${words[@]}" || { echo random_calls; return; }
     to=$work/$1/thread
     [ ! -d "$to" ] || passes threads "$to/stand_in" "$to/classes" || echo threads

@@ -4,6 +4,7 @@
 """
 import importlib.metadata
 import pathlib
+import struct
 import sys
 import threading
 
@@ -107,4 +108,32 @@ with Class.open(top / "examples" / "embed" / "parts.img") as parts:
 zero = bytes([1, 0, 0, 0, 0, 2, 0]) + b"\xb7" + bytes(7) + b"\x95" + bytes(7) + bytes(2)
 with Class(b"RCL3" + bytes([2, 0, 0, 0]) + b"\1f" + zero + b"\1g" + zero) as third:
     assert [it.name for it in third.methods] == ["f", "g"] and third.call("g").code == 0, third.methods
+# a class with loops (docs/LOOPS.md): a sum of its input, which declares two heads' places and a budget of 100
+slots = [0xB7, 0, 0, 0], [0xB7, 4, 0, 0], [0x3D, 0x24, 6, 0], [0xBF, 0x15, 0, 0], [0x0F, 0x45, 0, 0], [0x71, 0x55, 0, 0], [0x0F, 0x50, 0, 0]
+slots += [0x07, 4, 0, 1], [0x05, 0, -7, 0], [0x95, 0, 0, 0]
+code = b"".join(struct.pack("<BBhi", *it) for it in slots)
+heads = struct.pack("<HIHB", 1, 100, 2, 2) + bytes([0, 1, 4, 2]) + struct.pack("<QQ", 0, 16)
+looped = b"RCL3" + bytes([1, 0, 0, 0]) + b"\3sum" + struct.pack("<BHHH", 1, 16, 0, len(slots)) + code + heads
+with Class(looped, budget=sillarnica.BUDGET) as summed:
+    # each round is 7 instructions, the beginning 2 and the end 2
+    assert summed.call("sum", b"\1\2\3", caller=7) == (6, b"", 25, [], None)
+    assert summed.call_on(Kept(Object(bytes(5 << 20))), "sum", b"\1\2\3") == (6, b"", 25, [])
+    # of 14 bytes it would take 102: nothing is changed
+    whole = Object(b"data", {b"a": b"b"}, {})
+    assert summed.call("sum", bytes(14), whole) == (-62, b"", 100, [], whole)
+    assert summed.methods[0].name == "sum" and not summed.methods[0].needs_data
+why = raised(sillarnica.Refused, Class, looped)
+assert (str(why), why.kind, why.number) == ("refused method 0 slot 8: 1 Backward", 2, 1), why
+why = raised(sillarnica.Refused, Class, looped, budget=99)
+assert (why.kind, why.number, why.method, why.slot) == (3, 100, 0, -1) and "budget 100, greater than 99" in str(why), why
+why = raised(sillarnica.Refused, Class, looped[:-1], budget=100)
+assert (str(why), why.kind, why.number) == ("image refused after 0 methods: 1 Truncated", 1, 1), why
+# (the head leaves out what the loop changes, the sum)
+wrong = looped.replace(heads, struct.pack("<HIHB", 1, 100, 2, 1) + bytes([4, 2]) + struct.pack("<QQ", 0, 16))
+why = raised(sillarnica.Refused, Class, wrong, budget=100)
+assert (str(why), why.kind, why.number, why.slot) == ("refused method 0 slot 8: 1 Backward", 2, 1, 8), why
+for past in (0, -1, sillarnica.BUDGET_LIMIT + 1, (1 << 32) + 100):
+    raised(ValueError, Class, looped, budget=past)
+with Class.open(top / "examples" / "count.img", budget=sillarnica.BUDGET_LIMIT) as counter:
+    assert counter.call("count", object=Object()).code == 1
 print("well")

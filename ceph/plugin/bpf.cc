@@ -192,8 +192,8 @@ int classes(slice from, ceph::bufferlist &out) {
     if (from.length)
         return BAD_REQUEST;
     for (auto *one : all_classes())
-        out.append(one->name + " " + (one->sum.empty() ? "-" : one->sum) +
-                   (one->refused.empty() ? " ok\n" : " refused\n"));
+        out.append(one->name + " " + one->image_text() + (one->refused.empty() ? " ok " : " refused ") +
+                   one->budget_text() + "\n");
     return 0;
 }
 

@@ -1,5 +1,5 @@
 // The class `bpf`: classes that are loaded beside an object, or sent with a call, to try them out; and
-// what operators ask of an OSD.
+// what operators ask of an OSD. A class with loops is none for it: installed classes alone may have them.
 //
 //     method         input             answer
 //     exec, query    a request         i64 code, u64 steps, the output; the result is 0
@@ -11,7 +11,7 @@
 //     list           nothing           of each loaded class a line: name, blank, bytes of its image
 //     verify         image             the line that says why it is refused, or nothing
 //     classes        nothing           of each class that the OSD opened a line: name, SHA-256 of its
-//                                      image or -, and `ok` or `refused`
+//                                      image or -, `ok` or `refused`, and its budget or -
 //     stats          nothing           of each method of these classes a line: class, method, calls,
 //                                      refusals, steps, nanoseconds, bytes of edits
 //     nothing        nothing           nothing

@@ -106,7 +106,7 @@ int give_answer(cls_method_context_t context, const answer &found, object_view &
     int result = test_answer(found, as);
     if (result < 0)
         return result;
-    if (found.edits_len && (result = make_edits(context, object, found.edits())) < 0)
+    if (found.edits_len && (result = make_edits(context, object, found.edits(), made.why)) < 0)
         return result;
     put_answer(found, as, out);
     made.edits = size_t(found.edits_len);

@@ -36,8 +36,13 @@ public:
     // A line for each method: class, method, calls, refusals, steps, nanoseconds, bytes of edits.
     std::string counted() const;
 
+    // What operators are told of the image and the budget: `-` where there is none.
+    std::string image_text() const { return sum.empty() ? "-" : sum; }
+    std::string budget_text() const { return budget ? std::to_string(budget) : "-"; }
+
     const std::string name;
     std::string sum;     // SHA-256 of the image; none of the class `bpf`
+    uint32_t budget = 0; // the greatest that a method with loops may declare; none of the class `bpf`
     std::string refused; // why it is no class; none if it is one
 
 protected:

@@ -6,6 +6,9 @@
 
 namespace {
 
+// More than a method without loops makes. An OSD takes for writes to different places the square of their number.
+constexpr size_t EDIT_LIMIT = 4096;
+
 enum edit_kind : unsigned {
     CREATE = 1,
     REMOVE,
@@ -57,9 +60,13 @@ int test_edit(const edit &one, bool is_shown) {
     return one.name.find('\0') == std::string::npos ? 0 : NAME_WITH_NUL;
 }
 
-int read_edits(slice written, bool is_shown, std::vector<edit> &edits) {
+int read_edits(slice written, bool is_shown, std::vector<edit> &edits, const char *&why) {
     reader in{written};
     while (in.rest.length) {
+        if (edits.size() == EDIT_LIMIT) {
+            why = "over 4096 edits in a call";
+            return TOO_MUCH;
+        }
         edit found = next_edit(in);
         int result = in.short_of ? BROKEN : test_edit(found, is_shown);
         if (result < 0)
@@ -146,9 +153,9 @@ int make_in_order(cls_method_context_t context, const std::vector<edit> &edits) 
 
 } // namespace
 
-int make_edits(cls_method_context_t context, object_view &object, slice written) {
+int make_edits(cls_method_context_t context, object_view &object, slice written, const char *&why) {
     std::vector<edit> edits;
-    int result = read_edits(written, object.shows_environment(), edits);
+    int result = read_edits(written, object.shows_environment(), edits, why);
     if (result < 0)
         return result;
     if (object.is_made() && !edits.empty())

@@ -48,7 +48,7 @@ std::unique_ptr<opened_class> make_class(const place &at) {
     if (at.name == OWN_NAME)
         return std::make_unique<bpf_class>(OWN_NAME, at.folder);
     auto made = std::make_unique<native_class>(at.name);
-    made->open(at.folder + "/" + at.name + ".img");
+    made->open(at.folder + "/" + at.name);
     return made;
 }
 
@@ -70,7 +70,8 @@ opened_class *open_class(const char *path, const sillarnica_entry *entries) {
         cls_log(0, "bpf: class %s is refused: %s", at.name.c_str(), kept->refused.c_str());
         return nullptr;
     }
-    cls_log(1, "bpf: class %s is opened, image %s", at.name.c_str(), kept->sum.empty() ? "-" : kept->sum.c_str());
+    cls_log(1, "bpf: class %s is opened, image %s, budget %s", at.name.c_str(), kept->image_text().c_str(),
+            kept->budget_text().c_str());
     return kept;
 }
 

@@ -4,13 +4,15 @@
 #include "sum.h"
 
 #include <algorithm>
-#include <fstream>
-#include <iterator>
+#include <cerrno>
+#include <cstdio>
+#include <cstdlib>
+#include <memory>
 
 namespace {
 
-// More than the longest image has: 32 methods of 4,096 slots.
-constexpr size_t LONGEST_FILE = 2 << 20;
+// The most bytes of an image, and of a budget's file: seven digits and the line's end.
+constexpr size_t LONGEST_FILE = 3826120, LONGEST_BUDGET = 8;
 
 // A handle for the time of one call.
 struct lease {
@@ -23,21 +25,30 @@ struct lease {
     }
 };
 
-bool read_file(const std::string &path, bytes &to) {
-    std::ifstream stream(path, std::ios::binary);
-    if (!stream)
-        return false;
-    to.resize(LONGEST_FILE + 1);
-    stream.read(reinterpret_cast<char *>(to.data()), std::streamsize(to.size()));
-    if (stream.bad())
-        return false;
-    to.resize(size_t(stream.gcount()));
-    return true;
+// Reads a file, of one that is longer than this one byte more. 0, or the error's number.
+int read_file(const std::string &path, size_t most, bytes &to) {
+    std::unique_ptr<FILE, int (*)(FILE *)> file(fopen(path.c_str(), "rb"), fclose);
+    if (!file)
+        return errno;
+    to.resize(most + 1);
+    to.resize(fread(to.data(), 1, to.size(), file.get()));
+    return ferror(file.get()) ? EIO : 0;
+}
+
+// The budget that a file keeps; the usual one if there is none, and 0 of a file that has another content.
+uint32_t read_budget(const std::string &path) {
+    bytes file;
+    if (int error = read_file(path, LONGEST_BUDGET, file))
+        return error == ENOENT ? SILLARNICA_BUDGET : 0;
+    std::string text = slice{file.data(), file.size()}.text();
+    unsigned long found = strtoul(text.c_str(), nullptr, 10);
+    bool is_number = text == std::to_string(found) || text == std::to_string(found) + "\n";
+    return is_number && found <= SILLARNICA_BUDGET_LIMIT ? uint32_t(found) : 0;
 }
 
 std::string verdict_of(slice image) {
     uint8_t text[256];
-    int64_t length = sillarnica_explain(image.at, image.length, text, sizeof text);
+    int64_t length = sillarnica_loops_explain(image.at, image.length, text, sizeof text);
     if (length <= 0) // of an accepted one too, which memory was short for
         return "no memory";
     return slice{text, std::min(size_t(length), sizeof text)}.text();
@@ -51,9 +62,8 @@ handles::~handles() {
     sillarnica_verified_close(&first);
 }
 
-int32_t handles::open(slice image) {
-    sillarnica_refusal why{};
-    return sillarnica_verified_open(image.at, image.length, &why, &first);
+int32_t handles::open(slice image, uint32_t budget, sillarnica_refusal &why) {
+    return sillarnica_loops_open(image.at, image.length, budget, &why, &first);
 }
 
 int32_t handles::method_at(size_t n, sillarnica_declared &told, std::string &name) {
@@ -84,18 +94,35 @@ void handles::give(const sillarnica_verified &one) noexcept {
 
 void native_class::open(const std::string &path) {
     bytes image;
-    if (!read_file(path, image)) {
-        refused = "there is no image " + path;
-        return;
-    }
+    std::string kept = path + ".budget";
+    // Once more if the class was installed anew in between: so no image is judged by another's budget.
+    do {
+        budget = read_budget(kept);
+        if (read_file(path + ".img", LONGEST_FILE, image)) {
+            refused = "there is no image " + path + ".img";
+            return;
+        }
+    } while (budget != read_budget(kept));
     slice whole{image.data(), image.size()};
     sum = sum_of(whole);
     if (whole.length > LONGEST_FILE)
         refused = "the file is too long for an image";
-    else if (pool.open(whole) == SILLARNICA_OK)
-        find_methods();
+    else if (!budget)
+        refused = kept + " has no number from 1 to " + std::to_string(SILLARNICA_BUDGET_LIMIT);
     else
-        refused = verdict_of(whole);
+        judge(whole);
+}
+
+void native_class::judge(slice image) {
+    sillarnica_refusal why{};
+    int32_t said = pool.open(image, budget, why);
+    if (said == SILLARNICA_OK)
+        find_methods();
+    else if (said == SILLARNICA_TOO_LARGE)
+        refused = "method " + std::to_string(why.method) + " declares a budget of " + std::to_string(why.number) +
+                  ", over the class's of " + std::to_string(budget);
+    else
+        refused = verdict_of(image);
 }
 
 void native_class::find_methods() {

@@ -14,9 +14,10 @@
 // clang-format off
 enum refusal : int {
     BROKEN = -EIO,               // -5: the OSD or the library answers what it never should
-    TOO_MUCH = -E2BIG,           // -7: the call needs over 16 rounds, 32 xattrs, 1,024 keys or 4 MiB of data, or meets a
-                                 // name over 64 bytes or a value over 4,096: the log says which. Or the object can't
-                                 // be made again: it has over 32 xattrs or 1,024 keys, or such a name or value
+    TOO_MUCH = -E2BIG,           // -7: the call needs over 16 rounds, 32 xattrs, 1,024 keys or 4 MiB of data, makes over
+                                 // 4,096 edits, or meets a name over 64 bytes or a value over 4,096: the log says
+                                 // which. Or the object can't be made again: it has over 32 xattrs or 1,024 keys, or
+                                 // such a name or value
     CLASS_REFUSED = -ENOEXEC,    // -8: the image, or its class, is refused; `verify` says why
     NO_MEMORY = -ENOMEM,         // -12
     NAME_IS_OURS = -EACCES,      // -13: the method sets or removes an xattr whose name begins with `bpf.`; or an entry

@@ -14,6 +14,7 @@ READS = ("query", "see", "query_sent", "see_sent")
 FRAMED = ("exec", "query", "exec_sent", "query_sent")
 UNKNOWN = "whatever the verifier says"
 MOST_DATA = 128 << 20  # osd_max_object_size, as it is shipped
+MOST_EDITS = 4096
 
 
 def limits(whole):
@@ -52,8 +53,10 @@ def is_of_header(one):
 
 def refusal_of_edits(edits, seen, behind, is_native):
     """Why a list isn't made, or None."""
-    for one in filter(is_of_xattr, edits):
-        if is_native and is_of_header(one):
+    for number, one in enumerate(edits):
+        if number == MOST_EDITS:
+            return -7
+        if not is_of_xattr(one) or (is_native and is_of_header(one)):
             continue
         if one[2].startswith((b"bpf.", b"\0") if is_native else b"bpf."):
             return -13

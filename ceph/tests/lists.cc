@@ -200,10 +200,11 @@ bool is_right(const row &one, const origin *caller) {
     now.step = one.left ? 1 : 0;
     object_view view(is_behind(&now), caller);
     bytes list = bytes_of(one.list);
+    const char *why = nullptr;
     int result = view.read(&now, NEEDS_XATTRS);
     now.trace.clear();
     if (result >= 0)
-        result = make_edits(&now, view, {list.data(), list.size()});
+        result = make_edits(&now, view, {list.data(), list.size()}, why);
     bool is_kept = result < 0 || !one.after || now.after == object_of(one.after);
     if (result == one.result && calls_made() == one.calls && is_kept && now.misuse.empty())
         return true;

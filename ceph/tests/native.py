@@ -154,7 +154,7 @@ def try_stand_in(backend, tally, images, folder):
     tally.want("a cut image", opened.get("class cut"), cut)
     none = f"0 bpf: class none is refused: there is no image {folder}/none.img"
     tally.want("no image", opened.get("class none"), none)
-    line = f"1 bpf: class count is opened, image {sum_of(images[b'count'])}"
+    line = f"1 bpf: class count is opened, image {sum_of(images[b'count'])}, budget 131072"
     tally.want("a good image", opened.get("class count"), line)
     line = "0 bpf: class count is opened under another name, or a second time"
     tally.want("a link", backend.opened.count(line), 1)
@@ -425,11 +425,12 @@ def main(words):
     images = osd.images_in(words[0])
     tally, backend = osd.Tally(f"installed classes, {words[1]}"), osd.open_from(words[1:])
     try_rows(backend, tally)
-    wanted = {name: sum_of(images[name]).encode() + b" ok" for name in (b"helpers", b"count", b"third", b"environment")}
-    wanted[b"bpf"] = b"- ok"
+    names = b"helpers", b"count", b"third", b"environment"
+    wanted = {name: sum_of(images[name]).encode() + b" ok 131072" for name in names}
+    wanted[b"bpf"] = b"- ok -"
     if words[1] == "stand-in":
         cut = images[b"helpers"][:40]
-        wanted.update({b"cut": sum_of(cut).encode() + b" refused", b"none": b"- refused"})
+        wanted.update({b"cut": sum_of(cut).encode() + b" refused 131072", b"none": b"- refused 131072"})
     try_classes(backend, tally, images, wanted)
     if words[1] == "stand-in":
         try_environment(backend, tally, *stood_in_header(backend))

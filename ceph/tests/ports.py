@@ -17,7 +17,7 @@ import sys
 import time
 
 import osd
-from model import Object, methods_of, parts_of
+from model import Object, methods_of
 
 sys.path.insert(0, os.path.join(osd.here, "..", "..", "examples", "ceph"))
 
@@ -58,12 +58,17 @@ def drawn_for(whole):
         return bytes(16)
 
 
+def lock_of(value):
+    """Lockers, type and tag."""
+    return check.read_lock(check.Decoder(value, check.VALUE))
+
+
 def with_times(wanted, found, slack):
     """An object whose lockers expire when they do in another, if that isn't earlier, nor later by more than this."""
     moment = lambda value: struct.unpack_from("<II", value, 6)
     for name in wanted.xattrs if wanted and found else ():
         try:
-            ours, theirs = (check.read_lock(check.Decoder(whole.xattrs[name], 4000)) for whole in (wanted, found))
+            ours, theirs = (lock_of(whole.xattrs[name]) for whole in (wanted, found))
         except (KeyError, check.Fail):
             continue
         for key, value in ours[0].items():
@@ -91,8 +96,6 @@ class Native(check.Play):
         declared = self.methods[method.encode()]
         if declared.flags == 1 and before is None:
             return None, -check.ENOENT, b""  # the OSD answers a read of an absent object
-        if before and "xattrs" in parts_of(declared) and len(before.xattrs) + ENTRIES > check.XATTRS:
-            return before, -check.E2BIG, b""
         if len(given) > declared.in_cap:
             return before, -check.EINVAL, b""
         made, result = check.Object(), None
@@ -134,15 +137,14 @@ class Native(check.Play):
         self.tally.want(f"{self.which}.{method} {given.hex()} on {held(before)}", found, (code, output))
         self.look(name)
 
-    def look(self, name, *_):
+    def look(self, name):
         found = self.sessions[check.CLIENTS[0]].get(self.oid(name))
         self.tally.want(f"{self.which}: the object {name}", found, held(self.objects.get(name)))
 
     def put_entry(self, name):
         """The OSD has its own."""
 
-    def ask(self, client, name, words, given, wanted):
-        """A change from outside."""
+    def changed(self, name):
         self.sessions[check.CLIENTS[0]].put(self.oid(name), held(self.objects.get(name)))
 
     def oid(self, name):
@@ -151,6 +153,8 @@ class Native(check.Play):
 
 def try_calls(tally, images, sessions, calls):
     check.CLIENTS[:] = [session.number() for session in sessions]
+    # An OSD's objects have any number of them.
+    check.Object.most_xattrs = check.Object.most_keys = None
     # Those that last are longer than the test.
     check.DURATIONS[:] = [each for each in check.DURATIONS if each[0] > 900 or each == (0, 1)]
     for which in check.CLASSES:
@@ -262,7 +266,7 @@ def try_durations(tally, sessions):
         tally.want(f"its lockers after: {what}", me.lockers(), lockers)
     tally.want("from where", me.lockers(True)[3], [(me.client, b"v1:" + me.address)])
     value = sessions[0].get("timed").xattrs[b"lock.one"]
-    lockers = check.read_lock(check.Decoder(value, 4000))[0]
+    lockers = lock_of(value)[0]
     address = address_of("v1:" + me.address.decode())
     tally.want("an address of the type legacy", [each[14:49] for each in lockers.values()], [address])
 
@@ -321,7 +325,7 @@ def try_rbd(tally, conf, session):
     tally.want("rbd lock ls", cookie, "mine")
     header = "rbd_header." + rbd("info", "told", "--format", "json")[1]["id"]
     value = session.get(header).xattrs[b"lock.rbd_lock"]
-    tally.want("the header's lock", [*check.read_lock(check.Decoder(value, 4000))[0]] != [], True)
+    tally.want("the header's lock", [*lock_of(value)[0]] != [], True)
     tally.want("rbd lock rm", rbd("lock", "rm", "told", "mine", locker)[0], 0)
     for cookie in "ab":
         tally.want(f"rbd lock add, shared {cookie}", rbd("lock", "add", "--shared", "tag", "told", cookie)[0], 0)
