@@ -1,12 +1,12 @@
 #include <sillarnica/ceph.h>
 
-/* Ceph's class cmpomap: values of the omap are compared with given ones, as strings or as numbers, and then set or removed. The
-   keys are taken in the order in which they are given. */
-#define KEYS 6
+/* Ceph's class cmpomap: values of the omap are compared with given ones, as strings or as numbers, and then set or
+   removed. The keys are taken in the order in which they are given. It has loops, so it takes a budget. */
+#define KEYS 256
 #define KEY 64
-#define VALUE 32
-#define IN_MASK 1023
-#define IN_CAP (IN_MASK + 1 + 128) /* a key's place and its length are bounded each by itself */
+#define VALUE 4096
+#define IN_MASK 32767
+#define IN_CAP (IN_MASK + 1 + 2 * VALUE) /* a value's place and its length are bounded each by itself */
 
 enum { STRING = 1, NUMBER = 2 };
 enum { EQ = 1, NE, GT, GTE, LT, LTE };
@@ -41,17 +41,18 @@ INLINE s64 begin(struct operation *o, const u8 *in, u64 in_len, int has_default)
     o->comparison = decode_u8(&d);
     o->count = decode_count(&d, KEYS);
     o->d = d;
-    UNROLL for (int i = 0; i < KEYS; i++)
-        if (i < (int)o->count) {
-            decode_string(&d, KEY, 127);
-            decode_string(&d, VALUE, 127);
-        }
+    for (u64 i = 0; i < o->count; i++) {
+        decode_string(&d, KEY, 127);
+        decode_string(&d, VALUE, 2 * VALUE - 1);
+        if (d.error)
+            return d.error;
+    }
     o->has_other = 0;
     o->other.at = o->other.length = 0;
     if (has_default) {
         o->has_other = decode_u8(&d) != 0;
         if (o->has_other)
-            o->other = decode_string(&d, VALUE, 127);
+            o->other = decode_string(&d, VALUE, 2 * VALUE - 1);
     }
     decode_finish(&d, all);
     return d.error;
@@ -61,7 +62,7 @@ INLINE s64 begin(struct operation *o, const u8 *in, u64 in_len, int has_default)
 INLINE s64 compare(const struct operation *o, const u8 *given, u64 length, const u8 *there, u64 there_length)
 {
     if (o->mode == STRING)
-        return holds(o->comparison, compare_bytes(given, length, there, there_length, VALUE / 8));
+        return holds(o->comparison, cls_compare(given, length, there, there_length));
     if (o->mode != NUMBER || length < 8)
         return -EINVAL;
     if (there_length > 0 && there_length < 8)
@@ -75,70 +76,64 @@ struct pair {
     s64 result; /* of the comparison; -ENODATA if there is nothing to compare with */
 };
 
-/* The next pair, compared with what is there, or with the other value. */
-INLINE struct pair next(struct operation *o)
+/* The next pair, compared with what is there, or with the other value. There is room for a value in the output. */
+INLINE struct pair next(struct operation *o, u8 *out)
 {
-    u8 there[2 * VALUE];
-    struct pair p = {decode_string(&o->d, KEY, 127), decode_string(&o->d, VALUE, 127), 0};
-    s64 got = cls_map_get(o->d.bytes + p.key.at, p.key.length, there, VALUE);
-    u64 length = got;
-    if (got == -ERANGE) {
+    struct pair p = {decode_string(&o->d, KEY, 127), decode_string(&o->d, VALUE, 2 * VALUE - 1), 0};
+    const u8 *given = o->d.bytes + p.value.at;
+    s64 got = cls_map_get(o->d.bytes + p.key.at, p.key.length, out, VALUE);
+    if (got == -ERANGE)
         p.result = -E2BIG;
-    } else if (got < 0 && !o->has_other) {
+    else if (got >= 0)
+        p.result = compare(o, given, p.value.length, out, got);
+    else if (o->has_other)
+        p.result = compare(o, given, p.value.length, o->d.bytes + o->other.at, o->other.length);
+    else
         p.result = -ENODATA;
-    } else {
-        if (got < 0) {
-            copy_words(there, o->d.bytes + o->other.at, VALUE / 8);
-            length = o->other.length;
-        }
-        p.result = compare(o, o->d.bytes + p.value.at, p.value.length, there, length);
-    }
     return p;
 }
 
 /* Sets or removes the keys of which the comparison holds; only a set one is compared with the other value. */
-INLINE s64 change(const u8 *in, u64 in_len, int sets)
+INLINE s64 change(const u8 *in, u64 in_len, u8 *out, int sets)
 {
     struct operation o;
     s64 error = begin(&o, in, in_len, sets);
     if (error)
         return error;
-    UNROLL for (int i = 0; i < KEYS; i++)
-        if (i < (int)o.count) {
-            struct pair p = next(&o);
-            if (p.result < 0 && p.result != -ENODATA && p.result != -EIO)
-                return p.result;
-            if (p.result > 0) {
-                s64 done = sets ? cls_map_set(in + p.key.at, p.key.length, in + p.value.at, p.value.length)
-                                : cls_map_rm(in + p.key.at, p.key.length);
-                if (done < 0)
-                    return done;
-            }
+    for (u64 i = 0; i < o.count; i++) {
+        struct pair p = next(&o, out);
+        if (p.result < 0 && p.result != -ENODATA && p.result != -EIO)
+            return p.result;
+        if (p.result > 0) {
+            s64 done = sets ? cls_map_set(in + p.key.at, p.key.length, in + p.value.at, p.value.length)
+                            : cls_map_rm(in + p.key.at, p.key.length);
+            if (done < 0)
+                return done;
         }
+    }
     return 0;
 }
 
-METHOD(cmp_rm_keys, rw, IN_CAP, 0)
+METHOD(cmp_rm_keys, rw, IN_CAP, VALUE)
 {
-    return change(in, in_len, 0);
+    return change(in, in_len, out, 0);
 }
 
-METHOD(cmp_set_vals, rw, IN_CAP, 0)
+METHOD(cmp_set_vals, rw, IN_CAP, VALUE)
 {
-    return change(in, in_len, 1);
+    return change(in, in_len, out, 1);
 }
 
-METHOD(cmp_vals, r, IN_CAP, 0)
+METHOD(cmp_vals, r, IN_CAP, VALUE)
 {
     struct operation o;
     s64 error = begin(&o, in, in_len, 1);
     if (error)
         return error;
-    UNROLL for (int i = 0; i < KEYS; i++)
-        if (i < (int)o.count) {
-            struct pair p = next(&o);
-            if (p.result <= 0)
-                return p.result == 0 || p.result == -ENODATA ? -ECANCELED : p.result;
-        }
+    for (u64 i = 0; i < o.count; i++) {
+        struct pair p = next(&o, out);
+        if (p.result <= 0)
+            return p.result == 0 || p.result == -ENODATA ? -ECANCELED : p.result;
+    }
     return 0;
 }

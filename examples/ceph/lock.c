@@ -1,18 +1,15 @@
 #include <sillarnica/ceph.h>
 
-/* Ceph's class lock: the xattr "lock.NAME" holds { map of lockers, u8 type, string tag }; a locker's key is its entity and a cookie,
-   and its value when it expires, its address and a description. Where a call has no time, as outside of Ceph, nothing expires, and a
-   duration is -EOPNOTSUPP. It takes rule set 3.
+/* Ceph's class lock: the xattr "lock.NAME" holds { map of lockers, u8 type, string tag }; a locker's key is its
+   entity and a cookie, and its value when it expires, its address and a description. Where a call has no time, as
+   outside of Ceph, nothing expires, and a duration is -EOPNOTSUPP. It has loops, so it takes a budget.
 
-   The output is the memory that a method works in: the value of the lockers that haven't expired, the value that it becomes, and
-   the value as it is kept. */
-#define LOCKERS 12
+   The output is the memory that a method works in: the value of the lockers that haven't expired, the value that it
+   becomes, and the value as it is kept. */
 #define NAME 59 /* with "lock." the longest name of an xattr */
-#define TEXT 64 /* a cookie, a tag or a description */
-#define VALUE 4000
-#define MASK 4095
-#define IN_MASK 511
-#define IN_CAP (IN_MASK + 1 + 128)
+#define VALUE 4096
+#define MASK 4095 /* of a place, and of the length of a string: a cookie, a tag or a description */
+#define IN_CAP (2 * (MASK + 1))
 
 /* Parts of the output: a place in each is at most MASK, and what is copied there too. */
 #define PART (2 * (MASK + 1))
@@ -21,8 +18,6 @@
 #define OLD (2 * PART)
 #define OUT_CAP (3 * PART)
 #define INFO OUT_CAP /* what a locker has besides its key, while set_cookie moves it */
-#define XATTRS 32 /* that an object may have */
-#define NAMES_MASK 2047 /* more than the longest list of their names */
 #define FIRST 10 /* the place of the first locker */
 
 enum { NONE, EXCLUSIVE, SHARED, EPHEMERAL };
@@ -94,50 +89,52 @@ INLINE s64 key_order(const u8 *in, const struct locker *who, s64 by_entity, cons
     return by_entity ? by_entity : order;
 }
 
-/* Takes the lockers that haven't expired over, and looks for one, or for two that differ in their cookies. A locker's key has
-   nineteen bytes before its cookie: a struct's beginning, the kind, the number and the cookie's length. */
+/* Takes the lockers that haven't expired over, and looks for one, or for two that differ in their cookies. A locker's
+   key has nineteen bytes before its cookie: a struct's beginning, the kind, the number and the cookie's length. */
 INLINE struct found live(u8 *out, u64 size, u64 now, const u8 *in, const struct locker *who, const struct locker *other)
 {
     struct found f = {{FIRST, 0}, {FIRST, 0}, 0, FIRST, NONE, {0, 0}, 0};
     struct decoder d = decode_from(out + OLD, size, MASK);
     struct part all = decode_start(&d, 1);
-    u64 count = decode_count(&d, LOCKERS);
-    UNROLL for (int i = 0; i < LOCKERS; i++)
-        if (i < (int)count) {
-            u64 first = d.at, after;
-            const u8 *key = d.bytes + decode_place(&d, 15);
-            u64 kind = key[6], number = *(const word64 *)(key + 7);
-            struct span cookie = decode_string(&d, TEXT, 127);
-            if (key[1] > 1 || *(const word32 *)(key + 2) != 13 + cookie.length)
-                decode_fails(&d, -EINVAL);
-            struct part its = decode_start(&d, 1);
-            u64 expires = decode_u64(&d);
-            decode_finish(&d, its);
-            expires = expires << 32 | expires >> 32;
-            if (expires == 0 || expires >= now) {
-                after = f.end + d.at - first;
-                move(out + LIVE, f.end, out + OLD, first, d.at - first);
-                if (who) {
-                    s64 order = kind < who->kind ? -1 : kind > who->kind;
-                    if (order == 0)
-                        order = (s64)number < (s64)who->number ? -1 : number != who->number;
-                    meet(&f.one, key_order(in, who, order, out + OLD + cookie.at, cookie.length), f.end, after);
-                    if (other)
-                        meet(&f.other, key_order(in, other, order, out + OLD + cookie.at, cookie.length), f.end, after);
-                }
-                f.end = after;
-                f.count++;
-            }
+    u64 count = decode_u32(&d);
+    for (u64 i = 0; i < count; i++) {
+        u64 first = d.at;
+        const u8 *key = d.bytes + decode_place(&d, 15);
+        u64 kind = key[6], number = *(const word64 *)(key + 7);
+        struct span cookie = decode_string(&d, MASK, MASK);
+        if (key[1] > 1 || *(const word32 *)(key + 2) != 13 + cookie.length)
+            decode_fails(&d, -EINVAL);
+        struct part its = decode_start(&d, 1);
+        u64 expires = decode_u64(&d);
+        decode_finish(&d, its);
+        if (d.error)
+            break;
+        expires = expires << 32 | expires >> 32;
+        if (expires != 0 && expires < now)
+            continue;
+        u64 after = f.end + d.at - first;
+        move(out + LIVE, f.end, out + OLD, first, d.at - first);
+        if (who) {
+            s64 order = kind < who->kind ? -1 : kind > who->kind;
+            if (order == 0)
+                order = (s64)number < (s64)who->number ? -1 : number != who->number;
+            meet(&f.one, key_order(in, who, order, out + OLD + cookie.at, cookie.length), f.end, after);
+            if (other)
+                meet(&f.other, key_order(in, other, order, out + OLD + cookie.at, cookie.length), f.end, after);
         }
+        f.end = after;
+        f.count++;
+    }
     f.type = decode_u8(&d);
-    f.tag = decode_string(&d, TEXT, 127);
+    f.tag = decode_string(&d, MASK, MASK);
     decode_finish(&d, all);
     f.error = d.error == -EINVAL ? -EIO : d.error;
     return f;
 }
 
 /* What the object has: -ENOENT if there is none. */
-INLINE struct found load(const struct key *k, u8 *out, s64 now, const u8 *in, const struct locker *who, const struct locker *other)
+INLINE struct found load(const struct key *k, u8 *out, s64 now, const u8 *in, const struct locker *who,
+                         const struct locker *other)
 {
     s64 got = cls_getxattr(k->bytes, k->length, out + OLD, VALUE);
     if (got == -ENODATA) {
@@ -152,6 +149,13 @@ INLINE struct found load(const struct key *k, u8 *out, s64 now, const u8 *in, co
     return live(out, got, moment(now), in, who, other);
 }
 
+/* A string, in memory that has room for one of MASK bytes after each place. */
+INLINE void encode_text(struct encoder *e, const u8 *from, u64 length)
+{
+    encode_u32(e, length);
+    cls_copy(e->bytes + encode_place(e, length), MASK, from, length);
+}
+
 /* The end of a value, after its lockers; its beginning, and how long it is. */
 INLINE u64 finish(u8 *to, u64 end, u64 lockers, u64 type, const u8 *tag, u64 length)
 {
@@ -162,8 +166,8 @@ INLINE u64 finish(u8 *to, u64 end, u64 lockers, u64 type, const u8 *tag, u64 len
     encode_u32(&e, lockers);
     e.at = end;
     encode_u8(&e, type);
-    encode_string(&e, tag, length, TEXT / 8);
-    return encode_place(&e, 0);
+    encode_text(&e, tag, length);
+    return end + 5 + length;
 }
 
 INLINE s64 save(const struct key *k, const u8 *value, u64 size)
@@ -206,12 +210,12 @@ METHOD(assert_locked, r, IN_CAP, OUT_CAP)
 {
     struct key k;
     struct locker me = {CLIENT, cls_caller()};
-    struct decoder d = decode_from(in, in_len, IN_MASK);
+    struct decoder d = decode_from(in, in_len, MASK);
     struct part all = decode_start(&d, 1);
     struct span name = decode_string(&d, NAME, 63), tag;
     u64 type = decode_u8(&d);
-    me.cookie = decode_string(&d, TEXT, 127);
-    tag = decode_string(&d, TEXT, 127);
+    me.cookie = decode_string(&d, MASK, MASK);
+    tag = decode_string(&d, MASK, MASK);
     decode_finish(&d, all);
     if (d.error)
         return d.error;
@@ -229,12 +233,12 @@ METHOD(break_lock, rw, IN_CAP, OUT_CAP)
 {
     struct key k;
     struct locker who;
-    struct decoder d = decode_from(in, in_len, IN_MASK);
+    struct decoder d = decode_from(in, in_len, MASK);
     struct part all = decode_start(&d, 1);
     struct span name = decode_string(&d, NAME, 63);
     who.kind = decode_u8(&d);
     who.number = decode_u64(&d);
-    who.cookie = decode_string(&d, TEXT, 127);
+    who.cookie = decode_string(&d, MASK, MASK);
     decode_finish(&d, all);
     if (d.error)
         return d.error;
@@ -246,7 +250,7 @@ METHOD(break_lock, rw, IN_CAP, OUT_CAP)
 METHOD(get_info, r, IN_CAP, OUT_CAP)
 {
     struct key k;
-    struct decoder d = decode_from(in, in_len, IN_MASK);
+    struct decoder d = decode_from(in, in_len, MASK);
     struct part all = decode_start(&d, 1);
     struct span name = decode_string(&d, NAME, 63);
     decode_finish(&d, all);
@@ -256,36 +260,35 @@ METHOD(get_info, r, IN_CAP, OUT_CAP)
     struct found f = load(&k, out, call_time(), in, 0, 0);
     if (f.error)
         return f.error;
-    return cls_out_len(finish(out + LIVE, f.end, f.count, f.type, out + OLD + f.tag.at, f.tag.length));
+    u64 size = finish(out + LIVE, f.end, f.count, f.type, out + OLD + f.tag.at, f.tag.length);
+    return size > VALUE ? -E2BIG : cls_out_len(size);
 }
 
 /* { list of names }, in the order of their bytes */
-METHOD(list_locks, r, IN_CAP, NAMES_MASK + 1 + 64)
+METHOD(list_locks, r, IN_CAP, MASK + 1 + 64)
 {
     u8 name[64 + 5]; /* of an xattr: at first one that is below "lock." and above all others that are */
-    struct encoder e = {out, 0, NAMES_MASK};
+    struct encoder e = {out, 0, MASK};
     u64 start = encode_start(&e, 1, 1), count_at = encode_place(&e, 4), count = 0;
     s64 length = 64;
     __builtin_memcpy(name, "lock-", 5);
     __builtin_memset(name + 5, 255, 59);
-    UNROLL for (int i = 0; i < XATTRS; i++)
-        if (length > 0) {
-            length = cls_xattr_next(name, length, name, 64);
-            if (length >= 5 && *(const word32 *)name == 0x6b636f6c && name[4] == '.') { /* "lock." */
-                encode_string(&e, name + 5, length - 5, 8);
-                count++;
-            } else if (length != -ENOENT) {
-                length = 0;
-            }
-        }
-    if (length < 0)
+    for (;;) {
+        length = cls_xattr_next(name, length, name, 64);
+        if (length < 5 || *(const word32 *)name != 0x6b636f6c || name[4] != '.') /* "lock." */
+            break;
+        encode_string(&e, name + 5, length - 5, 8);
+        count++;
+    }
+    if (length < 0 && length != -ENODATA)
         return length;
     *(word32 *)(out + count_at) = count;
     encode_finish(&e, start);
     return cls_out_len(encode_place(&e, 0));
 }
 
-/* A client's address as a locker's is kept: of no kind that tells how it came. Where a call has none, it has no bytes. */
+/* A client's address as a locker's is kept: of no kind that tells how it came. Where a call has none, it has no
+   bytes. */
 struct address {
     u8 bytes[64];
     u64 length;
@@ -327,19 +330,19 @@ INLINE void encode_key(struct encoder *e, const u8 *in, const struct locker *who
     u64 start = encode_start(e, 1, 1);
     encode_u8(e, who->kind);
     encode_u64(e, who->number);
-    encode_string(e, in + who->cookie.at, who->cookie.length, TEXT / 8);
+    encode_text(e, in + who->cookie.at, who->cookie.length);
     encode_finish(e, start);
 }
 
 /* A locker: { its key, { expiration, address, description } } */
-INLINE void encode_locker(struct encoder *e, const u8 *in, const struct locker *me, u64 expires, const struct address *a,
-                          struct span text)
+INLINE void encode_locker(struct encoder *e, const u8 *in, const struct locker *me, u64 expires,
+                          const struct address *a, struct span text)
 {
     encode_key(e, in, me);
     u64 start = encode_start(e, 1, 1);
     encode_u64(e, expires << 32 | expires >> 32);
     encode_bytes(e, a->bytes, a->length, 8);
-    encode_string(e, in + text.at, text.length, TEXT / 8);
+    encode_text(e, in + text.at, text.length);
     encode_finish(e, start);
 }
 
@@ -349,13 +352,13 @@ METHOD(lock, rw, IN_CAP, OUT_CAP)
     struct key k;
     struct address address;
     struct locker me = {CLIENT, cls_caller()};
-    struct decoder d = decode_from(in, in_len, IN_MASK);
+    struct decoder d = decode_from(in, in_len, MASK);
     struct part all = decode_start(&d, 1);
     struct span name = decode_string(&d, NAME, 63), tag, text;
     u64 type = decode_u8(&d);
-    me.cookie = decode_string(&d, TEXT, 127);
-    tag = decode_string(&d, TEXT, 127);
-    text = decode_string(&d, TEXT, 127);
+    me.cookie = decode_string(&d, MASK, MASK);
+    tag = decode_string(&d, MASK, MASK);
+    text = decode_string(&d, MASK, MASK);
     u64 duration = decode_u64(&d), flags = decode_u8(&d) & (MAY_RENEW | MUST_RENEW), expires = 0;
     decode_finish(&d, all);
     if (d.error)
@@ -380,7 +383,7 @@ METHOD(lock, rw, IN_CAP, OUT_CAP)
         expires = expiry(moment(now), duration << 32 | duration >> 32);
     address_of(&address);
     u64 at = f.one.at, left = f.end - at - gone;
-    if (others == LOCKERS || at + left + 42 + address.length + me.cookie.length + text.length + tag.length > VALUE)
+    if (at + left + 42 + address.length + me.cookie.length + text.length + tag.length > VALUE)
         return -E2BIG;
     move(out + NEW, 0, out + LIVE, 0, at);
     struct encoder e = {out + NEW, at, MASK};
@@ -395,13 +398,13 @@ METHOD(set_cookie, rw, IN_CAP, OUT_CAP + PART)
 {
     struct key k;
     struct locker me = {CLIENT, cls_caller()}, becomes = me;
-    struct decoder d = decode_from(in, in_len, IN_MASK);
+    struct decoder d = decode_from(in, in_len, MASK);
     struct part all = decode_start(&d, 1);
     struct span name = decode_string(&d, NAME, 63), tag;
     u64 type = decode_u8(&d);
-    me.cookie = decode_string(&d, TEXT, 127);
-    tag = decode_string(&d, TEXT, 127);
-    becomes.cookie = decode_string(&d, TEXT, 127);
+    me.cookie = decode_string(&d, MASK, MASK);
+    tag = decode_string(&d, MASK, MASK);
+    becomes.cookie = decode_string(&d, MASK, MASK);
     decode_finish(&d, all);
     if (d.error)
         return d.error;
@@ -424,7 +427,8 @@ METHOD(set_cookie, rw, IN_CAP, OUT_CAP + PART)
     u64 end = encode_place(&e, 0);
     move(out + NEW, end, out + INFO, 0, info);
     move(out + NEW, end + info, out + LIVE, at, f.end - at);
-    return save(&k, out + NEW, finish(out + NEW, end + info + f.end - at, f.count + 1, type, out + OLD + f.tag.at, f.tag.length));
+    end += info + f.end - at;
+    return save(&k, out + NEW, finish(out + NEW, end, f.count + 1, type, out + OLD + f.tag.at, f.tag.length));
 }
 
 /* { name, cookie } */
@@ -432,10 +436,10 @@ METHOD(unlock, rw, IN_CAP, OUT_CAP)
 {
     struct key k;
     struct locker me = {CLIENT, cls_caller()};
-    struct decoder d = decode_from(in, in_len, IN_MASK);
+    struct decoder d = decode_from(in, in_len, MASK);
     struct part all = decode_start(&d, 1);
     struct span name = decode_string(&d, NAME, 63);
-    me.cookie = decode_string(&d, TEXT, 127);
+    me.cookie = decode_string(&d, MASK, MASK);
     decode_finish(&d, all);
     if (d.error)
         return d.error;

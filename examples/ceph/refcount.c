@@ -1,26 +1,27 @@
 #include <sillarnica/ceph.h>
 
-/* Ceph's class refcount: the xattr "refcount" holds { map of tags to true, set of retired tags }, version 2. The object goes with
-   its last reference. `set` wants its tags in order, each once: there is no loop to sort them with.
+/* Ceph's class refcount: the xattr "refcount" holds { map of tags to true, set of retired tags }, version 2. The
+   object goes with its last reference. It has loops, so it takes a budget.
 
-   The output is the memory that a method works in: the value as it is, and the value that it becomes. */
-#define REFS 8
-#define RETIRED 5
-#define TAG 64
-#define VALUE 1016
-#define MASK 1023 /* more than VALUE, so that no place of a value is cut by it */
+   The output is the memory that a method works in: the value as it is, the value that it becomes, and a table of
+   places. What is at a place may be a tag or, in the new value, all that follows. */
+#define VALUE 4096
+#define MASK 4095 /* of a place, and of a length of what doesn't begin a value */
+#define SET 128 /* tags that `set` takes */
 #define XATTR "refcount", 8
-#define IN_CAP (255 + 1 + TAG)
-
-/* Parts of the output. What stands at a place may be a tag or, in the new value, all that follows. */
+#define IN_CAP (2 * (MASK + 1) + 4)
 #define OLD 0
-#define NEW (MASK + 1 + TAG + 8)
-#define OUT_CAP (NEW + MASK + 1 + VALUE)
+#define NEW (2 * (MASK + 1))
+#define TABLE (2 * NEW)
+#define OUT_CAP (TABLE + 3 * 4 * SET)
 
-/* Copies a value, or what of it follows a place. */
-INLINE void copy_value(u8 *to, const u8 *from)
+/* Copies between two parts of the memory. */
+INLINE void move(u8 *to, u64 to_at, const u8 *from, u64 from_at, u64 length)
 {
-    copy_words(to, from, VALUE / 8);
+    BOUND(to_at, MASK);
+    BOUND(from_at, MASK);
+    BOUND(length, MASK);
+    cls_copy(to + to_at, MASK, from + from_at, length);
 }
 
 /* { string tag, bool implicit } */
@@ -33,16 +34,17 @@ struct request {
 INLINE struct request read_request(const u8 *in, u64 in_len)
 {
     struct request r;
-    struct decoder d = decode_from(in, in_len, 255);
+    struct decoder d = decode_from(in, in_len, MASK);
     struct part all = decode_start(&d, 1);
-    r.tag = decode_string(&d, TAG, 127);
+    r.tag = decode_string(&d, MASK, MASK);
     r.is_implicit = decode_u8(&d) != 0;
     decode_finish(&d, all);
     r.error = d.error;
     return r;
 }
 
-/* The value, to `to`: its length or an error. Of an object without one: no reference, or an implicit one without a tag. */
+/* The value, to `to`: its length or an error. Of an object without one: no reference, or an implicit one without a
+   tag. */
 INLINE s64 load(u8 *to, u64 is_implicit)
 {
     s64 got = cls_getxattr(XATTR, to, VALUE);
@@ -57,144 +59,143 @@ INLINE s64 load(u8 *to, u64 is_implicit)
     return 14 + 5 * is_implicit;
 }
 
-/* The rest of a value: from version 2 on it has a set of retired tags. */
-INLINE void decode_rest(struct decoder *d, struct part all)
+/* Where a tag is among others in their order, or would be if its size is 0. */
+struct place {
+    u64 at, size;
+};
+
+/* A list of tags, each with `more` bytes after it: how many there are, and where one is. With `wild` the first one
+   will do, if it has no bytes and the tag isn't there. */
+INLINE struct place find(struct decoder *d, u64 count, u64 more, const u8 *in, struct span tag, u64 wild)
 {
-    u64 count = all.version < 2 ? 0 : decode_count(d, RETIRED);
-    UNROLL for (int i = 0; i < RETIRED; i++)
-        if (i < (int)count)
-            decode_string(d, TAG, 127);
-    decode_finish(d, all);
+    struct place p = {d->at, 0};
+    for (u64 i = 0; i < count; i++) {
+        u64 first = d->at;
+        struct span s = decode_string(d, MASK, MASK);
+        decode_place(d, more);
+        if (d->error)
+            break;
+        s64 order = cls_compare(in + tag.at, tag.length, d->bytes + s.at, s.length);
+        if (order == 0 || (wild && i == 0 && s.length == 0)) {
+            p.at = first;
+            p.size = d->at - first;
+        } else if (order > 0 && p.size == 0) {
+            p.at = d->at;
+        }
+    }
+    return p;
 }
 
-INLINE s64 of_value(s64 error)
+/* What a value holds, of a tag: its reference or the implicit one, and it among the retired tags. Both lists end at
+   `end`. */
+struct found {
+    u64 count, retired, set_at, end;
+    struct place one, among;
+    s64 error;
+};
+
+/* A value of version 1 has no retired tags. It becomes one of version 2. */
+INLINE struct found find_both(u8 *out, u64 size, const u8 *in, struct request r, u64 wild)
 {
-    return error == -EINVAL ? -EIO : error;
+    struct found f = {0};
+    struct decoder d = decode_from(out + OLD, size, MASK);
+    struct part all = decode_start(&d, 2);
+    f.count = decode_u32(&d);
+    f.one = find(&d, f.count, 1, in, r.tag, wild);
+    f.set_at = d.at;
+    if (all.version < 2) {
+        decode_finish(&d, all);
+        f.end = f.among.at = f.set_at + 4;
+        f.among.size = 0;
+        BOUND(f.set_at, MASK);
+        *(word32 *)(out + OLD + f.set_at) = 0;
+    } else {
+        f.retired = decode_u32(&d);
+        f.among = find(&d, f.retired, 0, in, r.tag, 0);
+        f.end = d.at;
+        decode_finish(&d, all);
+    }
+    f.error = d.error == -EINVAL ? -EIO : d.error;
+    return f;
+}
+
+/* The beginning of a value of so many bytes. */
+INLINE s64 save(u8 *value, u64 size, u64 count)
+{
+    if (size > VALUE)
+        return -E2BIG;
+    value[0] = 2;
+    value[1] = 1;
+    *(word32 *)(value + 2) = size - 6;
+    *(word32 *)(value + 6) = count;
+    return cls_setxattr(XATTR, value, size);
 }
 
 METHOD(get, rw, IN_CAP, OUT_CAP)
 {
-    struct text tag;
     struct request r = read_request(in, in_len);
     if (r.error)
         return r.error;
     s64 got = load(out + OLD, r.is_implicit);
     if (got < 0)
         return got;
-    text_of(&tag, in + r.tag.at, r.tag.length);
-    struct decoder d = decode_from(out + OLD, got, MASK);
-    struct part all = decode_start(&d, 2);
-    u64 count = decode_count(&d, REFS), place = d.at, is_there = 0;
-    UNROLL for (int i = 0; i < REFS; i++)
-        if (i < (int)count) {
-            struct span s = decode_string(&d, TAG, 127);
-            decode_u8(&d);
-            s64 order = text_order(&tag, out + OLD + s.at, s.length);
-            is_there |= order == 0;
-            if (order < 0)
-                place = d.at;
-        }
-    decode_rest(&d, all);
-    if (d.error)
-        return of_value(d.error);
-    u64 size = got, length = r.tag.length;
-    if (is_there)
-        return size > VALUE ? -E2BIG : cls_setxattr(XATTR, out + OLD, size);
-    size += 5 + length;
-    if (count == REFS || size > VALUE)
+    struct found f = find_both(out, got, in, r, 0);
+    if (f.error)
+        return f.error;
+    if (f.one.size) {
+        u64 last = f.one.at + f.one.size - 1;
+        BOUND(last, MASK);
+        out[OLD + last] = 1;
+        return save(out + OLD, f.end, f.count);
+    }
+    u64 size = f.end + 5 + r.tag.length;
+    if (size > VALUE)
         return -E2BIG;
-    BOUND(size, MASK);
-    BOUND(place, MASK);
-    BOUND(length, 127);
-    copy_value(out + NEW, out + OLD);
-    struct encoder e = {out + NEW, place, MASK};
-    encode_string(&e, in + r.tag.at, length, TAG / 8);
+    move(out + NEW, 0, out + OLD, 0, f.one.at);
+    struct encoder e = {out + NEW, f.one.at, MASK};
+    encode_u32(&e, r.tag.length);
+    move(out + NEW, encode_place(&e, r.tag.length), in, r.tag.at, r.tag.length);
     encode_u8(&e, 1);
-    copy_value(out + NEW + encode_place(&e, 0), out + OLD + place);
-    *(word32 *)(out + NEW + 2) = size - 6;
-    *(word32 *)(out + NEW + 6) = count + 1;
-    return size > VALUE ? -E2BIG : cls_setxattr(XATTR, out + NEW, size);
+    move(out + NEW, e.at, out + OLD, f.one.at, f.end - f.one.at);
+    return save(out + NEW, size, f.count + 1);
 }
 
 METHOD(put, rw, IN_CAP, OUT_CAP)
 {
-    struct text tag;
     struct request r = read_request(in, in_len);
     if (r.error)
         return r.error;
     s64 got = load(out + OLD, r.is_implicit);
     if (got < 0)
         return got;
-    text_of(&tag, in + r.tag.at, r.tag.length);
-    struct decoder d = decode_from(out + OLD, got, MASK);
-    struct part all = decode_start(&d, 2);
-    u64 count = decode_count(&d, REFS), gone = 0, gone_size = 0;
-    UNROLL for (int i = 0; i < REFS; i++)
-        if (i < (int)count) {
-            u64 first = d.at;
-            struct span s = decode_string(&d, TAG, 127);
-            decode_u8(&d);
-            if (text_order(&tag, out + OLD + s.at, s.length) == 0 || (i == 0 && s.length == 0 && r.is_implicit)) {
-                gone = first;
-                gone_size = d.at - first;
-            }
-        }
-    /* version 1 has no set of retired tags */
-    u64 set_at = d.at, retired = 0, is_retired = 0, size = got;
-    if (all.version < 2) {
-        decode_finish(&d, all);
-        BOUND(set_at, MASK);
-        *(word32 *)(out + OLD + set_at) = 0;
-        size = set_at + 4;
-        d.at += 4;
-    } else {
-        retired = decode_count(&d, RETIRED);
-    }
-    u64 place = d.at;
-    UNROLL for (int i = 0; i < RETIRED; i++)
-        if (i < (int)retired) {
-            struct span s = decode_string(&d, TAG, 127);
-            s64 order = text_order(&tag, out + OLD + s.at, s.length);
-            is_retired |= order == 0;
-            if (order < 0)
-                place = d.at;
-        }
-    if (all.version >= 2)
-        decode_finish(&d, all);
-    if (d.error)
-        return of_value(d.error);
-    if (count == 0)
+    struct found f = find_both(out, got, in, r, r.is_implicit);
+    if (f.error)
+        return f.error;
+    if (f.count == 0)
         return -EINVAL;
-    if (gone_size == 0 || is_retired)
+    if (f.one.size == 0 || f.among.size)
         return 0;
-    if (count == 1)
+    if (f.count == 1)
         return cls_remove();
-    u64 length = r.tag.length;
-    if (retired == RETIRED || size - gone_size + 4 + length > VALUE)
+    u64 size = f.end - f.one.size + 4 + r.tag.length, after = f.one.at + f.one.size;
+    if (size > VALUE)
         return -E2BIG;
-    BOUND(gone, MASK);
-    BOUND(gone_size, 127);
-    BOUND(set_at, MASK);
-    BOUND(place, MASK);
-    BOUND(length, 127);
-    *(word32 *)(out + OLD + set_at) = retired + 1;
-    copy_value(out + NEW, out + OLD);
-    copy_value(out + NEW + gone, out + OLD + gone + gone_size);
-    struct encoder e = {out + NEW, place - gone_size, MASK};
-    encode_string(&e, in + r.tag.at, length, TAG / 8);
-    copy_value(out + NEW + encode_place(&e, 0), out + OLD + place);
-    size = size - gone_size + 4 + length;
-    BOUND(size, MASK);
-    out[NEW] = 2;
-    *(word32 *)(out + NEW + 2) = size - 6;
-    *(word32 *)(out + NEW + 6) = count - 1;
-    return size > VALUE ? -E2BIG : cls_setxattr(XATTR, out + NEW, size);
+    BOUND(f.set_at, MASK);
+    *(word32 *)(out + OLD + f.set_at) = f.retired + 1;
+    move(out + NEW, 0, out + OLD, 0, f.one.at);
+    move(out + NEW, f.one.at, out + OLD, after, f.among.at - after);
+    struct encoder e = {out + NEW, f.among.at - f.one.size, MASK};
+    encode_u32(&e, r.tag.length);
+    move(out + NEW, encode_place(&e, r.tag.length), in, r.tag.at, r.tag.length);
+    move(out + NEW, e.at, out + OLD, f.among.at, f.end - f.among.at);
+    return save(out + NEW, size, f.count - 1);
 }
 
 /* { bool implicit } to { list of tags } */
 METHOD(read, r, IN_CAP, OUT_CAP)
 {
-    struct decoder d = decode_from(in, in_len, 255);
+    struct span none = {0, 0};
+    struct decoder d = decode_from(in, in_len, MASK);
     struct part all = decode_start(&d, 1);
     u64 is_implicit = decode_u8(&d) != 0;
     decode_finish(&d, all);
@@ -206,47 +207,84 @@ METHOD(read, r, IN_CAP, OUT_CAP)
     d = decode_from(out + NEW, got, MASK);
     all = decode_start(&d, 2);
     struct encoder e = {out, 0, MASK};
-    u64 count = decode_count(&d, REFS), start = encode_start(&e, 1, 1);
+    u64 count = decode_u32(&d), start = encode_start(&e, 1, 1);
     encode_u32(&e, count);
-    UNROLL for (int i = 0; i < REFS; i++)
-        if (i < (int)count) {
-            struct span s = decode_string(&d, TAG, 127);
-            decode_u8(&d);
-            encode_string(&e, out + NEW + s.at, s.length, TAG / 8);
-        }
-    decode_rest(&d, all);
+    for (u64 i = 0; i < count; i++) {
+        struct span s = decode_string(&d, MASK, MASK);
+        decode_u8(&d);
+        if (d.error)
+            break;
+        /* its length and its bytes */
+        move(out, encode_place(&e, 4 + s.length), out + NEW, s.at - 4, 4 + s.length);
+    }
+    if (all.version >= 2)
+        find(&d, decode_u32(&d), 0, in, none, 0);
+    decode_finish(&d, all);
     if (d.error)
-        return of_value(d.error);
+        return d.error == -EINVAL ? -EIO : d.error;
     encode_finish(&e, start);
     return cls_out_len(encode_place(&e, 0));
 }
 
-/* { list of tags } */
-METHOD(set, rw, MASK + 1 + TAG, OUT_CAP)
+/* The table has the places of tags in the input, each with its length before it, in the order of their bytes. */
+INLINE word32 *entry(u8 *out, u64 n)
 {
-    struct text before;
+    BOUND(n, 2 * SET - 1);
+    return (word32 *)(out + TABLE) + n;
+}
+
+/* Puts a tag among so many others, if it isn't there. How many there are then. */
+INLINE u64 insert(u8 *out, u64 refs, const u8 *in, struct span tag)
+{
+    u64 low = 0, high = refs, is_there = 0;
+    while (low < high) {
+        u64 middle = (low + high) / 2, at = *entry(out, middle);
+        BOUND(at, MASK);
+        u64 length = *(const word32 *)(in + at);
+        BOUND(length, MASK);
+        s64 order = cls_compare(in + tag.at, tag.length, in + at + 4, length);
+        is_there |= order == 0;
+        if (order <= 0)
+            high = middle;
+        else
+            low = middle + 1;
+    }
+    if (is_there)
+        return refs;
+    u64 left = 4 * (refs - low);
+    BOUND(left, 4 * SET - 1);
+    cls_copy(entry(out, low + 1), 4 * SET, entry(out, low), left);
+    *entry(out, low) = tag.at - 4;
+    return refs + 1;
+}
+
+/* { list of tags } */
+METHOD(set, rw, IN_CAP, OUT_CAP)
+{
     struct decoder d = decode_from(in, in_len, MASK);
-    struct encoder e = {out, 0, MASK};
     struct part all = decode_start(&d, 1);
-    u64 count = decode_count(&d, REFS), start = encode_start(&e, 2, 1), in_order = 1;
-    encode_u32(&e, count);
-    UNROLL for (int i = 0; i < REFS; i++)
-        if (i < (int)count) {
-            struct span s = decode_string(&d, TAG, 127);
-            if (i > 0)
-                in_order &= text_order(&before, in + s.at, s.length) > 0;
-            text_of(&before, in + s.at, s.length);
-            encode_string(&e, in + s.at, s.length, TAG / 8);
-            encode_u8(&e, 1);
-        }
+    u64 count = decode_count(&d, SET), refs = 0;
+    for (u64 i = 0; i < count; i++) {
+        struct span s = decode_string(&d, MASK, MASK);
+        if (d.error)
+            break;
+        refs = insert(out, refs, in, s);
+    }
     decode_finish(&d, all);
-    encode_u32(&e, 0);
-    encode_finish(&e, start);
     if (d.error)
         return d.error;
-    if (count == 0)
+    if (refs == 0)
         return cls_remove();
-    if (!in_order)
-        return -EINVAL;
-    return cls_setxattr(XATTR, out, encode_place(&e, 0));
+    struct encoder e = {out + NEW, 10, MASK};
+    for (u64 i = 0; i < refs; i++) {
+        u64 at = *entry(out, i);
+        BOUND(at, MASK);
+        u64 size = 4 + *(const word32 *)(in + at);
+        if (e.at + size + 5 > VALUE)
+            return -E2BIG;
+        move(out + NEW, encode_place(&e, size), in, at, size);
+        encode_u8(&e, 1);
+    }
+    encode_u32(&e, 0);
+    return save(out + NEW, e.at, refs);
 }

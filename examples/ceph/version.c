@@ -1,13 +1,18 @@
 #include <sillarnica/ceph.h>
 
 /* Ceph's class version: the xattr "ceph.objclass.version" holds a number and a tag. A condition that doesn't hold is
-   -ECANCELED. A new version's tag is 24 random letters; where a call has no random bytes, they are made of the caller's number. */
-#define TAG 64
-#define CONDS 5
-#define STORED (18 + TAG)
+   -ECANCELED. A new version's tag is 24 random letters; where a call has no random bytes, they are made of the
+   caller's number. It has a loop over the conditions, so it takes a budget.
+
+   The output is the memory that a method works in: the value as it is kept, and what is written. */
+#define VALUE 4096
+#define MASK 4095 /* of a place in a value or in the input */
+#define TAG 18 /* where a tag lies in a value */
 #define XATTR "ceph.objclass.version", 21
-#define IN_MASK 1023
-#define IN_CAP (IN_MASK + 1 + TAG)
+#define IN_CAP (2 * (MASK + 1))
+#define ANSWER 0 /* of `read`: six bytes, and the value */
+#define KEPT 6
+#define OUT_CAP (KEPT + TAG + 2 * (MASK + 1))
 
 enum { NONE, EQ, GT, GE, LT, LE, TAG_EQ, TAG_NE };
 
@@ -22,80 +27,83 @@ INLINE struct version decode_version(struct decoder *d)
     struct version v;
     struct part p = decode_start(d, 1);
     v.number = decode_u64(d);
-    v.tag = decode_string(d, TAG, 127);
+    v.tag = decode_string(d, MASK, MASK);
     decode_finish(d, p);
     return v;
 }
 
-/* What an object has: 128 bytes as read, and room behind them. A tag lies at bytes 18 on. */
+/* What an object has. */
 struct stored {
-    u8 bytes[128 + TAG];
-    u64 number, tag_len, is_absent;
+    struct version its; /* the tag is at a place of `out` */
+    u64 is_absent;
     s64 got; /* the value's length, 0 of none, or an error */
 };
 
-INLINE void load(struct stored *s)
+INLINE struct stored load(u8 *out)
 {
-    s->number = s->tag_len = 0;
-    s->got = cls_getxattr(XATTR, s->bytes, 128);
-    s->is_absent = s->got == -ENOENT;
-    if (s->got == -ENOENT || s->got == -ENODATA) {
-        s->got = 0;
-        return;
+    struct stored s = {{0, {TAG, 0}}, 0, 0};
+    s.got = cls_getxattr(XATTR, out + KEPT, VALUE);
+    s.is_absent = s.got == -ENOENT;
+    if (s.got == -ENOENT || s.got == -ENODATA) {
+        s.got = 0;
+    } else if (s.got < 0) {
+        s.got = s.got == -ERANGE ? -E2BIG : s.got;
+    } else {
+        struct decoder d = decode_from(out + KEPT, s.got, MASK);
+        s.its = decode_version(&d);
+        if (d.error)
+            s.got = d.error == -EINVAL ? -EIO : d.error;
     }
-    if (s->got < 0) {
-        s->got = s->got == -ERANGE ? -E2BIG : s->got;
-        return;
-    }
-    struct decoder d = decode_from(s->bytes, s->got, 127);
-    struct version v = decode_version(&d);
-    if (d.error)
-        s->got = d.error == -EINVAL ? -EIO : d.error;
-    else
-        copy_words(s->bytes + 18, s->bytes + v.tag.at, TAG / 8);
-    s->number = v.number;
-    s->tag_len = v.tag.length;
+    return s;
 }
 
-/* Keeps the number and the tag, which lies at bytes 18 on. */
-INLINE s64 save(struct stored *s)
+/* Writes a version, whose tag may lie where it belongs: how long it is. */
+INLINE u64 put_version(u8 *out, u64 number, const u8 *tag, u64 length)
 {
-    s->bytes[0] = s->bytes[1] = 1;
-    *(word32 *)(s->bytes + 2) = 12 + s->tag_len;
-    *(word64 *)(s->bytes + 6) = s->number;
-    *(word32 *)(s->bytes + 14) = s->tag_len;
-    return cls_setxattr(XATTR, s->bytes, 18 + s->tag_len);
+    u8 *to = out + KEPT;
+    cls_copy(to + TAG, MASK, tag, length);
+    to[0] = to[1] = 1;
+    *(word32 *)(to + 2) = 12 + length;
+    *(word64 *)(to + 6) = number;
+    *(word32 *)(to + 14) = length;
+    return TAG + length;
 }
 
-/* 24 letters, as base64 has them, of 16 random bytes and the first two of them again; or of the caller's number, eight and these
-   again. */
-INLINE void make_tag(struct stored *s)
+INLINE s64 save(u8 *out, u64 number, const u8 *tag, u64 length)
+{
+    u64 size = put_version(out, number, tag, length);
+    return size > VALUE ? -E2BIG : cls_setxattr(XATTR, out + KEPT, size);
+}
+
+/* 24 letters, as base64 has them, of 16 random bytes and the first two of them again; or of the caller's number,
+   eight and these again. */
+INLINE void make_tag(struct stored *s, u8 *tag)
 {
     static const u8 letters[64] = "ABCDEFGHIJKLMNOPQRSTUVWXYZabcdefghijklmnopqrstuvwxyz0123456789+/";
     u8 drawn[24];
     u64 number = cls_caller();
-    s->number = 1;
-    s->tag_len = 24;
+    s->its.number = 1;
+    s->its.tag.length = 24;
     if (call_random(drawn) < 0) {
-        UNROLL for (int i = 0; i < 8; i++)
-            s->bytes[18 + i] = s->bytes[26 + i] = s->bytes[34 + i] = 'a' + (number >> 4 * (7 - i) & 15);
+        for (u64 i = 0; i < 24; i++)
+            tag[i] = 'a' + (number >> 4 * (7 - (i & 7)) & 15);
         return;
     }
     drawn[16] = drawn[0];
     drawn[17] = drawn[1];
-    UNROLL for (int i = 0; i < 6; i++) {
+    for (u64 i = 0; i < 6; i++) {
         u64 bits = (u64)drawn[3 * i] << 16 | (u64)drawn[3 * i + 1] << 8 | drawn[3 * i + 2];
-        UNROLL for (int j = 0; j < 4; j++) {
+        for (u64 j = 0; j < 4; j++) {
             u64 letter = bits >> 6 * (3 - j) & 63;
             BOUND(letter, 63);
-            s->bytes[18 + 4 * i + j] = letters[letter];
+            tag[4 * i + j] = letters[letter];
         }
     }
 }
 
-INLINE u64 holds(u64 cond, const struct stored *s, u64 number, u64 same_tag)
+INLINE u64 holds(u64 cond, u64 kept, u64 number, u64 same_tag)
 {
-    u64 order = s->number < number ? 1 : s->number == number ? 2 : 4; /* below, same, above */
+    u64 order = kept < number ? 1 : kept == number ? 2 : 4; /* below, same, above */
     switch (cond) {
     case EQ: return order == 2 && same_tag;
     case GT: return order == 4;
@@ -109,22 +117,23 @@ INLINE u64 holds(u64 cond, const struct stored *s, u64 number, u64 same_tag)
 }
 
 /* The input, { obj_version, list of { obj_version, u32 } }: 0, what is wrong with it, or -ECANCELED. */
-INLINE s64 check(const u8 *in, u64 in_len, const struct stored *s)
+INLINE s64 check(const u8 *in, u64 in_len, const struct stored *s, const u8 *out)
 {
-    struct decoder d = decode_from(in, in_len, IN_MASK);
+    struct decoder d = decode_from(in, in_len, MASK);
     u64 held = 1;
     struct part all = decode_start(&d, 1);
     decode_version(&d);
-    u64 count = decode_count(&d, CONDS);
-    UNROLL for (int i = 0; i < CONDS; i++)
-        if (i < (int)count) {
-            struct part p = decode_start(&d, 1);
-            struct version v = decode_version(&d);
-            u64 cond = decode_u32(&d);
-            decode_finish(&d, p);
-            u64 same = same_bytes(in + v.tag.at, s->bytes + 18, v.tag.length, TAG / 8);
-            held &= holds(cond, s, v.number, same && v.tag.length == s->tag_len);
-        }
+    u64 count = decode_u32(&d);
+    for (u64 i = 0; i < count; i++) {
+        struct part p = decode_start(&d, 1);
+        struct version v = decode_version(&d);
+        u64 cond = decode_u32(&d);
+        decode_finish(&d, p);
+        if (d.error)
+            break;
+        s64 order = cls_compare(in + v.tag.at, v.tag.length, out + KEPT + s->its.tag.at, s->its.tag.length);
+        held &= holds(cond, s->its.number, v.number, order == 0);
+    }
     decode_finish(&d, all);
     if (d.error)
         return d.error;
@@ -133,69 +142,54 @@ INLINE s64 check(const u8 *in, u64 in_len, const struct stored *s)
     return held ? 0 : -ECANCELED;
 }
 
-METHOD(check_conds, r, IN_CAP, 0)
+METHOD(check_conds, r, IN_CAP, OUT_CAP)
 {
-    struct stored s;
-    load(&s);
-    return check(in, in_len, &s);
+    struct stored s = load(out);
+    return check(in, in_len, &s, out);
 }
 
-INLINE s64 increment(const u8 *in, u64 in_len)
+INLINE s64 increment(const u8 *in, u64 in_len, u8 *out)
 {
-    struct stored s;
-    load(&s);
+    struct stored s = load(out);
     if (s.got == 0)
-        make_tag(&s);
-    s64 refused = check(in, in_len, &s);
+        make_tag(&s, out + KEPT + TAG);
+    s64 refused = check(in, in_len, &s, out);
     if (s.is_absent && (refused == 0 || refused == -ECANCELED))
         return WITH_OBJECT;
     if (refused)
         return refused;
-    s.number++;
-    BOUND(s.tag_len, 127);
-    return save(&s);
+    return save(out, s.its.number + 1, out + KEPT + s.its.tag.at, s.its.tag.length);
 }
 
-METHOD(inc, rw, IN_CAP, 0)
+METHOD(inc, rw, IN_CAP, OUT_CAP)
 {
-    return increment(in, in_len);
+    return increment(in, in_len, out);
 }
 
-METHOD(inc_conds, rw, IN_CAP, 0)
+METHOD(inc_conds, rw, IN_CAP, OUT_CAP)
 {
-    return increment(in, in_len);
+    return increment(in, in_len, out);
 }
 
 /* { obj_version } */
-METHOD(read, r, IN_CAP, 24 + 128)
+METHOD(read, r, IN_CAP, OUT_CAP)
 {
-    struct stored s;
-    load(&s);
+    struct stored s = load(out);
     if (s.got < 0)
         return s.got;
-    BOUND(s.tag_len, 127);
-    out[0] = out[1] = out[6] = out[7] = 1;
-    *(word32 *)(out + 2) = 18 + s.tag_len;
-    *(word32 *)(out + 8) = 12 + s.tag_len;
-    *(word64 *)(out + 12) = s.number;
-    *(word32 *)(out + 20) = s.tag_len;
-    if (s.got)
-        copy_words(out + 24, s.bytes + 18, TAG / 8);
-    return cls_out_len(24 + s.tag_len);
+    u64 size = put_version(out, s.its.number, out + KEPT + s.its.tag.at, s.its.tag.length);
+    out[ANSWER] = out[ANSWER + 1] = 1;
+    *(word32 *)(out + ANSWER + 2) = size;
+    return cls_out_len(KEPT + size);
 }
 
-METHOD(set, rw, IN_CAP, 0)
+METHOD(set, rw, IN_CAP, OUT_CAP)
 {
-    struct stored s;
-    struct decoder d = decode_from(in, in_len, IN_MASK);
+    struct decoder d = decode_from(in, in_len, MASK);
     struct part all = decode_start(&d, 1);
     struct version v = decode_version(&d);
     decode_finish(&d, all);
     if (d.error)
         return d.error;
-    copy_words(s.bytes + 18, in + v.tag.at, TAG / 8);
-    s.number = v.number;
-    s.tag_len = v.tag.length;
-    BOUND(s.tag_len, 127);
-    return save(&s);
+    return save(out, v.number, in + v.tag.at, v.tag.length);
 }

@@ -72,23 +72,27 @@ def edited(object, edits):
 class Library:
     def __init__(self, path):
         self.calls = ctypes.CDLL(path)
-        self.calls.sillarnica_explain.restype = ctypes.c_int64
+        self.calls.sillarnica_explain.restype = self.calls.sillarnica_loops_explain.restype = ctypes.c_int64
 
     @staticmethod
     def slices(*texts):
         return [word for text in texts for word in (text, ctypes.c_size_t(len(text)))]
 
-    def open(self, image):
-        """The result, and a handle of the image's class, which is to be closed."""
+    def open(self, image, budget=None):
+        """The result, and a handle of the image's class, which is to be closed. With a budget its methods may have loops."""
         verified = Verified()
-        return self.calls.sillarnica_verified_open(*self.slices(image), ctypes.byref(Refusal()), ctypes.byref(verified)), verified
+        opened = [ctypes.byref(Refusal()), ctypes.byref(verified)]
+        if budget is None:
+            return self.calls.sillarnica_verified_open(*self.slices(image), *opened), verified
+        return self.calls.sillarnica_loops_open(*self.slices(image), ctypes.c_uint32(budget), *opened), verified
 
     def close(self, verified):
         self.calls.sillarnica_verified_close(ctypes.byref(verified))
 
-    def explain(self, image):
+    def explain(self, image, may_loop=False):
         text = ctypes.create_string_buffer(256)
-        length = self.calls.sillarnica_explain(*self.slices(image), text, ctypes.c_size_t(256))
+        explain = self.calls.sillarnica_loops_explain if may_loop else self.calls.sillarnica_explain
+        length = explain(*self.slices(image), text, ctypes.c_size_t(256))
         return text.raw[:max(0, length)].decode()
 
     def call(self, of, method, form, caller, text, room=1 << 16):

@@ -2,7 +2,8 @@
    as a u32 and its bytes; a list, a set or a map is a u32 and its elements; a versioned struct is u8 version, u8 the oldest
    version that reads it, u32 the length of what follows.
 
-   Nothing here loops, and each place is bounded by a mask that clang can't delete, so the verifier sees that it is within. */
+   Each place is bounded by a mask that clang can't delete, so the verifier sees that it is within, in a loop too. Nothing here
+   loops. */
 #ifndef SILLARNICA_CEPH_H
 #define SILLARNICA_CEPH_H
 
