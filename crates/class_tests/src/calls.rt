@@ -1,9 +1,9 @@
 //! Lines that make a call.
-ghost use Rattle.std.specs.Prelude.{◌≡◌, ◌≤◌, IfOk, Some, map, length};
-ghost use Rattle.bpf_machine.specs.Safe.{call_outcome};
+ghost use Rattle.std.specs.Prelude.{◌≡◌, IfOk, Some, map};
 ghost use Rattle.interp.specs.Plain.{outcome_of_answer};
-ghost use Rattle.verifier.specs.Verified.{given_method};
+ghost use Rattle.verifier.specs.Verified.{method_named};
 ghost use Rattle.class_tests.specs.Tests.{answered, call_line, called};
+ghost use Rattle.class_tests.specs.inner.Made.{calls_of, methods_of};
 
 use crate::case::{Case, copy_of};
 use crate::checks::{answer_said, judged};
@@ -11,31 +11,9 @@ use crate::spelled::value_in;
 use crate::step::Step;
 use crate::test_bytes::TestBytes;
 use crate::test_said::TestSaid;
-use bpf_machine::outcomes;
-use interp::{CallError, Outcome, call_method};
+use crate::tested::Tested;
+use interp::{CallError, Outcome};
 use std::alloc::{AllocError, Global};
-use verifier::{VerifiedClass, VerifiedMethod};
-
-/// The outcome of a method's bytes on an input that isn't too long.
-fn outcome_of(
-    alloc: Global,
-    method: &VerifiedMethod,
-    case: &Case,
-    input: &[u8],
-) -> Result<Outcome, AllocError>
-    requires { length input.now ≤ method.now.in_cap }
-    ensures { IfOk result (λ outcome. call_outcome method.now case.now.object case.now.caller input.now ≡
-        outcome_of_answer outcome) }
-{
-    // A run has one outcome, which is proved of the machine, of a method; the calls do nothing.
-    outcomes();
-    let _ops = method.ops();
-    match call_method(alloc, method, case.object.as_ref(), case.caller, input) {
-        Ok(outcome) => Ok(outcome),
-        Err(CallError::NoMemory) => Err(AllocError),
-        Err(CallError::NoMethod | CallError::InputTooLong) => unreachable!(),
-    }
-}
 
 /// The case and the answer after an outcome.
 fn after(case: &Case, outcome: Outcome) -> Result<(Case, TestSaid), AllocError>
@@ -51,48 +29,44 @@ fn after(case: &Case, outcome: Outcome) -> Result<(Case, TestSaid), AllocError>
     Ok((next, TestSaid::Answer(code, TestBytes::new(outcome.output))))
 }
 
-/// A call of a method that was found.
-fn called_method(
-    alloc: Global,
-    method: &VerifiedMethod,
-    case: &Case,
-    input: &[u8],
-    said: TestSaid,
-) -> Result<Step, AllocError>
-    ensures { IfOk result (λ step. step ≡ called (Some method.now) case.now input.now (Some said)) }
-{
-    if input.len() > usize::from(method.caps().in_cap) {
-        return Ok(judged(case.copy()?, said, TestSaid::InputTooLong));
-    }
-    let outcome = outcome_of(alloc, method, case, input)?;
-    let (next, there) = after(case, outcome)?;
-    Ok(judged(next, said, there))
+/// What a line calls, and by which input.
+#[derive(Clone, Copy)]
+struct Asked<'a> {
+    method: &'a str,
+    input: &'a [u8],
 }
 
 /// A call.
 fn called(
     alloc: Global,
-    method: Option<&VerifiedMethod>,
+    class: &Tested<'_>,
     case: &Case,
-    input: &[u8],
+    asked: Asked,
     said: TestSaid,
 ) -> Result<Step, AllocError>
-    ensures { IfOk result (λ step. step ≡ called (given_method method.entry) case.now input.now (Some said)) }
+    ensures { IfOk result (λ step. step ≡ called (calls_of class.now)
+        (method_named (methods_of class.now) asked.entry.method.now) case.now asked.entry.input.now (Some said)) }
 {
-    match method {
-        Some(method) => called_method(alloc, method, case, input, said),
-        None => Ok(judged(case.copy()?, said, TestSaid::NoMethod)),
+    match class.call(alloc, asked.method, case, asked.input) {
+        Ok(outcome) => {
+            let (next, there) = after(case, outcome)?;
+            Ok(judged(next, said, there))
+        }
+        Err(CallError::NoMethod) => Ok(judged(case.copy()?, said, TestSaid::NoMethod)),
+        Err(CallError::InputTooLong) => Ok(judged(case.copy()?, said, TestSaid::InputTooLong)),
+        Err(CallError::NoMemory) => Err(AllocError),
     }
 }
 
 /// `call`.
 pub(crate) fn call_line(
     alloc: Global,
-    class: &VerifiedClass,
+    class: &Tested<'_>,
     case: &Case,
     args: &[&str],
 ) -> Result<Step, AllocError>
-    ensures { IfOk result (λ step. step ≡ call_line class.now case.now (map (λ w. w.now) args.now)) }
+    ensures { IfOk result (λ step. step ≡
+        call_line (calls_of class.now) (methods_of class.now) case.now (map (λ w. w.now) args.now)) }
 {
     match args {
         [method, input, arrow, words @ ..] => {
@@ -105,7 +79,11 @@ pub(crate) fn call_line(
             let Some(said) = answer_said(alloc, words)? else {
                 return Ok(Step::Bad);
             };
-            called(alloc, class.method(*method), case, input.items(), said)
+            let asked = Asked {
+                method: *method,
+                input: input.items(),
+            };
+            called(alloc, class, case, asked, said)
         }
         _ => Ok(Step::Bad),
     }

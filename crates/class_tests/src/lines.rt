@@ -1,15 +1,16 @@
 //! A line, by its words.
 ghost use Rattle.std.specs.Prelude.{◌≡◌, ◌==◌, IfOk, map, slice_index};
 ghost use Rattle.class_tests.specs.Tests.{line_by, step_by, step_of};
+ghost use Rattle.class_tests.specs.inner.Made.{calls_of, methods_of};
 
 use crate::calls::call_line;
 use crate::case::Case;
 use crate::checks::is_line;
 use crate::setting::{as_line, object_line, set_line};
 use crate::step::{Step, TestPart};
+use crate::tested::Tested;
 use file_words::words;
 use std::alloc::{AllocError, Global};
-use verifier::VerifiedClass;
 
 /// True if a line is a comment.
 fn is_comment(word: &str) -> bool
@@ -25,12 +26,13 @@ fn is_comment(word: &str) -> bool
 #[rattlefmt::skip]
 fn line_by(
     alloc: Global,
-    class: &VerifiedClass,
+    class: &Tested<'_>,
     case: &Case,
     word: &str,
     args: &[&str],
 ) -> Result<Step, AllocError>
-    ensures { IfOk result (λ step. step ≡ line_by class.now case.now word.now (map (λ w. w.now) args.now)) }
+    ensures { IfOk result (λ step. step ≡
+        line_by (calls_of class.now) (methods_of class.now) case.now word.now (map (λ w. w.now) args.now)) }
 {
     if is_comment(word) {
         return Ok(Step::Next(case.copy()?));
@@ -49,11 +51,12 @@ fn line_by(
 /// The line of these words.
 fn step_by(
     alloc: Global,
-    class: &VerifiedClass,
+    class: &Tested<'_>,
     case: &Case,
     words: &[&str],
 ) -> Result<Step, AllocError>
-    ensures { IfOk result (λ step. step ≡ step_by class.now case.now (map (λ w. w.now) words.now)) }
+    ensures { IfOk result (λ step. step ≡
+        step_by (calls_of class.now) (methods_of class.now) case.now (map (λ w. w.now) words.now)) }
 {
     match words {
         [] => Ok(Step::Next(case.copy()?)),
@@ -64,11 +67,12 @@ fn step_by(
 /// What a line comes to in a case.
 pub(crate) fn take_line(
     alloc: Global,
-    class: &VerifiedClass,
+    class: &Tested<'_>,
     case: &Case,
     line: &str,
 ) -> Result<Step, AllocError>
-    ensures { IfOk result (λ step. step ≡ step_of class.now case.now line.now) }
+    ensures { IfOk result (λ step. step ≡
+        step_of (calls_of class.now) (methods_of class.now) case.now line.now) }
 {
     let words = words(alloc, line)?;
     step_by(alloc, class, case, &words)

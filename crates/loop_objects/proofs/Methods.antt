@@ -73,3 +73,8 @@ module _ (m : ClassMethod) (run : PlainLoopMethod) where
         ops = ops ∙ code;
         pairs = subst (λ (s : List (Option Insn)). PairsHold s given.ops.now) code pairs;
       }
+
+  -- and the budget is the declared one
+  pub budget_of : (loops : Option PlainLoops) → RunsBy m run loops → (budget : ℕ) → budget ≡ run.budget → (l : PlainLoops) → loops ≡ Some l → budget ≡ l.budget
+  budget_of None h budget is l some = absurd h
+  budget_of (Some k) h budget is l some = is ∙ ap (λ (r : PlainLoopMethod). r.budget) h.0 ∙ ap (λ (x : PlainLoops). x.budget) (same_Some k l some)

@@ -7,8 +7,10 @@ use Rattle.object_store.specs.Object.{PlainObject, IsObject}
 use Rattle.txn.specs.Edits.{Edit, all_edited}
 use Rattle.interp.specs.declared.outcome.Outcome.{Outcome}
 use Rattle.interp.specs.Plain.{Answers, AnswersMethod, method_named, outcome_of_answer}
+use Rattle.part_calls.specs.declared.answer.PartAnswer.{PartAnswer}
 use Rattle.loop_heads.specs.Loops.{PlainLoops}
 use Rattle.loop_machine.specs.Runs.{RunsByBudget}
+use Rattle.loop_calls.specs.ByBudget.{AnswersOnByBudget}
 
 -- The answer of a run of one method by its budget: code, output, steps and the object afterwards are those of its bytes
 -- on the flat machine by the limits of all objects, in every layout. A run that has used up its budget has the code
@@ -23,6 +25,13 @@ pub record AnswersBudget (method : ClassMethod) (budget : ℕ) (object : PlainOb
   pub leads : all_edited list object ≡ Ok answer.change.after
   pub before : answer.change.before ≡ object
   pub within : IsObject answer.change.after
+
+-- The answer of such a run with the bytes of its edits, which make of the object before the one after; none of them is
+-- refused.
+pub record AnswersByEdits (m : ClassMethod) (budget : ℕ) (o : PlainObject) (caller : ℕ) (input : List ℕ)
+    (a : PartAnswer) : Type 0 where
+  pub answers : AnswersOnByBudget profile m budget o caller input a
+  pub leads : all_edited answers.list o ≡ Ok answers.object
 
 -- a method by its loops: one without them runs to its exit, one with them by its budget
 abbrev pub answers_by : Option PlainLoops → ClassMethod → PlainObject → ℕ → List ℕ → Outcome → Type 0

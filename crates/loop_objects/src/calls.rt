@@ -1,17 +1,19 @@
 //! Calls of the methods of a class whose methods may loop.
 
-ghost use Rattle.std.specs.Prelude.{◌≡◌, ◌≢◌, ◌<◌, ◌≤◌, ◌↔◌, None, Err, IfErr, IfOk, length};
+ghost use Rattle.std.specs.Prelude.{◌≡◌, ◌≢◌, ◌<◌, ◌≤◌, ◌↔◌, Some, None, Err, IfErr, IfOk, length};
 ghost use Rattle.std.specs.Option.{option_copied};
 ghost use Rattle.bpf_decode.specs.Class.{IsMethod};
 ghost use Rattle.verifier.specs.Verified.{method_named};
 ghost use Rattle.interp.specs.Plain.{InputPasses};
+ghost use Rattle.loop_heads.specs.Loops.{PlainLoops};
+ghost use Rattle.loop_calls.specs.ByBudget.{IsBudgeted};
 ghost use Rattle.loop_classes.specs.Runs.{RunsBy};
 ghost use Rattle.loop_objects.specs.Calls.{AnswersBudget, AnswersLooped, AnswersLoops};
 
-use crate::run::{answered, outcome};
+use crate::run::{ClientInput, outcome, run_by_budget};
 use bpf_decode::Method;
 use interp::{CallError, Outcome, call_method};
-use loop_calls::BudgetedMethod;
+use loop_calls::{BudgetedMethod, LoopRoom};
 use loop_classes::{LoopClass, LoopClassMethod, MethodRun};
 use loop_verdict::LoopMethod;
 use object_store::Object;
@@ -66,7 +68,8 @@ fn call_found(
         MethodRun::Plain(method) => call_method(alloc, method, object, caller, input),
         MethodRun::Looped(method, run) => {
             let looped = Looped { method, run };
-            call_looped(alloc, &looped, object, caller, input)
+            let given = ClientInput { caller, input };
+            call_looped(alloc, &looped, object, given)
         }
     }
 }
@@ -78,31 +81,43 @@ struct Looped<'a> {
     run: &'a LoopMethod,
 }
 
+/// What a run by its budget takes of a method with loops.
+pub fn budgeted<'a>(method: &Method, run: &'a LoopMethod) -> BudgetedMethod<'a>
+    requires method { IsMethod method.now }
+    requires runs { RunsBy method.now run.now method.now.loops }
+    ensures runs { IsBudgeted method.now result }
+    ensures budget { result.budget ≡ run.now.budget }
+    ensures declared { (l : PlainLoops) → method.now.loops ≡ Some l → result.budget ≡ l.budget }
+{
+    BudgetedMethod {
+        caps: run.caps(),
+        budget: run.budget(),
+        ops: run.ops(),
+    }
+}
+
 /// Runs a method with loops by its budget.
 fn call_looped(
     alloc: Global,
     looped: &Looped<'_>,
     object: Option<&Object>,
-    caller: u32,
-    input: &[u8],
+    given: ClientInput,
 ) -> Result<Outcome, CallError>
     requires method { IsMethod looped.now.method.now }
     requires runs { RunsBy looped.now.method.now looped.now.run.now looped.now.method.now.loops }
     ensures ok { IfOk result (λ o. AnswersBudget looped.now.method.now looped.now.run.now.budget
-        (option_copied object.entry) caller input.now o) }
-    ensures short { IfOk result (λ _. length input.now ≤ looped.now.method.now.in_cap) }
-    ensures too_long { (result ≡ Err CallError.InputTooLong) ↔ (looped.now.method.now.in_cap < length input.now) }
+        (option_copied object.entry) given.entry.caller given.entry.input.now o) }
+    ensures short { IfOk result (λ _. length given.entry.input.now ≤ looped.now.method.now.in_cap) }
+    ensures too_long { (result ≡ Err CallError.InputTooLong) ↔
+        (looped.now.method.now.in_cap < length given.entry.input.now) }
     ensures found { IfErr result (λ e. e ≢ CallError.NoMethod) }
 {
     let (method, run) = (looped.method, looped.run);
-    if input.len() > usize::from(method.in_cap()) {
+    if given.input.len() > usize::from(method.in_cap()) {
         return Err(CallError::InputTooLong);
     }
-    let budgeted = BudgetedMethod {
-        caps: run.caps(),
-        budget: run.budget(),
-        ops: run.ops(),
-    };
-    let answer = answered(alloc, &budgeted, object, caller, input)?;
+    let taken = budgeted(method, run);
+    let mut room = LoopRoom::new(alloc);
+    let answer = run_by_budget(alloc, &mut room, &taken, object, given)?;
     outcome(alloc, object, answer)
 }

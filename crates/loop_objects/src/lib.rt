@@ -10,5 +10,6 @@ mod laws;
 mod run;
 mod whole;
 
-pub use calls::call_loops;
+pub use calls::{budgeted, call_loops};
 pub use laws::answers_without_loops;
+pub use run::{ClientInput, run_by_budget};

@@ -5,7 +5,8 @@ ghost use Rattle.std.specs.Option.{option_copied};
 ghost use Rattle.bpf_decode.specs.Class.{ClassMethod};
 ghost use Rattle.object_store.specs.Object.{PlainObject, IsObject};
 ghost use Rattle.loop_calls.specs.ByBudget.{IsBudgeted};
-ghost use Rattle.loop_objects.specs.inner.Making.{IsAnswered, IsNoNeed, IsOutcomeOf, Makes};
+ghost use Rattle.loop_objects.specs.Calls.{AnswersByEdits};
+ghost use Rattle.loop_objects.specs.inner.Making.{IsNoNeed, IsOutcomeOf, Makes};
 
 use crate::edits::make_all;
 use crate::whole::whole_part;
@@ -18,18 +19,30 @@ use part_calls::PartAnswer;
 use std::alloc::Global;
 use txn::Change;
 
-/// Runs a method by its budget on the part that has all of an object.
-pub(crate) fn answered(
+/// What a client gives to a run.
+#[derive(Clone, Copy)]
+pub struct ClientInput<'a> {
+    /// The client's number.
+    pub caller: u32,
+    /// The input.
+    pub input: &'a [u8],
+}
+
+/// Runs a method by its budget on an object, or on none, in a room that runs share one after the
+/// other. The answer has the bytes of the run's edits. Refused by `NoMemory` alone, also where the
+/// part on which it runs is full: no contract says that it never is.
+pub fn run_by_budget(
     alloc: Global,
+    room: &mut LoopRoom,
     method: &BudgetedMethod<'_>,
     object: Option<&Object>,
-    caller: u32,
-    input: &[u8],
+    given: ClientInput,
 ) -> Result<PartAnswer, CallError>
     requires method { (m : ClassMethod) × IsBudgeted m method.now }
-    requires short { length input.now ≤ method.now.caps.in_cap }
+    requires short { length given.input.now ≤ method.now.caps.in_cap }
     ensures answered { (m : ClassMethod) → IsBudgeted m method.now →
-        IfOk result (IsAnswered m method.now.budget (option_copied object.entry) caller input.now) }
+        IfOk result (AnswersByEdits m method.now.budget (option_copied object.entry) given.entry.caller
+        given.entry.input.now) }
     ensures refused { IfErr result (λ e. e ≡ CallError.NoMemory) }
 {
     // For the proof: the object is within the limits. The edits of a helper make of the object
@@ -41,8 +54,7 @@ pub(crate) fn answered(
     decoded();
     blind_steps();
     let part = whole_part(alloc, object)?;
-    let mut room = LoopRoom::new(alloc);
-    match room.call_by_budget(method, Limits::profile(), part, caller, input) {
+    match room.call_by_budget(method, Limits::profile(), part, given.caller, given.input) {
         Ok(answer) => Ok(answer),
         Err(stop) => Err(refusal_of(&stop)),
     }

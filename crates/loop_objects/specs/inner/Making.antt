@@ -1,14 +1,11 @@
 -- What is made of an object, and how a call by a budget on all of it ends.
 use Rattle.std.specs.Prelude.{◌≡◌, ℕ, List, Ok}
-use Rattle.bpf_decode.specs.Class.{ClassMethod}
-use Rattle.object_store.specs.Limits.{profile}
 use Rattle.object_store.specs.Object.{PlainObject, IsObject}
 use Rattle.txn.specs.Edits.{Edit, all_edited, spelled}
 use Rattle.parts.specs.declared.stop.Stop.{Stop}
 use Rattle.parts.specs.declared.stop.Stop.TheVariants.{NoMemory, Full, Needs}
 use Rattle.interp.specs.declared.outcome.Outcome.{Outcome}
 use Rattle.part_calls.specs.declared.answer.PartAnswer.{PartAnswer}
-use Rattle.loop_calls.specs.ByBudget.{AnswersOnByBudget}
 
 -- the bytes spell edits of which none is refused, and which make this object of that one
 pub record Makes (bytes : List ℕ) (before after : PlainObject) : Type 0 where
@@ -21,12 +18,6 @@ abbrev pub IsNoNeed : Stop → Type 0
 IsNoNeed NoMemory = Unit {0}
 IsNoNeed Full = Unit {0}
 IsNoNeed (Needs need) = ⊥
-
--- the answer of a run by a budget; its edits, of which none is refused, make of the object the one after
-pub record IsAnswered (m : ClassMethod) (budget : ℕ) (o : PlainObject) (caller : ℕ) (input : List ℕ)
-    (a : PartAnswer) : Type 0 where
-  pub answers : AnswersOnByBudget profile m budget o caller input a
-  pub leads : all_edited answers.list o ≡ Ok answers.object
 
 -- the outcome of an answer: its code, output and steps, and the change that its edits make of the object
 pub record IsOutcomeOf (given : PlainObject) (a : PartAnswer) (o : Outcome) : Type 0 where

@@ -1,0 +1,2 @@
+-- The code's own: what private contracts say.
+pub mod Made
