@@ -1,10 +1,10 @@
 //! Counts what a run takes. Nothing is proved of these numbers.
 
 use crate::latencies::Latencies;
-use osd::{DeliveryMode, Fate, Gate};
+use osd::{Config, DeliveryMode, Fate, Gate};
 use std::alloc::Global;
 use std::sync::atomic::{AtomicBool, AtomicU64, Ordering};
-use std::time::Clock;
+use std::time::{Clock, Duration};
 use std::{fmt, thread};
 
 /// Nanoseconds of a second.
@@ -13,12 +13,24 @@ const SECOND: u64 = 1_000_000_000;
 /// Nanoseconds of a microsecond.
 const MICROSECOND: u64 = 1_000;
 
-/// The number of turns in a row in which workers have nothing to do, before the first call is made.
-/// They begin with the first maps, so what they take first is no quiet.
-const QUIET_TURNS: u64 = 1_000;
+/// The number of looks in a row at which workers had taken nothing more, after which the first call
+/// is made: memory was refused to an operation of the first maps, or there were further maps.
+const QUIET_LOOKS: u32 = 100;
 
-/// The most turns that the first call waits for that.
-const TURN_LIMIT: u64 = 100_000;
+/// The most looks before the first call, and the milliseconds between two of them.
+const LOOKS: u32 = 2_000;
+
+const BETWEEN_LOOKS: u64 = 1;
+
+/// The number of operations that workers take until each group has learned its first map, if none
+/// is lost. Of each group's acting nodes each takes the map, each but the primary an Install, which
+/// the primary is told of by each, and the primary the monitors' Activated. All messages that nodes
+/// send meanwhile go out before the last of these operations is taken.
+pub(crate) fn first_operations(config: &Config) -> u64 {
+    let acting = config.nodes.min(config.replicas as u64);
+    let of_group = acting.saturating_mul(3).saturating_sub(1);
+    config.groups.saturating_mul(of_group)
+}
 
 /// The counts of a run, from its first call on. All threads that play it add to them; they are
 /// shown as ten lines. Counts are modulo 2^64.
@@ -105,33 +117,36 @@ impl Figures {
     }
 
     /// Notes that the first call begins, if none has begun: what was sent up to it isn't counted.
-    /// So that this is all that the groups' first maps take, it waits until workers have had
-    /// nothing to do for a while, and not without end.
-    pub fn begin<C: Clock>(&self, clock: &C) {
+    /// So that this is all that the groups' first maps take, it waits until workers have taken that
+    /// many operations, which they bring. Of a further map nobody knows how many it brings: then it
+    /// waits until workers have taken nothing for a tenth of a second. It doesn't wait without end.
+    pub fn begin<C: Clock>(&self, clock: &C, first: u64) {
         if self.has_begun.load(Ordering::SeqCst) {
             return;
         }
-        self.wait_until_quiet();
+        let has_further = self.mapped.load(Ordering::SeqCst) != u64::MAX;
+        self.wait_until_taken(clock, if has_further { u64::MAX } else { first });
         self.start.store(shown_by(clock), Ordering::SeqCst);
         self.has_begun.store(true, Ordering::SeqCst);
     }
 
-    /// Gives the other threads turns until workers took nothing in many of them.
-    fn wait_until_quiet(&self) {
-        let mut seen = self.operations.load(Ordering::SeqCst);
+    /// Sleeps until workers have taken that many operations, or, after the first one, none for a
+    /// tenth of a second.
+    fn wait_until_taken<C: Clock>(&self, clock: &C, wanted: u64) {
+        let mut seen = 0;
         let mut quiet = 0;
-        for _ in 0..TURN_LIMIT {
-            if quiet == QUIET_TURNS {
+        for _ in 0..LOOKS {
+            let taken = self.operations.load(Ordering::SeqCst);
+            if taken >= wanted || quiet == QUIET_LOOKS {
                 return;
             }
-            thread::yield_now();
-            let taken = self.operations.load(Ordering::SeqCst);
             quiet = if taken == seen && taken > 0 {
                 quiet.saturating_add(1)
             } else {
                 0
             };
             seen = taken;
+            thread::sleep(clock, Duration::from_millis(BETWEEN_LOOKS));
         }
     }
 

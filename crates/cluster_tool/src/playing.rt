@@ -5,7 +5,7 @@ ghost use Rattle.cluster_tool.specs.Played.{AreMapsMade, IsMapRefused, Plays};
 
 use crate::caller::Caller;
 use crate::crossing::{caller_crosses, figures_cross};
-use crate::figures::Figures;
+use crate::figures::{Figures, first_operations};
 use crate::meter::Meter;
 use crate::played::Played;
 use cluster_file::{Plan, PlannedStep};
@@ -184,7 +184,7 @@ fn call_each<'a, N: ClusterName + Send + Sync, R: Threads + Wait + Clock + Sync>
     let threads = callers.len().max(1);
     let clock = running.runtime();
     if count_calls(steps) > 0 {
-        figures.begin(clock);
+        figures.begin(clock, first_operations(running.config()));
     }
     for_each_mut(
         running.runtime(),

@@ -1,9 +1,10 @@
 -- The command line: `verify IN .. [--all] [--loops] [--json] [--explain]`, `run IN METHOD [--caller N]
 -- [--input HEX] [--input-text TEXT] [--input-u64 N,..] [--object HEX] [--xattr NAME=HEX ..] [--key KEY=HEX ..]
 -- [--limits LIMITS] [--loops] [--load FILE] [--save FILE] [--show] [--trace] [--json] [--explain]`, `test IN FILE
--- [--trace] [--explain]`, `asm IN OUT [--all] [--heads] [--budget N] [--explain]`, `pack OUT METHOD .. [--rules N]
--- [--heads] [--budget N] [--explain]`, `dis IN [--slots] [--explain]`, `heads IN OUT [--budget N]`,
--- `sim FILE [--class NAME=IMAGE ..] [--trace] [--explain]`, and
+-- [--trace] [--loops] [--explain]`, `asm IN OUT [--all] [--heads] [--budget N] [--explain]`,
+-- `pack OUT METHOD .. [--rules N] [--heads] [--budget N] [--explain]`, `dis IN [--slots] [--explain]`,
+-- `heads IN OUT [--budget N]`,
+-- `sim FILE [--class NAME=IMAGE ..] [--trace] [--objects] [--explain]`, and
 -- `cluster FILE [--class NAME=IMAGE ..] [--show] [--stats] [--strict] [--explain] [--follow]`.
 use Rattle.std.specs.Prelude.{[], ◌∷◌, Some, true, codes}
 use Rattle.clap.specs.Lexer.{usize_max}
@@ -85,8 +86,8 @@ run_line =
 -- `test`, which runs the tests of a class
 abbrev pub test_line : App
 test_line =
-    with_rule (with_rule (with_rule (with_rule (new_app (codes "test")) (required_rule (codes "IN")))
-    (required_rule (codes "FILE"))) (flag_rule (codes "trace"))) explain_rule
+    with_rule (with_rule (with_rule (with_rule (with_rule (new_app (codes "test")) (required_rule (codes "IN")))
+    (required_rule (codes "FILE"))) (flag_rule (codes "trace"))) loops_rule) explain_rule
 
 -- the flag that has heads of loops found
 abbrev pub heads_rule : Rule
@@ -139,10 +140,15 @@ class_rule = each_rule (codes "class")
 abbrev pub trace_rule : Rule
 trace_rule = flag_rule (codes "trace")
 
+-- the flag that has the objects of a node shown
+abbrev pub objects_rule : Rule
+objects_rule = flag_rule (codes "objects")
+
 -- `sim`, which plays a file of events
 abbrev pub sim_line : App
-sim_line = with_rule (with_rule (with_rule (with_rule (new_app (codes "sim")) (required_rule (codes "FILE")))
-    class_rule) trace_rule) explain_rule
+sim_line =
+    with_rule (with_rule (with_rule (with_rule (with_rule (new_app (codes "sim")) (required_rule (codes "FILE")))
+    class_rule) trace_rule) objects_rule) explain_rule
 
 -- the flag that has a run measured
 abbrev pub stats_rule : Rule

@@ -43,7 +43,7 @@ fn verify_command<'a>(alloc: Global) -> Result<Command<'a>, AllocError>
         about: "Tells whether the methods of a class are safe",
         examples: help::VERIFY,
     };
-    let help = "The files of classes, images or texts, each judged";
+    let help = "The files of classes, images or texts, or folders of them, each judged";
     let of_images = files_command(alloc, heading, "IN", help);
     let all = flag(alloc, "all", help::ALL);
     let loops = flag(alloc, "loops", help::LOOPS);
@@ -147,7 +147,9 @@ fn test_command<'a>(alloc: Global) -> Result<Command<'a>, AllocError>
     );
     let of_tests = with_arg(of_image, required(alloc, "FILE", help::TEST_FILE));
     let trace = flag(alloc, "trace", help::TEST_TRACE);
-    with_arg(with_arg(of_tests, trace), explain_flag(alloc))
+    let loops = flag(alloc, "loops", help::RUN_LOOPS);
+    let of_calls = with_arg(with_arg(of_tests, trace), loops);
+    with_arg(of_calls, explain_flag(alloc))
 }
 
 /// The flag that has heads of loops found.
@@ -269,8 +271,10 @@ fn sim_command<'a>(alloc: Global) -> Result<Command<'a>, AllocError>
     };
     let of_events = file_command(alloc, heading, "FILE", "The file of events");
     let trace = flag(alloc, "trace", "Draws the run as a message sequence");
+    let objects = flag(alloc, "objects", help::OBJECTS);
     let of_classes = with_arg(of_events, class_option(alloc));
-    with_arg(with_arg(of_classes, trace), explain_flag(alloc))
+    let of_forms = with_arg(with_arg(of_classes, trace), objects);
+    with_arg(of_forms, explain_flag(alloc))
 }
 
 fn cluster_command<'a>(alloc: Global) -> Result<Command<'a>, AllocError>

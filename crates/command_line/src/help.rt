@@ -22,7 +22,8 @@ pub(crate) const RUN: &str = "Examples:
 
 pub(crate) const TEST: &str = "Examples:
   radoscls test count.img count.test
-  radoscls test count.txt count.test --trace";
+  radoscls test count.txt count.test --trace
+  radoscls test loops/sum.txt loops/sum.test --loops";
 
 pub(crate) const ASM: &str = "Examples:
   radoscls asm count.txt count.img
@@ -44,6 +45,7 @@ pub(crate) const HEADS: &str = "Examples:
 
 pub(crate) const SIM: &str = "Examples:
   radoscls sim survive.sim
+  radoscls sim survive.sim --objects
   radoscls sim survive.sim --class count=count.img --trace";
 
 pub(crate) const CLUSTER: &str = "Examples:
@@ -82,7 +84,7 @@ pub(crate) const INPUT_U64: &str =
 pub(crate) const LIMITS: &str =
     "What the object may hold: 'profile', or 'ceph' for 134217728 bytes, and any number of xattrs and keys";
 
-/// For the help of `run`.
+/// For the help of `run` and `test`.
 pub(crate) const RUN_LOOPS: &str =
     "Judges the class by the heads that methods declare, and runs their loops by their budgets";
 
@@ -104,6 +106,9 @@ pub(crate) const TEST_FILE: &str =
 /// For the help of `test`.
 pub(crate) const TEST_TRACE: &str =
     "Prints below a call that answers otherwise each instruction that it executed, as run --trace does";
+
+/// For the help of `sim`.
+pub(crate) const OBJECTS: &str = "Shows below each node that is shown what its objects hold";
 
 /// For the help of `cluster`.
 pub(crate) const FOLLOW: &str =

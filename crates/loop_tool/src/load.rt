@@ -7,8 +7,9 @@ use loop_classes::{LoopClass, verify_loops};
 use program_files::{About, Failed, Failure, ReadableFiles, read_source};
 use std::alloc::Global;
 
-/// The class whose image or text a file holds, if the verdict on loops accepts it.
-pub(crate) fn load_by_loops<F: ReadableFiles>(
+/// The class whose image or text a file holds, if the verdict on loops accepts it. Its failure tells
+/// of the class, for `note_of`.
+pub fn load_by_loops<F: ReadableFiles>(
     alloc: Global,
     files: &F,
     name: &str,

@@ -1,9 +1,11 @@
 -- The lines of all that an object holds.
 use Rattle.std.specs.Prelude.{ℕ, ◌==◌, ◌&&◌, nat_le, not, List, [], ◌∷◌, ◌++◌, Some, None, Bool, true, false, codes}
-use Rattle.std.specs.Prelude.{slice_index, if◌then◌else◌}
+use Rattle.std.specs.Prelude.{length, slice_index, if◌then◌else◌}
+use Rattle.std.specs.Fmt.{decimal}
 use Rattle.std.specs.List.{flat_map, list_any}
 use Rattle.std.specs.FinMap as fin
 use Rattle.hex.specs.Hex.{encode_lower}
+use Rattle.object_store.specs.Names.{PlainObjects}
 use Rattle.object_store.specs.Object.{Content, PlainObject}
 
 -- digits as they are printed, or `-` if there are none
@@ -43,3 +45,17 @@ abbrev pub shown_text : Bool → PlainObject → List ℕ
 shown_text false object = []
 shown_text true None = []
 shown_text true (Some content) = content_text content
+
+-- the numbers of its bytes, xattrs and keys, at the end of a line
+abbrev pub sizes_text : Content → List ℕ
+sizes_text content =
+    codes " " ++ (decimal (length content.bytes) ++ (codes " " ++ (decimal (fin.len content.xattrs)
+    ++ (codes " " ++ (decimal (fin.len content.omap) ++ codes "\n")))))
+
+-- AN OBJECT BY ITS NAME: a line with the name and these numbers, and then the lines above
+abbrev pub named_text : List ℕ × Content → List ℕ
+named_text entry = codes "object " ++ name_text entry.0 ++ sizes_text entry.1 ++ content_text entry.1
+
+-- of several objects, in the order of their names
+abbrev pub objects_text : PlainObjects → List ℕ
+objects_text objects = flat_map named_text (fin.entries objects)

@@ -1,6 +1,7 @@
 //! The object of a call, as words and a text spell it: `object_before` gives that of words,
-//! `spelled_object` that of a text, or the first refusal; `shown_text` gives an object's text, and
-//! `save` writes it to a file, if it would be read back as the same object. `large_before`,
+//! `spelled_object` that of a text, or the first refusal; `shown_text` gives an object's text,
+//! `objects_text` that of several by their names, and `save` writes it to a file, if it would be
+//! read back as the same object. `large_before`,
 //! `spelled_large`, `large_text` and `save_large` do so by an OSD's limits.
 #![tactic(auto)]
 
@@ -16,4 +17,4 @@ pub use large_given::{large_before, spelled_large};
 pub use large_saved::{large_text, save_large};
 pub use method_call::{MethodCall, SpelledEntry};
 pub use saved::{save, spelled_object};
-pub use shown::shown_text;
+pub use shown::{objects_text, shown_text};

@@ -5,9 +5,9 @@ ghost use Rattle.std.specs.FinMap as fin;
 ghost use Rattle.std.specs.Option.{option_copied};
 ghost use Rattle.hex.specs.Hex.{encode_lower};
 ghost use Rattle.object_texts.specs.Shown.{content_text, data_line, entry_line, is_printable, is_text, name_text};
-ghost use Rattle.object_texts.specs.Shown.{or_dash, shown_text};
+ghost use Rattle.object_texts.specs.Shown.{named_text, objects_text, or_dash, shown_text, sizes_text};
 
-use object_store::Object;
+use object_store::{Object, Objects};
 use std::alloc::{AllocError, Global};
 
 /// Adds bytes in hexadecimal, or `-` if there are none.
@@ -168,4 +168,41 @@ pub fn shown_text(
         Some(object) if is_shown => content_text(alloc, object),
         _ => Ok(String::new(alloc)),
     }
+}
+
+/// The numbers of an object's bytes, xattrs and keys, at the end of a line.
+fn sizes_text(alloc: Global, object: &Object) -> Result<String, AllocError>
+    ensures { IfOk result (λ text. string_bytes text ≡ sizes_text object.now) }
+{
+    let (bytes, xattrs, keys) = (object.len(), object.xattr_count(), object.key_count());
+    format!(in alloc; " {bytes} {xattrs} {keys}\n")
+}
+
+/// Adds an object by its name: the line that names it, and the lines of all that it holds.
+fn push_named(
+    alloc: Global,
+    out: &mut String,
+    name: &[u8],
+    object: &Object,
+) -> Result<(), AllocError>
+    ensures { OnOk result (string_bytes out.new ≡ string_bytes out.old ++ named_text (name.now, object.now)) }
+{
+    out.push_str("object ")?;
+    push_name(alloc, out, name)?;
+    out.push_str(&sizes_text(alloc, object)?)?;
+    out.push_str(&content_text(alloc, object)?)
+}
+
+/// The lines of objects, in the order of their names' bytes: of each `object NAME D X K`, with its
+/// numbers of bytes, xattrs and keys, and then the lines that show it.
+pub fn objects_text(alloc: Global, objects: &Objects) -> Result<String, AllocError>
+    ensures { IfOk result (λ text. string_bytes text ≡ objects_text objects.now) }
+{
+    let mut text = String::new(alloc);
+    for n in 0..objects.len() {
+        if let Some((name, object)) = objects.nth(n) {
+            push_named(alloc, &mut text, name, object)?;
+        }
+    }
+    Ok(text)
 }

@@ -15,8 +15,9 @@
 //!   with the raw code in its FILE, written to the file OUT.
 //! - `radoscls dis IN [--slots]`: the text of the class in the file IN, with each instruction's
 //!   slot or without.
-//! - `radoscls sim FILE [--class NAME=IMAGE ..] [--trace]`: what each event of the file FILE comes
-//!   to, or a drawing of the run; a request asks `lock`, `obj` or one of those classes by name.
+//! - `radoscls sim FILE [--class NAME=IMAGE ..] [--trace] [--objects]`: what each event of the file
+//!   FILE comes to, and what the objects of a node hold, or a drawing of the run; a request asks
+//!   `lock`, `obj` or one of those classes by name.
 //! - `radoscls cluster FILE [--class NAME=IMAGE ..] [--stats]`: how each call of the clients in the
 //!   file FILE ends on a cluster in threads, and what that took.
 //!

@@ -118,10 +118,10 @@ refused_by before after old new words Refused n is ends one = ends
 refused_by before after old new words Usage n is ends one = let bad : 2 ≡ 1 = sym is ∙ one in absurd (omega arith)
 
 -- a file of events that was played to its end left no failed write
-plays_well : (b : Bool) (classes : Classes) (names : List (List ℕ)) (text : List ℕ) (old new : Option (List ℕ)) (failed fails : Bool)
-    → Plays b classes names text old new failed fails ending.Done → fails ≡ failed
-plays_well true classes names text old new failed fails shows = shows.shown.well
-plays_well false classes names text old new failed fails prints = prints.shown.well
+plays_well : (b shown : Bool) (classes : Classes) (names : List (List ℕ)) (text : List ℕ) (old new : Option (List ℕ)) (failed fails : Bool)
+    → Plays b shown classes names text old new failed fails ending.Done → fails ≡ failed
+plays_well true shown classes names text old new failed fails shows = shows.shown.well
+plays_well false shown classes names text old new failed fails prints = prints.shown.well
 
 -- nor did a file of calls that were made, whether or not some were refused
 ran_well : (disk : Option Disk) (old new : Stream) (task : ClusterTask) → ClusterEnds disk old new task Done → new.failed ≡ old.failed
@@ -139,7 +139,7 @@ ran_by_loops_well before after old new call e (inr un) = absurd (let bad : Done 
 -- nor does anything that is done
 done_well : (before after : Storage) (old new : Stream) (words : List Text) → IsDone before after old new words → new.failed ≡ old.failed
 done_well before after old new words (inl answered) = answered.printed.well
-done_well before after old new words (inr (inl played)) = let p = played.ended in plays_well played.simulation.is_drawn p.classes _ p.text _ _ _ _ p.played
+done_well before after old new words (inr (inl played)) = let p = played.ended in plays_well played.simulation.is_drawn played.simulation.has_objects p.classes _ p.text _ _ _ _ p.played
 done_well before after old new words (inr (inr (inl ran))) = ran_well before.disk old new ran.asked ran.ended
 done_well before after old new words (inr (inr (inr (inl each)))) = each.ended.printed.well
 done_well before after old new words (inr (inr (inr (inr (inl tests))))) = tests.ended.shown.1.well

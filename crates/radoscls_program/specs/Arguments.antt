@@ -249,12 +249,18 @@ abbrev pub AsksHeads : Parsed → HeadsAsked → Type 0
 AsksHeads p asked =
     ((p.name ≡ codes "heads") × TakesHeads p asked) ⊎ ((p.name ≡ codes "asm") × TakesTextHeads p asked)
 
--- `sim` takes the file of events FILE, a tenant's class of each --class, and whether --trace and
--- --explain are there.
+-- With --objects a run isn't drawn.
+abbrev pub objects_are_undrawn : Parsed → Bool
+objects_are_undrawn p = not (is_set_in p (codes "objects") && is_set_in p (codes "trace"))
+
+-- `sim` takes the file of events FILE, a tenant's class of each --class, and whether --trace,
+-- --objects and --explain are there.
 pub record TakesSim (p : Parsed) (s : Simulation) : Type 0 where
+  pub undrawn : objects_are_undrawn p ≡ true
   pub file : one_in p (codes "FILE") ≡ Some s.file.now
   pub tenants : SpellsTenants (all_in p (codes "class")) s.tenants.items
   pub drawn : s.is_drawn ≡ is_set_in p (codes "trace")
+  pub objects : s.has_objects ≡ is_set_in p (codes "objects")
   pub explained : s.is_explained ≡ is_set_in p (codes "explain")
 
 -- `cluster` takes the file of calls and maps FILE, a tenant's class of each --class, and whether
@@ -265,11 +271,14 @@ pub record TakesCluster (p : Parsed) (c : Clustering) : Type 0 where
   pub shown : c.is_shown ≡ is_set_in p (codes "show")
   pub explained : c.is_explained ≡ is_set_in p (codes "explain")
 
--- `test` takes the file IN of the class and the file FILE of its tests, and whether --trace is there.
+-- `test` takes the file IN of the class and the file FILE of its tests, and whether --trace or --loops is there: not
+-- both of them.
 pub record TakesTest (p : Parsed) (asked : Testing) : Type 0 where
   pub class : one_in p (codes "IN") ≡ Some asked.class.now
   pub file : one_in p (codes "FILE") ≡ Some asked.file.now
   pub traced : asked.is_traced ≡ is_set_in p (codes "trace")
+  pub looped : asked.is_looped ≡ is_set_in p (codes "loops")
+  pub plain : loops_are_plain p ≡ true
 
 -- a task is one of these; --explain has a failure explained, --stats has a run measured, --follow has
 -- it followed, and with --strict a refused call changes the status

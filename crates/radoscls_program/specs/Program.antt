@@ -230,7 +230,7 @@ IsUnstarted before after old new Done = ⊥
 IsUnstarted before after old new Refused = IsUnread before after old new
 IsUnstarted before after old new Usage = (after ≡ before) × (new ≡ old)
 
--- the end of a process: as its words ask, or without words
+-- the end of a process: as its words ask, in which folders may be spelled out, or without words
 abbrev pub Starts : Storage → Storage → Stream → Stream → ExitStatus → Type 0
 Starts before after old new status =
     ((words : List Text) × Ends before after old new words status) ⊎ IsUnstarted before after old new status

@@ -1,6 +1,8 @@
 -- The end of `test`, and the text that it printed.
 use Rattle.std.specs.Prelude.{◌≡◌, ◌≤◌, ◌⊎◌, ◌++◌, ⊤, ℕ, Bool, true, false, List, [], Option, Some, None, length}
 use Rattle.bpf_decode.specs.Class.{ClassMethod}
+use Rattle.bpf_machine.specs.Safe.{call_outcome}
+use Rattle.class_tests.specs.Calls.{Calls, loop_outcome}
 use Rattle.class_tests.specs.Tests.{call_at, end_of}
 use Rattle.class_tests.specs.Text.{IsEndText}
 use Rattle.class_tests.specs.declared.case.Case.{Case}
@@ -13,6 +15,7 @@ use Rattle.class_tool.specs.RunReport.{IsTraceText}
 use Rattle.program_files.specs.declared.failure.Failure.{Failure}
 use Rattle.program_files.specs.declared.failure.Failure.TheVariants.{NoMemory}
 use Rattle.verifier.specs.Verified.{method_named}
+use Rattle.loop_tool.specs.Safe.{IsLoopSafeIn, LoopLoadFails}
 use Rattle.radoscls_program.specs.Streams.{IsTold, Lost, Stream, Took}
 use Rattle.radoscls_program.specs.declared.status.ExitStatus.{ExitStatus}
 use Rattle.radoscls_program.specs.declared.status.ExitStatus.TheVariants.{Done, Refused, Usage}
@@ -46,19 +49,39 @@ pub record AreEndLines (is_traced : Bool) (class : List ClassMethod) (tests : Li
   pub traced : IsTraceBelow is_traced class tests end below
   pub same : lines ≡ above ++ below
 
+-- A file holds a class that is safe: each method to its exit, or with --loops to it or by its budget. What its calls
+-- come to, and if one is traced: with --loops none is.
+abbrev pub IsTestable : Bool → Option Disk → List ℕ → List ClassMethod → Type 0
+IsTestable false disk name class = IsSafeIn disk name class
+IsTestable true disk name class = IsLoopSafeIn disk name class
+
+abbrev pub calls_by : Bool → Calls
+calls_by false = call_outcome
+calls_by true = loop_outcome
+
+abbrev pub traces : Bool → Bool → Bool
+traces false is_traced = is_traced
+traces true is_traced = false
+
 -- The tests in a file have that end on the class in another file, which is safe, and those lines.
 pub record IsTested (disk : Option Disk) (asked : Testing) (end : TestEnd) (lines : List ℕ) : Type 0 where
   pub class : List ClassMethod
-  pub loaded : IsSafeIn disk asked.class.now class
+  pub loaded : IsTestable asked.is_looped disk asked.class.now class
   pub text : List ℕ
   pub held : Holds disk asked.file.now text
-  pub same : end ≡ end_of class text
-  pub shown : AreEndLines asked.is_traced class text end lines
+  pub same : end ≡ end_of (calls_by asked.is_looped) class text
+  pub shown : AreEndLines (traces asked.is_looped asked.is_traced) class text end lines
+
+-- why a file has no such class
+abbrev pub IsUntestable : Bool → Option Disk → List ℕ → Failure → Type 0
+IsUntestable false disk name failure = LoadFails disk name failure
+IsUntestable true disk name failure = LoopLoadFails disk name failure
 
 -- There is no end: no safe class was read, or no text of tests, or memory was refused.
 abbrev pub TestingFails : Option Disk → Testing → Failure → Type 0
 TestingFails disk asked failure =
-    LoadFails disk asked.class.now failure ⊎ TextFails disk asked.file.now failure ⊎ (failure ≡ NoMemory)
+    IsUntestable asked.is_looped disk asked.class.now failure ⊎ TextFails disk asked.file.now failure ⊎
+    (failure ≡ NoMemory)
 
 -- each line of the tests holds
 abbrev pub Passes : TestEnd → Type 0

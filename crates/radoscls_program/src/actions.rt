@@ -16,7 +16,7 @@ ghost use Rattle.radoscls_program.specs.Arguments.{TakesCall, TakesCluster, Take
 ghost use Rattle.radoscls_program.specs.Arguments.{TakesHeads, TakesSim, budget_in};
 ghost use Rattle.radoscls_program.specs.Arguments.{FindsHeads, FindsNone, given_budget, heads_are_alone};
 ghost use Rattle.radoscls_program.specs.Arguments.{IsOfKind, limits_named, loads_alone, rules_named, saves_apart};
-ghost use Rattle.radoscls_program.specs.Arguments.{takes_limits};
+ghost use Rattle.radoscls_program.specs.Arguments.{objects_are_undrawn, takes_limits};
 ghost use Rattle.class_tests.specs.Spelled.{of_kind};
 ghost use Rattle.radoscls_program.specs.Entries.{AreEntries};
 ghost use Rattle.radoscls_program.specs.Tenants.{SpellsTenants, are_tenants};
@@ -382,6 +382,18 @@ fn tenants_of<'a>(
     tenants_in(alloc, &texts)
 }
 
+/// Refuses words that ask for a drawing, and for objects, which it doesn't show.
+fn check_drawn<'a>(words: &ParsedWords<'a>) -> Result<(), Mistake<'a>>
+    ensures ok { IfOk result (λ _. objects_are_undrawn (parsed_of words.now) ≡ true) }
+    ensures err { IfErr result (λ _. objects_are_undrawn (parsed_of words.now) ≡ false) }
+{
+    if words.is_set("objects") && words.is_set("trace") {
+        Err(Mistake::ObjectsDrawn)
+    } else {
+        Ok(())
+    }
+}
+
 /// The run that `sim` asks for.
 pub(crate) fn simulation_of<'a>(
     alloc: Global,
@@ -391,12 +403,14 @@ pub(crate) fn simulation_of<'a>(
     ensures none { IfErr result (λ m. m ≢ Mistake.NoMemory → (asked : ASimulation) →
         TakesSim (parsed_of words.now) asked → ⊥) }
 {
+    check_drawn(words)?;
     let file = wanted(words, "FILE")?;
     let tenants = tenants_of(alloc, words)?;
     Ok(Simulation {
         file,
         tenants,
         is_drawn: words.is_set("trace"),
+        has_objects: words.is_set("objects"),
         is_explained: words.is_set("explain"),
     })
 }

@@ -66,7 +66,7 @@ fn is_ceph(words: &ParsedWords<'_>) -> bool
     }
 }
 
-/// Refuses words that ask for a call by loops, and for what it doesn't have.
+/// Refuses words that ask for calls by loops, and for what these don't have.
 fn check_plain<'a>(words: &ParsedWords<'a>) -> Result<(), Mistake<'a>>
     ensures ok { IfOk result (λ _. loops_are_plain (parsed_of words.now) ≡ true) }
     ensures err { IfErr result (λ _. loops_are_plain (parsed_of words.now) ≡ false) }
@@ -171,13 +171,14 @@ fn test_task<'a>(words: &ParsedWords<'a>) -> Result<Task<'a>, Mistake<'a>>
     ensures named { IfOk result (Names (parsed_of words.now)) }
     ensures unnamed { IfErr result (λ m. m ≢ Mistake.NoMemory → (task : ATask) → Names (parsed_of words.now) task → ⊥) }
 {
+    check_plain(words)?;
     let class = wanted(words, "IN")?;
     let file = wanted(words, "FILE")?;
-    let is_traced = words.is_set("trace");
     let asked = Testing {
         class,
         file,
-        is_traced,
+        is_traced: words.is_set("trace"),
+        is_looped: words.is_set("loops"),
     };
     Ok(Task::Test(asked, words.is_set("explain")))
 }

@@ -9,6 +9,7 @@ mod actions;
 mod asked;
 mod entry;
 mod error_stream;
+mod folders;
 mod inputs;
 mod judging;
 mod looping;
@@ -24,6 +25,7 @@ mod telling;
 mod tenant_class;
 mod testing;
 mod threads;
+mod unplayed;
 mod values;
 
 pub use perform::program;

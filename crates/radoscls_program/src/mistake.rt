@@ -27,6 +27,8 @@ pub(crate) enum Mistake<'a> {
     HeadsOfMore,
     /// A budget is given to `asm` or `pack`, and no heads are found.
     BudgetOfNone,
+    /// A drawing shows no objects.
+    ObjectsDrawn,
 }
 
 /// The form that an argument wants of its text.
@@ -137,6 +139,12 @@ impl Mistake<'_> {
                 String::from_str(
                     alloc,
                     "the argument '--budget <N>' cannot be used without '--heads'",
+                )
+            }
+            Mistake::ObjectsDrawn => {
+                String::from_str(
+                    alloc,
+                    "the argument '--objects' cannot be used with '--trace'",
                 )
             }
             Mistake::Value(wanted, text) => {

@@ -21,9 +21,10 @@ use crate::looping::{find_heads, judge_loops, pack_heads, run_looped};
 use crate::showing::show;
 use crate::status::{ActionEnd, ExitStatus};
 use crate::task::{ClusterTask, GivenCall, Task, Telling};
-use crate::telling::{add, asked_note, refuse, tell, tell_as};
+use crate::telling::{add, asked_note, refuse, tell_as};
 use crate::testing::test;
 use crate::threads::play_cluster;
+use crate::unplayed::{Unplayed, tell_unplayed};
 use crate::values::{call_with, filled};
 use class_tool::{Action, ActionResult, find};
 use cluster_tool::{Figures, Meter};
@@ -209,7 +210,14 @@ fn play<F: Files, O: Output>(
         Ok(SimulationEnd::Bad) => add(&asked_note(alloc, why, is_explained), out),
         Ok(SimulationEnd::Unprinted) => ExitStatus::Refused,
         Ok(SimulationEnd::NoMemory) => refuse(Failure::NoMemory, out),
-        Err(failure) => tell(alloc, files, &Failed::from(failure), is_explained, out),
+        Err(failure) => {
+            let classes = &simulation.tenants;
+            let asked = Unplayed {
+                classes,
+                is_explained,
+            };
+            tell_unplayed(alloc, files, asked, failure, out)
+        }
     }
 }
 

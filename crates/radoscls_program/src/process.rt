@@ -10,6 +10,7 @@ ghost use Rattle.radoscls_program.specs.Streams.{stream};
 ghost use Rattle.radoscls_program.specs.declared.status.ExitStatus.{ExitStatus as AStatus};
 
 use crate::error_stream::ErrorStream;
+use crate::folders::spelled_out;
 use crate::perform::perform;
 use crate::status::ExitStatus;
 use crate::telling::refuse;
@@ -25,9 +26,11 @@ use std::{env, io};
 /// The message on words that are no text.
 const NO_TEXT: &[u8] = b"error: invalid UTF-8 was detected in one or more arguments\n";
 
-/// The words of the command line, of which the first is the program's own name.
-fn words<R: Env + AllocGlobal>(rt: &R) -> io::Result<Vec<String>> {
-    Ok(env::args(rt)?.collect(rt.alloc())?)
+/// The words of the command line, of which the first is the program's own name; a folder of `verify`
+/// is spelled out.
+fn words<R: Env + Files + AllocGlobal + Clone + Drop>(rt: &R) -> io::Result<Vec<String>> {
+    let words = env::args(rt)?.collect(rt.alloc())?;
+    Ok(spelled_out(rt, words)?)
 }
 
 /// Says why there are no words: on `out` if memory for them was refused, and on `err`, as of
@@ -99,9 +102,10 @@ pub fn end_of<
 /// Runs `end_of` on the process's own words and files, and gives the number of its status:
 /// `program`'s answer, or if the words could not be read 1 for want of memory, of which a line is
 /// printed, and 2 for a word that is no text, which a line on `err` says. On a terminal, `cluster`
-/// without `--stats` tells there how far it is.
+/// without `--stats` tells there how far it is. In the words a folder that `verify` is given stands
+/// for the files of classes in it.
 pub fn start<
-    R: Env + Files + AllocGlobal + Input + Threads + Wait + Clock + Sync,
+    R: Env + Files + AllocGlobal + Input + Threads + Wait + Clock + Sync + Clone + Drop,
     O: Output,
     E: io::Write + IsTerminal,
 >(rt: &R, out: &mut O, err: &mut E) -> ExitCode

@@ -43,6 +43,8 @@ pub(crate) struct Testing<'a> {
     pub(crate) file: &'a str,
     /// True if a call that answers otherwise is traced.
     pub(crate) is_traced: bool,
+    /// True if methods may loop, and run by their budgets: then no call is traced.
+    pub(crate) is_looped: bool,
 }
 
 /// A file of calls and maps, to be played on a cluster in threads.

@@ -1,5 +1,5 @@
 -- The played worlds after the lines of a file: each is an agreed one.
-use Rattle.std.proofs.Common.{◌≡◌, ◌⊎◌, inl, inr, ℕ, zero, suc, Bool, true, false, if◌then◌else◌, List, [], ◌∷◌, ◌++◌, Some, take, refl, sym, subst, arith, append_assoc, append-nil}
+use Rattle.std.proofs.Common.{◌≡◌, ◌⊎◌, inl, inr, ℕ, zero, suc, Bool, true, false, if◌then◌else◌, List, [], ◌∷◌, ◌++◌, take, refl, sym, subst, arith, append_assoc, append-nil}
 use Rattle.std.proofs.lemmas.List.Elements.{Contains-append_left, Contains-append_right, Contains-append_cases}
 use Rattle.std.specs.List.{Contains}
 use Rattle.pg_log.specs.Requests.{ClientRequest}
@@ -16,21 +16,21 @@ use Rattle.sim_world.specs.declared.taken.Taken.{Taken}
 use Rattle.sim_world.specs.declared.taken.Taken.TheVariants as taken
 use Rattle.sim_world.specs.Step.{Played, Happened, beginning, step}
 use Rattle.sim_world.specs.Agreed.{EventsGrew, EventsLead, IsAgreedPlayed, WorldsAgree, taken_by}
-use Rattle.sim.specs.Run.{IsAgreedRun, Printed, asked, asked_in, before_rest, line_text, run_from}
+use Rattle.sim.specs.Run.{IsAgreedRun, Printed, asked, asked_in, before_rest, run_from, text_of}
 use Rattle.sim.specs.Simulating.{AllWorldsKnown}
 use Rattle.sim.proofs.Replying.{replies_ran}
 use Rattle.sim.proofs.Typed.{asked_typed}
 
 -- the played world after lines, from a given one on
-abbrev from : List (List ℕ) → ℕ → Played → List (List ℕ) → Played
-from names number p ls = (run_from names number p ls).played
+abbrev from : (ℕ → Happened → List ℕ) → List (List ℕ) → ℕ → Played → List (List ℕ) → Played
+from say names number p ls = (run_from say names number p ls).played
 
 -- the text of a bad line, and of a good one before the rest
-abbrev bad_end : ℕ → Happened → Printed
-bad_end number h = record { text = line_text number h.played.world.sent h.taken; bad = true; played = h.played }
+abbrev bad_end : (ℕ → Happened → List ℕ) → ℕ → Happened → Printed
+bad_end say number h = record { text = say number h; bad = true; played = h.played }
 
-abbrev good_rest : List (List ℕ) → ℕ → Happened → List (List ℕ) → Printed
-good_rest names number h ls = before_rest (line_text number h.played.world.sent h.taken) (run_from names number h.played ls)
+abbrev good_rest : (ℕ → Happened → List ℕ) → List (List ℕ) → ℕ → Happened → List (List ℕ) → Printed
+good_rest say names number h ls = before_rest (say number h) (run_from say names number h.played ls)
 
 -- what holds of both worlds holds of the one that is reached
 either_played : (P : Played → Type 0) (b : Bool) (x y : Printed) → P x.played → P y.played → P (if b then x else y).played
@@ -42,34 +42,34 @@ both_played R true x y u v p q = p
 both_played R false x y u v p q = q
 
 -- EVENTS LEAD to each
-leads_on : (classes : Classes) → WorldsAgree → (names : List (List ℕ)) (number : ℕ) (p : Played) (ls : List (List ℕ)) → EventsLead classes p → EventsLead classes (from names number p ls)
-leads_on classes agree names number p [] leads = leads
-leads_on classes agree names number p (line ∷ ls) leads =
+leads_on : (say : ℕ → Happened → List ℕ) (classes : Classes) → WorldsAgree → (names : List (List ℕ)) (number : ℕ) (p : Played) (ls : List (List ℕ)) → EventsLead classes p → EventsLead classes (from say names number p ls)
+leads_on say classes agree names number p [] leads = leads
+leads_on say classes agree names number p (line ∷ ls) leads =
     let l = line_of names line in
     let h = step p l in
     let next = (agree.next classes p l leads).0.leads in
-    either_played (EventsLead classes) (is_bad h.taken) (bad_end (suc number) h) (good_rest names (suc number) h ls)
-    next (leads_on classes agree names (suc number) h.played ls next)
+    either_played (EventsLead classes) (is_bad h.taken) (bad_end say (suc number) h) (good_rest say names (suc number) h ls)
+    next (leads_on say classes agree names (suc number) h.played ls next)
 
 agreed_on : (classes : Classes) → WorldsAgree → (p : Played) → EventsLead classes p → IsAgreedPlayed classes p
 agreed_on classes agree p leads = (agree.next classes p lines.Empty leads).0
 
 -- BETWEEN TWO LINES: what holds of a world and itself, and of a line, holds from one to the next
-between : (classes : Classes) → WorldsAgree → (R : Played → Played → Type 0) → ((q : Played) → R q q) → ((q : Played) (l : Line) → EventsLead classes q → R q (step q l).played)
-    → (names : List (List ℕ)) (number : ℕ) (p : Played) (ls : List (List ℕ)) (n : ℕ) → EventsLead classes p → R (from names number p (take n ls)) (from names number p (take (suc n) ls))
-between classes agree R same line_is names number p [] zero leads = same p
-between classes agree R same line_is names number p [] (suc n) leads = same p
-between classes agree R same line_is names number p (line ∷ ls) zero leads =
+between : (say : ℕ → Happened → List ℕ) (classes : Classes) → WorldsAgree → (R : Played → Played → Type 0) → ((q : Played) → R q q) → ((q : Played) (l : Line) → EventsLead classes q → R q (step q l).played)
+    → (names : List (List ℕ)) (number : ℕ) (p : Played) (ls : List (List ℕ)) (n : ℕ) → EventsLead classes p → R (from say names number p (take n ls)) (from say names number p (take (suc n) ls))
+between say classes agree R same line_is names number p [] zero leads = same p
+between say classes agree R same line_is names number p [] (suc n) leads = same p
+between say classes agree R same line_is names number p (line ∷ ls) zero leads =
     let l = line_of names line in
     let h = step p l in
     let is = line_is p l leads in
-    either_played (R p) (is_bad h.taken) (bad_end (suc number) h) (good_rest names (suc number) h []) is is
-between classes agree R same line_is names number p (line ∷ ls) (suc n) leads =
+    either_played (R p) (is_bad h.taken) (bad_end say (suc number) h) (good_rest say names (suc number) h []) is is
+between say classes agree R same line_is names number p (line ∷ ls) (suc n) leads =
     let l = line_of names line in
     let h = step p l in
     let next = (agree.next classes p l leads).0.leads in
-    both_played R (is_bad h.taken) (bad_end (suc number) h) (good_rest names (suc number) h (take n ls)) (bad_end (suc number) h) (good_rest names (suc number) h (take (suc n) ls))
-    (same h.played) (between classes agree R same line_is names (suc number) h.played ls n next)
+    both_played R (is_bad h.taken) (bad_end say (suc number) h) (good_rest say names (suc number) h (take n ls)) (bad_end say (suc number) h) (good_rest say names (suc number) h (take (suc n) ls))
+    (same h.played) (between say classes agree R same line_is names (suc number) h.played ls n next)
 
 abbrev grew : Played → Played → Type 0
 grew p q = EventsGrew p.events q.events
@@ -116,10 +116,10 @@ both_within known own old new rs all e is = λ r h.
       | inr now ↦ Contains-append_right known own r (either_list own rs r is now)
     ]
 
-brought_on : (classes : Classes) → WorldsAgree → (names : List (List ℕ)) (number : ℕ) (p : Played) (ls : List (List ℕ)) (known : List ClientRequest) → EventsLead classes p
-    → Within known (brought p.events) → Within (known ++ asked names ls) (brought (from names number p ls).events)
-brought_on classes agree names number p [] known leads all = λ r h. Contains-append_left known [] r (all r h)
-brought_on classes agree names number p (line ∷ ls) known leads all =
+brought_on : (say : ℕ → Happened → List ℕ) (classes : Classes) → WorldsAgree → (names : List (List ℕ)) (number : ℕ) (p : Played) (ls : List (List ℕ)) (known : List ClientRequest) → EventsLead classes p
+    → Within known (brought p.events) → Within (known ++ asked names ls) (brought (from say names number p ls).events)
+brought_on say classes agree names number p [] known leads all = λ r h. Contains-append_left known [] r (all r h)
+brought_on say classes agree names number p (line ∷ ls) known leads all =
     let l = line_of names line in
     let h = step p l in
     let is = agree.next classes p l leads in
@@ -127,10 +127,10 @@ brought_on classes agree names number p (line ∷ ls) known leads all =
     let now : Within (known ++ own) (brought h.played.events) =
     both_within known own (brought p.events) (brought h.played.events) (taken_by l h.taken) all is.1.brought (line_own l h.taken) in
     let P : Played → Type 0 = λ q. Within ((known ++ own) ++ asked names ls) (brought q.events) in
-    subst (λ (xs : List ClientRequest). Within xs (brought (from names number p (line ∷ ls)).events)) (append_assoc known own (asked names ls))
-    (either_played P (is_bad h.taken) (bad_end (suc number) h) (good_rest names (suc number) h ls)
+    subst (λ (xs : List ClientRequest). Within xs (brought (from say names number p (line ∷ ls)).events)) (append_assoc known own (asked names ls))
+    (either_played P (is_bad h.taken) (bad_end say (suc number) h) (good_rest say names (suc number) h ls)
     (λ r k. Contains-append_left (known ++ own) (asked names ls) r (now r k))
-    (brought_on classes agree names (suc number) h.played ls (known ++ own) is.0.leads now))
+    (brought_on say classes agree names (suc number) h.played ls (known ++ own) is.0.leads now))
 
 -- nothing was brought before the first line
 none_brought : Within [] (brought [])
@@ -140,17 +140,18 @@ none_brought r h = let low = h.1 in absurd (omega arith)
 agreed_run : WorldsAgree → RepliesRun → (classes : Classes) (names ls : List (List ℕ)) → IsAgreedRun classes names ls
 agreed_run agree law classes names ls =
     let first = beginning classes in
+    let say = text_of false classes in
     let leads : EventsLead classes first = refl in
-    let agreed : (n : ℕ) → IsAgreedPlayed classes (from names 0 first (take n ls)) =
-    λ n. agreed_on classes agree (from names 0 first (take n ls)) (leads_on classes agree names 0 first (take n ls) leads) in
-    let known : (n : ℕ) → Within (asked names (take n ls)) (brought (from names 0 first (take n ls)).events) =
-    λ n. brought_on classes agree names 0 first (take n ls) [] leads none_brought in
+    let agreed : (n : ℕ) → IsAgreedPlayed classes (from say names 0 first (take n ls)) =
+    λ n. agreed_on classes agree (from say names 0 first (take n ls)) (leads_on say classes agree names 0 first (take n ls) leads) in
+    let known : (n : ℕ) → Within (asked names (take n ls)) (brought (from say names 0 first (take n ls)).events) =
+    λ n. brought_on say classes agree names 0 first (take n ls) [] leads none_brought in
     record {
       agreed = agreed;
       brought = known;
-      events = λ n. between classes agree grew (λ q. record { own = []; few = omega arith; is = sym (append-nil q.events) }) (λ q l h. (agree.next classes q l h).1.events) names 0 first ls n leads;
-      uncut = λ n. between classes agree uncut (λ q m. prefix_refl (committed_list (q.world.nodes m))) (λ q l h. (agree.next classes q l h).1.uncut) names 0 first ls n leads;
-      replies = λ all n. replies_ran law classes (from names 0 first (take n ls)) (agreed n) all (λ r h. asked_typed names (take n ls) r (known n r h));
+      events = λ n. between say classes agree grew (λ q. record { own = []; few = omega arith; is = sym (append-nil q.events) }) (λ q l h. (agree.next classes q l h).1.events) names 0 first ls n leads;
+      uncut = λ n. between say classes agree uncut (λ q m. prefix_refl (committed_list (q.world.nodes m))) (λ q l h. (agree.next classes q l h).1.uncut) names 0 first ls n leads;
+      replies = λ all n. replies_ran law classes (from say names 0 first (take n ls)) (agreed n) all (λ r h. asked_typed names (take n ls) r (known n r h));
     }
 
 pub worlds_known : WorldsAgree → RepliesRun → AllWorldsKnown

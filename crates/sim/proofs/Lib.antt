@@ -1,4 +1,5 @@
 pub mod Agreeing
+mod Making
 mod Picturing
 mod Reaching
 mod Replying

@@ -6,9 +6,11 @@ use Rattle.std.specs.Fmt.{decimal}
 use Rattle.std.specs.Io.KnownBytes.{Appends}
 use Rattle.std.specs.List.{AllByRecursion, Contains}
 use Rattle.pg_log.specs.Requests.{ClientRequest}
-use Rattle.pg_log.specs.Log.{Classes}
+use Rattle.object_texts.specs.Shown.{objects_text}
+use Rattle.pg_log.specs.Log.{Classes, fold}
 use Rattle.group_world.specs.World.{IsUncut, brought}
 use Rattle.group_world.specs.declared.message.Packet.{Packet}
+use Rattle.peering.specs.Numbered.{NumberedNode}
 use Rattle.sim.specs.declared.file.SimulationEnd.{SimulationEnd}
 use Rattle.sim.specs.declared.file.SimulationEnd.TheVariants.{Done, Bad, NoMemory, Unprinted}
 use Rattle.program_files.specs.Output.{Begins}
@@ -19,9 +21,10 @@ use Rattle.sim_world.specs.Texts.{is_bad, taken_text}
 use Rattle.sim_world.specs.declared.line.Line.{Line}
 use Rattle.sim_world.specs.declared.line.Line.TheVariants.{Ask}
 use Rattle.sim_world.specs.declared.taken.Taken.{Taken}
+use Rattle.sim_world.specs.declared.taken.Taken.TheVariants.{Shown}
 use Rattle.sim_world.specs.Step.{Played, Happened, beginning, step}
 use Rattle.sim_world.specs.Agreed.{EventsGrew, IsAgreedPlayed}
-use Rattle.sim_world.specs.Holds.{Holds}
+use Rattle.sim_world.specs.Holds.{Holds, node_at}
 use Rattle.sim_world.specs.inner.Parts.{Parts}
 
 -- a line that can't be done, by its number from 1
@@ -31,6 +34,21 @@ bad_line number = codes "line " ++ decimal number ++ codes ": bad\n"
 -- the text of a line, by the messages that were sent up to it
 abbrev pub line_text : ℕ → List Packet → Taken → List ℕ
 line_text number sent taken = if is_bad taken then bad_line number else taken_text sent taken
+
+-- THE OBJECTS OF A NODE: those that its log makes, each by its name
+abbrev pub node_objects : Classes → Option NumberedNode → List ℕ
+node_objects classes None = []
+node_objects classes (Some node) = objects_text (fold classes node.state.log)
+
+-- what stands below the text of a line: the objects of the node that it shows
+abbrev pub below : Classes → Played → Taken → List ℕ
+below classes p (Shown s) = node_objects classes (node_at p s.node)
+below classes p _ = []
+
+-- what is printed of a line, without objects or with them
+abbrev pub text_of : Bool → Classes → ℕ → Happened → List ℕ
+text_of false classes number h = line_text number h.played.world.sent h.taken
+text_of true classes number h = line_text number h.played.world.sent h.taken ++ below classes h.played h.taken
 
 -- The text of lines, whether one is bad, and the played world after them.
 pub record Printed : Type 0 where
@@ -42,24 +60,25 @@ pub record Printed : Type 0 where
 abbrev pub before_rest : List ℕ → Printed → Printed
 before_rest text rest = record { text = text ++ rest.text; bad = rest.bad; played = rest.played }
 
--- a line, and then the rest from the world after it; nothing follows a bad line
-abbrev pub go_on : ℕ → (Played → Printed) → Happened → Printed
-go_on number rest h = let text = line_text number h.played.world.sent h.taken in
+-- a line, of which that is printed, and then the rest from the world after it; nothing follows a bad
+-- line
+abbrev pub go_on : (ℕ → Happened → List ℕ) → ℕ → (Played → Printed) → Happened → Printed
+go_on say number rest h = let text = say number h in
     if is_bad h.taken then record { text = text; bad = true; played = h.played } else before_rest text (rest h.played)
 
 -- from a played world, after this number of lines
-abbrev pub run_from : List (List ℕ) → ℕ → Played → List (List ℕ) → Printed
-run_from names number p [] = record { text = []; bad = false; played = p }
-run_from names number p (line ∷ lines) =
-    go_on (suc number) (λ q. run_from names (suc number) q lines) (step p (line_of names line))
+abbrev pub run_from : (ℕ → Happened → List ℕ) → List (List ℕ) → ℕ → Played → List (List ℕ) → Printed
+run_from say names number p [] = record { text = []; bad = false; played = p }
+run_from say names number p (line ∷ lines) =
+    go_on say (suc number) (λ q. run_from say names (suc number) q lines) (step p (line_of names line))
 
--- THE LINES OF A FILE, with these classes and their names.
-abbrev pub run_lines : Classes → List (List ℕ) → List (List ℕ) → Printed
-run_lines classes names lines = run_from names 0 (beginning classes) lines
+-- THE LINES OF A FILE, with these classes and their names, and with objects or without them.
+abbrev pub run_lines : Bool → Classes → List (List ℕ) → List (List ℕ) → Printed
+run_lines shown classes names lines = run_from (text_of shown classes) names 0 (beginning classes) lines
 
 -- THE WORLDS ON THE WAY: the played world after the given number of lines.
 abbrev pub played_after : Classes → List (List ℕ) → List (List ℕ) → ℕ → Played
-played_after classes names lines above = (run_lines classes names (take above lines)).played
+played_after classes names lines above = (run_lines false classes names (take above lines)).played
 
 -- the requests of the `req` lines
 abbrev pub asked_in : Line → List ClientRequest
@@ -98,11 +117,11 @@ pub record Prints (printed : Printed) (bad : Bool) (old new : Option (List ℕ))
   pub is : printed.bad ≡ bad
 
 -- Memory was refused at a line: the lines above it were done and printed, and none of them is bad.
-pub record Stops (classes : Classes) (names lines : List (List ℕ)) (old new : Option (List ℕ))
+pub record Stops (shown : Bool) (classes : Classes) (names lines : List (List ℕ)) (old new : Option (List ℕ))
     (failed fails : Bool) : Type 0 where
   pub above : ℕ
   pub within : above ≤ length lines
-  pub printed : Prints (run_lines classes names (take above lines)) false old new failed fails
+  pub printed : Prints (run_lines shown classes names (take above lines)) false old new failed fails
 
 -- A write or a flush failed: a beginning of the text of all lines was printed.
 pub record BreaksOff (printed : Printed) (old new : Option (List ℕ)) (fails : Bool) : Type 0 where
@@ -110,24 +129,27 @@ pub record BreaksOff (printed : Printed) (old new : Option (List ℕ)) (fails : 
   pub failed : fails ≡ true
 
 -- The end of a run.
-abbrev pub EndsBy : Classes → List (List ℕ) → List (List ℕ) → Option (List ℕ) → Option (List ℕ) → Bool → Bool →
-    SimulationEnd → Type 0
-EndsBy classes names lines old new failed fails Done = Prints (run_lines classes names lines) false old new failed fails
-EndsBy classes names lines old new failed fails Bad = Prints (run_lines classes names lines) true old new failed fails
-EndsBy classes names lines old new failed fails NoMemory = Stops classes names lines old new failed fails
-EndsBy classes names lines old new failed fails Unprinted = BreaksOff (run_lines classes names lines) old new fails
+abbrev pub EndsBy : Bool → Classes → List (List ℕ) → List (List ℕ) → Option (List ℕ) → Option (List ℕ) → Bool →
+    Bool → SimulationEnd → Type 0
+EndsBy shown classes names lines old new failed fails Done =
+    Prints (run_lines shown classes names lines) false old new failed fails
+EndsBy shown classes names lines old new failed fails Bad =
+    Prints (run_lines shown classes names lines) true old new failed fails
+EndsBy shown classes names lines old new failed fails NoMemory = Stops shown classes names lines old new failed fails
+EndsBy shown classes names lines old new failed fails Unprinted =
+    BreaksOff (run_lines shown classes names lines) old new fails
 
 -- a line was done: the world that is held after it, its text, and whether it is bad
-pub record IsLine (classes : Classes) (h : Happened) (number : ℕ) (new : Parts) (text : List ℕ)
+pub record IsLine (shown : Bool) (classes : Classes) (h : Happened) (number : ℕ) (new : Parts) (text : List ℕ)
     (bad : Bool) : Type 0 where
   pub held : Holds classes new h.played
-  pub says : text ≡ line_text number h.played.world.sent h.taken
+  pub says : text ≡ text_of shown classes number h
   pub is : bad ≡ is_bad h.taken
 
 -- so from each played world that the parts hold
-abbrev pub Takes : Classes → List (List ℕ) → List ℕ → ℕ → Parts → Parts → List ℕ → Bool → Type 0
-Takes classes names line number old new text bad =
-    (p : Played) → Holds classes old p → IsLine classes (step p (line_of names line)) number new text bad
+abbrev pub Takes : Bool → Classes → List (List ℕ) → List ℕ → ℕ → Parts → Parts → List ℕ → Bool → Type 0
+Takes shown classes names line number old new text bad =
+    (p : Played) → Holds classes old p → IsLine shown classes (step p (line_of names line)) number new text bad
 
 -- a line was done: the world that is held after it, and whether it is bad
 pub record IsDone (classes : Classes) (h : Happened) (new : Parts) (bad : Bool) : Type 0 where
@@ -161,7 +183,16 @@ pub record IsPicture (number : Option ℕ) (text : List ℕ) (bad : Bool) : Type
   pub text_is : text ≡ picture ++ bad_of number
   pub bad_is : bad ≡ is_some number
 
+-- the text is what stands below a line
+abbrev pub IsBelow : Classes → Parts → Taken → List ℕ → Type 0
+IsBelow classes parts taken text = (p : Played) → Holds classes parts p → text ≡ below classes p taken
+
 -- the text is that of the line, by the messages of the played world
 abbrev pub SaysOf : Classes → Parts → ℕ → Taken → List ℕ → Type 0
 SaysOf classes parts number taken text =
     (p : Played) → Holds classes parts p → text ≡ line_text number p.world.sent taken
+
+-- and with what stands below it, or without that
+abbrev pub SaysAll : Bool → Classes → Parts → ℕ → Taken → List ℕ → Type 0
+SaysAll shown classes parts number taken text =
+    (p : Played) → Holds classes parts p → text ≡ text_of shown classes number (record { played = p; taken = taken })

@@ -50,13 +50,14 @@ IsDrawn run old new failed fails Bad = Shows run true old new failed fails
 IsDrawn run old new failed fails NoMemory = (new ≡ old) × (fails ≡ failed)
 IsDrawn run old new failed fails Unprinted = BreaksDrawing run old new fails
 
--- A text was played: the text of its lines was printed as defined, or they were drawn.
-abbrev pub Plays : Bool → Classes → List (List ℕ) → List ℕ → Option (List ℕ) → Option (List ℕ) → Bool → Bool →
+-- A text was played: its lines were drawn, or their text was printed as defined, with objects or
+-- without them.
+abbrev pub Plays : Bool → Bool → Classes → List (List ℕ) → List ℕ → Option (List ℕ) → Option (List ℕ) → Bool → Bool →
     SimulationEnd → Type 0
-Plays true classes names text old new failed fails ending =
-    IsDrawn (run_lines classes names (lines_of text)) old new failed fails ending
-Plays false classes names text old new failed fails ending =
-    EndsBy classes names (lines_of text) old new failed fails ending
+Plays true shown classes names text old new failed fails ending =
+    IsDrawn (run_lines false classes names (lines_of text)) old new failed fails ending
+Plays false shown classes names text old new failed fails ending =
+    EndsBy shown classes names (lines_of text) old new failed fails ending
 
 -- each world on the way is an agreed one, of any lines
 abbrev pub AllWorldsKnown : Type 0
@@ -71,7 +72,7 @@ pub record Simulates (disk : Option Disk) (s : Simulation) (old new : Option (Li
   pub verified : AllByRecursion IsVerifiedClass classes
   pub text : List ℕ
   pub held : Holds disk s.file.now text
-  pub played : Plays s.is_drawn classes (names_of s.tenants.items) text old new failed fails ending
+  pub played : Plays s.is_drawn s.has_objects classes (names_of s.tenants.items) text old new failed fails ending
   pub worlds : IsAgreedRun classes (names_of s.tenants.items) (lines_of text)
 
 -- the classes were loaded, and the file of events can't be read or is no text; or memory was

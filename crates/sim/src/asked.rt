@@ -14,6 +14,8 @@ pub struct Simulation<'a> {
     pub tenants: Vec<TenantClass<'a>>,
     /// True if the run is drawn, in place of what its lines print.
     pub is_drawn: bool,
+    /// True if below each node that is shown stands what its objects hold; not of a drawing.
+    pub has_objects: bool,
     /// True if a bad line and a failure are explained.
     pub is_explained: bool,
     ghost room: { length tenants.items ≤ TENANT_LIMIT },

@@ -1,5 +1,5 @@
 //! The same run as a message sequence.
-ghost use Rattle.std.specs.Prelude.{◌≡◌, ◌++◌, IfOk, OnOk, Some, map, string_bytes};
+ghost use Rattle.std.specs.Prelude.{◌≡◌, ◌++◌, IfOk, OnOk, Some, false, map, string_bytes};
 ghost use Rattle.sim.specs.Run.{Does, HasBad, IsPicture, bad_line, run_lines};
 ghost use Rattle.sim.specs.Simulating.{Draws};
 ghost use Rattle.sim_world.specs.Lines.{lines_of};
@@ -76,7 +76,7 @@ fn take_lines<C: Classes>(
     requires classes { setup.now.table.now ≡ C.classes }
     requires first { Holds C.classes world.old (beginning C.classes) }
     ensures { IfOk result (HasBad
-        (run_lines C.classes (map (λ n. n.now) setup.now.names.now) (map (λ l. l.now) lines.now))) }
+        (run_lines false C.classes (map (λ n. n.now) setup.now.names.now) (map (λ l. l.now) lines.now))) }
 {
     let mut number = 0;
     for line in lines {
@@ -135,7 +135,7 @@ fn trace_from<C: Classes>(
     requires classes { setup.now.table.now ≡ C.classes }
     requires first { Holds C.classes world.old (beginning C.classes) }
     ensures { IfOk result
-        (λ t. Draws (run_lines C.classes (map (λ n. n.now) setup.now.names.now) (map (λ l. l.now) lines.now))
+        (λ t. Draws (run_lines false C.classes (map (λ n. n.now) setup.now.names.now) (map (λ l. l.now) lines.now))
         (string_bytes t.text) t.bad) }
 {
     let mut steps = Vec::new(setup.alloc);
@@ -152,7 +152,8 @@ fn trace_lines<C: Classes>(
 ) -> Result<Traced, AllocError>
     requires { setup.now.table.now ≡ C.classes }
     ensures { IfOk result
-        (λ t. Draws (run_lines setup.now.table.now (map (λ n. n.now) setup.now.names.now) (map (λ l. l.now) lines.now))
+        (λ t. Draws (run_lines false setup.now.table.now (map (λ n. n.now) setup.now.names.now)
+        (map (λ l. l.now) lines.now))
         (string_bytes t.text) t.bad) }
 {
     let mut world = World::<C>::new(setup.alloc)?;
@@ -163,7 +164,7 @@ fn trace_lines<C: Classes>(
 /// bad. It fails for want of memory alone.
 pub(crate) fn trace(setup: &Setup<'_>, text: &str, note: &mut String) -> Result<Traced, AllocError>
     ensures { IfOk result
-        (λ t. Draws (run_lines setup.now.table.now (map (λ n. n.now) setup.now.names.now) (lines_of text.now))
+        (λ t. Draws (run_lines false setup.now.table.now (map (λ n. n.now) setup.now.names.now) (lines_of text.now))
         (string_bytes t.text) t.bad) }
 {
     let lines = lines(setup.alloc, text)?;

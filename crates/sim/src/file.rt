@@ -2,11 +2,12 @@
 
 ghost use Rattle.std.specs.Prelude.{◌≡◌, IfOk, map, string_bytes};
 ghost use Rattle.sim_world.specs.Lines.{lines_of};
-ghost use Rattle.sim.specs.Run.{EndsBy, SaysOf, Takes};
+ghost use Rattle.sim.specs.Run.{EndsBy, SaysAll, SaysOf, Takes};
 ghost use Rattle.sim_world.specs.Holds.{Holds};
 ghost use Rattle.sim_world.specs.Step.{beginning};
 
 use crate::bad_line::bad_line;
+use crate::objects::objects_below;
 use crate::setup::Setup;
 use crate::why::why;
 use pg_log::Classes;
@@ -52,6 +53,25 @@ fn line_text<C: Classes>(
     world.text(taken)
 }
 
+/// What is printed of a line: its text, and below it the objects of the node that it shows, if they
+/// are asked for.
+fn whole_text<C: Classes>(
+    setup: &Setup<'_>,
+    world: &World<C>,
+    number: usize,
+    taken: &Taken,
+) -> Result<String, AllocError>
+    ensures { IfOk result (λ t. SaysAll setup.now.has_objects C.classes world.now number taken.now (string_bytes t)) }
+{
+    let mut text = line_text(setup.alloc, world, number, taken)?;
+    if setup.has_objects {
+        let below = objects_below(setup.alloc, world, taken)?;
+        text.push_str(below.as_str())?;
+        return Ok(text);
+    }
+    Ok(text)
+}
+
 /// Does a line, and gives what is printed of it, and whether it is bad.
 fn take_line<C: Classes>(
     setup: &Setup<'_>,
@@ -60,13 +80,13 @@ fn take_line<C: Classes>(
     line: &str,
 ) -> Result<PrintedLine, AllocError>
     requires { setup.now.table.now ≡ C.classes }
-    ensures { IfOk result (λ p. Takes C.classes
+    ensures { IfOk result (λ p. Takes setup.now.has_objects C.classes
         (map (λ n. n.now) setup.now.names.now) line.now number world.old world.new (string_bytes p.text) p.is_bad) }
 {
     let line = read_line(setup.alloc, setup.names, line)?;
     let taken = world.take(setup.table, line)?;
     let is_bad = taken.is_bad();
-    let text = line_text(setup.alloc, world, number, &taken)?;
+    let text = whole_text(setup, world, number, &taken)?;
     Ok(PrintedLine { text, is_bad })
 }
 
@@ -80,8 +100,9 @@ fn run_from<C: Classes, O: Output>(
 ) -> SimulationEnd
     requires classes { setup.now.table.now ≡ C.classes }
     requires first { Holds C.classes world.old (beginning C.classes) }
-    ensures { EndsBy setup.now.table.now (map (λ n. n.now) setup.now.names.now) (map (λ l. l.now) lines.now)
-        (O.printed out.old) (O.printed out.new) (O.failed out.old) (O.failed out.new) result }
+    ensures { EndsBy setup.now.has_objects setup.now.table.now (map (λ n. n.now) setup.now.names.now)
+        (map (λ l. l.now) lines.now) (O.printed out.old) (O.printed out.new) (O.failed out.old)
+        (O.failed out.new) result }
 {
     let mut number = 0;
     for line in lines {
@@ -111,8 +132,9 @@ fn run_lines<C: Classes, O: Output>(
     out: &mut O,
 ) -> SimulationEnd
     requires { setup.now.table.now ≡ C.classes }
-    ensures { EndsBy setup.now.table.now (map (λ n. n.now) setup.now.names.now) (map (λ l. l.now) lines.now)
-        (O.printed out.old) (O.printed out.new) (O.failed out.old) (O.failed out.new) result }
+    ensures { EndsBy setup.now.has_objects setup.now.table.now (map (λ n. n.now) setup.now.names.now)
+        (map (λ l. l.now) lines.now) (O.printed out.old) (O.printed out.new) (O.failed out.old)
+        (O.failed out.new) result }
 {
     match World::<C>::new(setup.alloc) {
         Ok(mut world) => run_from(setup, lines, &mut world, note, out),
@@ -132,8 +154,8 @@ pub(crate) fn run<O: Output>(
     note: &mut String,
     out: &mut O,
 ) -> SimulationEnd
-    ensures { EndsBy setup.now.table.now (map (λ n. n.now) setup.now.names.now) (lines_of text.now) (O.printed out.old)
-        (O.printed out.new) (O.failed out.old) (O.failed out.new) result }
+    ensures { EndsBy setup.now.has_objects setup.now.table.now (map (λ n. n.now) setup.now.names.now)
+        (lines_of text.now) (O.printed out.old) (O.printed out.new) (O.failed out.old) (O.failed out.new) result }
 {
     match lines(setup.alloc, text) {
         // The call picks the classes: they are the table's.

@@ -12,6 +12,7 @@ mod drawing;
 mod drawn;
 mod file;
 mod laws;
+mod objects;
 mod play;
 mod setup;
 mod tool;

@@ -1,6 +1,6 @@
 //! A run of a file's lines, printed or drawn.
 
-ghost use Rattle.std.specs.Prelude.{map};
+ghost use Rattle.std.specs.Prelude.{false, map};
 ghost use Rattle.sim_world.specs.Lines.{lines_of};
 ghost use Rattle.sim.specs.Run.{run_lines};
 ghost use Rattle.sim.specs.Simulating.{IsDrawn, Plays};
@@ -12,7 +12,7 @@ use program_files::Output;
 
 /// Draws the run of a text, and prints the drawing once all lines are done or one is bad.
 fn draw<O: Output>(setup: &Setup<'_>, text: &str, note: &mut String, out: &mut O) -> SimulationEnd
-    ensures { IsDrawn (run_lines setup.now.table.now (map (λ n. n.now) setup.now.names.now) (lines_of text.now))
+    ensures { IsDrawn (run_lines false setup.now.table.now (map (λ n. n.now) setup.now.names.now) (lines_of text.now))
         (O.printed out.old) (O.printed out.new) (O.failed out.old) (O.failed out.new) result }
 {
     let Ok(traced) = trace(setup, text, note) else {
@@ -35,8 +35,8 @@ pub(crate) fn play<O: Output>(
     note: &mut String,
     out: &mut O,
 ) -> SimulationEnd
-    ensures { Plays is_drawn setup.now.table.now (map (λ n. n.now) setup.now.names.now) text.now (O.printed out.old)
-        (O.printed out.new) (O.failed out.old) (O.failed out.new) result }
+    ensures { Plays is_drawn setup.now.has_objects setup.now.table.now (map (λ n. n.now) setup.now.names.now)
+        text.now (O.printed out.old) (O.printed out.new) (O.failed out.old) (O.failed out.new) result }
 {
     if is_drawn {
         draw(setup, text, note, out)

@@ -14,7 +14,8 @@ use std::alloc::Global;
 use tenant_classes::{class_names, classes};
 
 /// Loads the classes, reads the file of events, and does its lines: prints of each what it comes to
-/// before the next is done, or draws them all. Requests go to `lock` (0), `obj` (1) and the
+/// before the next is done, and what the objects of a node hold that is shown, if that is asked
+/// for; or draws them all. Requests go to `lock` (0), `obj` (1) and the
 /// tenants' classes, by their names.
 ///
 /// If a line is bad, and it is to be explained, `note` gets the lines that do so; else it stays.
@@ -44,6 +45,7 @@ pub fn simulate<F: ReadableFiles, O: Output>(
         alloc,
         table: &table,
         names: &names,
+        has_objects: simulation.has_objects,
         is_explained: simulation.is_explained,
     };
     Ok(play(&setup, &text, simulation.is_drawn, note, out))

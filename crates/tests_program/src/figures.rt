@@ -4,6 +4,7 @@ use cluster_tool::{Figures, Meter};
 use osd::{DeliveryMode, Fate, Gate};
 use std::cell::Cell;
 use std::io::{self, ErrorKind};
+use std::process::Abort;
 use std::time::{Clock, Duration};
 
 /// A clock that is read at these nanoseconds, one after another, and can't be read after the last.
@@ -53,11 +54,12 @@ fn figures_are_shown(rt: HostRuntime) {
         next: Cell::new(0),
     };
     let figures = Figures::new(rt.alloc());
-    // what comes before the first call isn't counted, and there is one first call
+    // what comes before the first call isn't counted, and there is one first call. It doesn't wait
+    // without end for a second operation, which was lost
     figures.before(0);
     assert!(&rt; figures.of(0, 0) == DeliveryMode::Pass);
-    figures.begin(&clock);
-    figures.begin(&clock);
+    figures.begin(&clock, 2);
+    figures.begin(&clock, 2);
     for call in 0..3 {
         if call > 0 {
             figures.note_map(&clock);
@@ -79,6 +81,76 @@ fn figures_are_shown(rt: HostRuntime) {
     99 % microseconds 9\nworst microseconds 9\nmap to last answer microseconds \
     7\nmessages 4\nrepeats 2\nnudges 5\n";
     assert!(&rt; shown.as_str() == wanted);
+}
+
+/// A clock by whose sleeps workers get on: during each of the first ones a node sends a message, and
+/// a worker takes an operation.
+#[derive(Drop)]
+struct Sleeps<'a> {
+    figures: &'a Figures,
+    /// The operations that are left.
+    left: Cell<u64>,
+    /// The sleeps up to now.
+    slept: Cell<u64>,
+}
+
+impl Clock for Sleeps<'_> {
+    fn monotonic(&self) -> io::Result<Duration> {
+        Ok(Duration::ZERO)
+    }
+
+    fn since_1970(&self) -> io::Result<Duration> {
+        Ok(Duration::ZERO)
+    }
+
+    fn sleep(&self, _duration: Duration) {
+        self.slept.set(self.slept.get().wrapping_add(1));
+        let left = self.left.get();
+        if left > 0 {
+            self.left.set(left.wrapping_sub(1));
+            let _ = self.figures.of(0, 0);
+            self.figures.before(0);
+        }
+    }
+}
+
+/// The operations that workers take, the number that the first maps bring, and whether a further map
+/// comes before the first call; the sleeps before it, at least and at most.
+type Waiting = (u64, u64, bool, u64, u64);
+
+/// All are taken; one is lost, or all are; nobody knows how many a further map brings.
+#[rattlefmt::skip]
+const WAITS: [Waiting; 4] = [
+    (8, 8, false, 8, 8),
+    (7, 8, false, 107, 120),
+    (0, 8, false, 100, 2_000),
+    (8, 5, true, 108, 120),
+];
+
+/// True if the first call waits that long, and what is sent before it isn't counted.
+fn waits<R: Abort + AllocGlobal>(rt: &R, row: &Waiting) -> bool {
+    let (taken, first, has_further, least, most) = *row;
+    let figures = Figures::new(rt.alloc());
+    let clock = Sleeps {
+        figures: &figures,
+        left: Cell::new(taken),
+        slept: Cell::new(0),
+    };
+    if has_further {
+        figures.note_map(&clock);
+    }
+    figures.begin(&clock, first);
+    let slept = clock.slept.get();
+    drop(clock);
+    let shown = figures.to_string(rt.alloc()).expect(rt, "memory");
+    least <= slept && slept <= most && shown.as_str().contains("messages 0\n")
+}
+
+#[test]
+fn the_first_call_waits_for_the_first_maps(rt: HostRuntime) {
+    for row in &WAITS {
+        assert!(&rt; waits(&rt, row), "{}", row.0);
+    }
 }
 
 /// Without a clock times are 0. A call that no worker took is no repeat.

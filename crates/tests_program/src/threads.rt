@@ -20,7 +20,7 @@ const WORKERS: u64 = 16;
 const THREADS: u64 = CLIENTS - 1 + WORKERS;
 
 /// The most counts of the threads, for each client.
-const COUNTS: u32 = 100_000;
+const COUNTS: u32 = 1_000_000;
 
 /// The runtime of a run, whose clock waits at the beginning of each client's call.
 #[derive(Drop)]

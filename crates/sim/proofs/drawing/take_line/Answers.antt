@@ -1,4 +1,4 @@
-use Rattle.std.proofs.Common.{Bor, List, ℕ, map, refl, sym, ◌∙◌}
+use Rattle.std.proofs.Common.{Bor, List, ℕ, map, sym, ◌∙◌}
 use Rattle.sim.proofs.Picturing.{line_done}
 use Rattle.sim.proofs.drawing.take_line.Goals as goal
 

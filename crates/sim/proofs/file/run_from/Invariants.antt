@@ -9,6 +9,6 @@ invariant-loop-line g l =
     let printed = g.O.Output.printed in
     let failed = g.O.Output.failed in
     record {
-      going : Going g.C.Classes.classes (map text l.setup.names.now) (take l.line-index (map text l.lines)) l.number l.world (printed l.initial.out) (printed l.out) (failed l.initial.out) (failed l.out);
+      going : Going l.setup.has_objects g.C.Classes.classes (map text l.setup.names.now) (take l.line-index (map text l.lines)) l.number l.world (printed l.initial.out) (printed l.out) (failed l.initial.out) (failed l.out);
       number : l.number ≡ l.line-index;
     }

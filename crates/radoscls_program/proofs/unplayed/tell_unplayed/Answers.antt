@@ -1,5 +1,5 @@
 use Rattle.std.proofs.Common.{string_bytes}
-use Rattle.radoscls_program.proofs.threads.tell_failure.Goals as goal
+use Rattle.radoscls_program.proofs.unplayed.tell_unplayed.Goals as goal
 
 pub returns-in-Some-clause-told : goal.returns-in-Some-clause-told
 returns-in-Some-clause-told g c = record {
