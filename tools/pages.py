@@ -11,13 +11,13 @@ from pathlib import Path
 
 TOP = Path(__file__).resolve().parent.parent
 C_TOOLS = ("clang", "llvm-objcopy", "llvm-readelf", "llvm-objdump")
-NAMES = (r"(radoscls|rt|clang|llvm-[a-z]*|sh|cc|python3|bash|cat|cd|rm|find|for|tools/[a-z.]*|\./[a-z/]*) "
+NAMES = (r"(radoscls|rt|clang|llvm-[a-z]*|sh|cc|python3|bash|cat|cd|rm|find|for(?! \()|tools/[a-z.]*|\./[a-z/]*) "
          r"|tools.*sh$|rt run$")
 # What other parts of the gate run: tests of the program (forms, with words in capitals),
 # tools/embed.sh, tools/release_test.sh, `rt ci`.
 ELSEWHERE = re.compile(r"radoscls (verify|run|test|asm|pack|dis|heads|sim|cluster) .*[A-Z].*|tools/try\.sh"
                        r"|tools/(test|edits|changed|library|embed|fuzz|refuse|pages|release|release_test)\b.*|cc -I lib host.*|cc host.c .*"
-                       r"|radoscls verify --(all|loops)|radoscls run --loops|cd crates/radoscls && rt run .*|rt run|rt try --test|\./out/bench --dry")
+                       r"|radoscls verify --(all|loops)|radoscls (run|test) --loops|cd crates/radoscls && rt run .*|rt run|rt try --test|\./out/bench --dry")
 
 
 def blocks(text):
@@ -207,6 +207,7 @@ def try_tests(pages):
         holds(pages, text, text.replace(".txt", ".test"))
     holds(pages, "c/counter_o0.txt", "c/counter.test")
     holds(pages, "embed/parts.txt", "embed/parts.test")
+    pages.row("radoscls test loops/sum.txt loops/sum.test --loops")
 
 
 def holds(pages, a_class, tests):
@@ -274,8 +275,10 @@ def try_examples(pages):
     pages.row("radoscls run loops/sum.txt sum --loops --input 0102ff", "all", 1, 4)
     pages.on("docs/PROGRAM.md", pages.work / "examples")
     pages.row("radoscls test count.txt count.test")
+    pages.row("radoscls test loops/sum.txt loops/sum.test --loops", "all", 1, 1)
     count = "radoscls sim --class count=count.txt FILE"
     pages.row(count, instead=f"{count} | grep 'Reply 1 0 1 0100000000000000'")
+    pages.row("radoscls sim --objects survive.sim", "end", 1, 4)
     pages.on("docs/LOOPS.md", pages.work / "examples")
     pages.row("radoscls asm loops/sum.txt loop.img --heads --budget 4096", "none")
     pages.row("radoscls verify loop.img --loops", "all", 1, 1)
@@ -299,6 +302,7 @@ def try_c(pages):
     looped = "tools/radoscls-cc examples/loops/adler.c -o adler.img --loops"
     pages.row(looped, "all", 1, 1, instead=looped.replace("tools/radoscls-cc", tool))
     pages.row("radoscls run adler.img adler --loops --input-text hello", "some", 1, 1)
+    pages.row("radoscls test adler.img examples/loops/adler.test --loops")
     pages.any_code = False
     if not pages.lacking:
         pages.row(build, "any", instead=f"for it in counter swap sum queue; do {tool} examples/c/$it.c -o c/$it.img || exit; done")

@@ -21,7 +21,7 @@ from process_explained import EXPLAINED_ROWS
 from process_loops import LOOP_ROWS
 from process_objects import OBJECT_ROWS
 from process_reports import REPORT_ROWS
-from process_rows import CLOSED, FILES, FULL, LINKS, MODES, NEW, TERMINAL, UNREAD
+from process_rows import CLOSED, FILES, FOLDERS, FULL, LINKS, MODES, NEW, TERMINAL, UNREAD
 from process_sim import SIM_ROWS
 from process_tests import TEST_ROWS
 from process_traces import TRACE_ROWS
@@ -53,8 +53,13 @@ def make_file(folder, name):
 def make_folder(folder):
     for name in *FILES, *LINKS:
         make_file(folder, name)
-    os.mkdir(os.path.join(folder, "folder"))
-    os.utime(os.path.join(folder, "folder"), (0, 0))
+    for name, files in FOLDERS.items():
+        path = os.path.join(folder, name)
+        os.mkdir(path)
+        for file, content in files.items():
+            with open(os.path.join(path, file), "wb") as to:
+                to.write(content)
+        os.utime(path, (0, 0))
 
 
 def state_of(folder):
@@ -186,14 +191,11 @@ def tell(row, found, written, names):
 def count_differences(program, folder, rows):
     bad = 0
     for row in rows:
-        for left in reversed(range(row.again + 1)):
-            before = state_of(folder)
-            found = run(program, folder, row)
-            after = row.then and run(program, folder, row.then)
-            written = take_written(folder, before)
-            names = differences(row, found, written)
-            if not names or not left:
-                break
+        before = state_of(folder)
+        found = run(program, folder, row)
+        after = row.then and run(program, folder, row.then)
+        written = take_written(folder, before)
+        names = differences(row, found, written)
         if names:
             tell(row, found, written, names)
         later = row.then and differences(row.then, after, {})

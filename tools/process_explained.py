@@ -297,6 +297,163 @@ mended by mov r0, r4 => mov r4, 1 / mov r0, r4
     wanted: each of these registers set on every way that leads here // see docs/VERIFIER.md, 5 UnsetRead //
     no way that leads here sets r4: set it on each, or before they part // line 7: mov r0, r4
 mended by jeq r2 => mov r4, 0 / jeq r2
+.method f r 8 0 / mov r0, 0 / top: / add r0, 1 / jlt r0, r2, top / exit
+=> 1 refused method 0 slot 2: 1 Backward // method f, IN 8, OUT 0 // jlt r0, r2, -2 // r0 = 1 // r2 = 0..8 // wanted:
+    a jump forward: the distance is at least 0 // see docs/VERIFIER.md, 1 Backward // jumps go forward: write a loop
+    out, with an exit where it may end early // line 5: jlt r0, r2, top
+mended by top: / add r0, 1 / jlt r0, r2, top => add r0, 1 / jge r0, r2, end / add r0, 1 / end:
+.method f r 8 0 / ja end / out: / exit / end: / mov r0, 0 / ja out
+=> 1 refused method 0 slot 3: 1 Backward // method f, IN 8, OUT 0 // ja -3 // wanted: a jump forward: the distance is
+    at least 0 // see docs/VERIFIER.md, 1 Backward // jumps go forward: write a loop out, with an exit where it may
+    end early // line 7: ja out
+mended by ja out => exit
+.method f r 8 0 / mov r0, 0 / jeq r2, 0, +1 / lddw r0, 0x100000000 / exit
+=> 1 refused method 0 slot 1: 2 Target // method f, IN 8, OUT 0 // jeq r2, 0, +1 // r2 = 0..8 // wanted: a jump to a
+    slot at which an instruction begins // see docs/VERIFIER.md, 2 Target // a wide load takes two slots: jump to a
+    label, which counts right // line 3: jeq r2, 0, +1
+mended by +1 => +2
+.method f r 8 0 / mov r0, 0 / jeq r2, 0, end / mov r0, 1 / exit / end:
+=> 1 refused method 0 slot 1: 2 Target // method f, IN 8, OUT 0 // jeq r2, 0, +2 // r2 = 0..8 // wanted: a jump to a
+    slot at which an instruction begins // see docs/VERIFIER.md, 2 Target // the target is slot 4, and the last one is
+    3: `exit` at the end, or a nearer label // line 3: jeq r2, 0, end
+mended by end: => end: / exit
+.method f r 8 0 / mov r0, 0 / jeq r2, 0, end / exit / end: / mov r0, -22
+=> 1 refused method 0 slot 3: 3 FallsOff // method f, IN 8, OUT 0 // mov r0, -22 // wanted: exit or a jump as the last
+    instruction // see docs/VERIFIER.md, 3 FallsOff // `exit` after it // line 6: mov r0, -22
+mended by -22 => -22 / exit
+.method f r 8 0 / mov r0, 0 / jne r2, 8, bad / exit / bad: / stb [r10-1], 1
+=> 1 refused method 0 slot 3: 3 FallsOff // method f, IN 8, OUT 0 // stb [r10-1], 1 // r10 = stack + 512 // wanted:
+    exit or a jump as the last instruction // see docs/VERIFIER.md, 3 FallsOff // `exit` after it // line 6: stb
+    [r10-1], 1
+mended by [r10-1], 1 => [r10-1], 1 / exit
+.method f r 8 0 / mov r6, r1 / call local +1 / exit / ldxb r0, [r6+0] / exit
+=> 1 refused method 0 slot 1: 4 LocalCall // method f, IN 8, OUT 0 // call local +1 // wanted: no call within the
+    program // see docs/VERIFIER.md, 4 LocalCall // a method is one piece of code: write the function's code there; in
+    C make it `static inline __attribute__((always_inline))` // line 3: call local +1
+mended by call local +1 / exit / ldxb => ldxb
+.method f r 8 0 / mov r10, r1 / ldxb r0, [r10+0] / exit
+=> 1 refused method 0 slot 0: 6 WritesR10 // method f, IN 8, OUT 0 // mov r10, r1 // r1 = input + 0 // wanted: another
+    destination than register 10 // see docs/VERIFIER.md, 6 WritesR10 // change a copy: `mov r2, r10`, then r2 // line
+    2: mov r10, r1
+mended by r10 => r2
+.method f r 8 0 / sub r10, 8 / stxdw [r10+0], r2 / mov r0, 0 / exit
+=> 1 refused method 0 slot 0: 6 WritesR10 // method f, IN 8, OUT 0 // sub r10, 8 // r10 = stack + 512 // wanted:
+    another destination than register 10 // see docs/VERIFIER.md, 6 WritesR10 // change a copy: `mov r2, r10`, then r2
+    // line 2: sub r10, 8
+mended by sub r10, 8 / stxdw [r10+0] => mov r3, r10 / sub r3, 8 / stxdw [r3+0]
+.method f r 8 0 / ldxdw r10, [r1+0] / mov r0, r10 / exit
+=> 1 refused method 0 slot 0: 6 WritesR10 // method f, IN 8, OUT 0 // ldxdw r10, [r1+0] // r1 = input + 0 // wanted:
+    another destination than register 10 // see docs/VERIFIER.md, 6 WritesR10 // change a copy: `mov r2, r10`, then r2
+    // line 2: ldxdw r10, [r1+0]
+mended by r10 => r2
+.method f r 16 0 / mov r4, r1 / mul r4, 2 / ldxb r0, [r4+0] / exit
+=> 1 refused method 0 slot 1: 7 PointerArithmetic // method f, IN 16, OUT 0 // mul r4, 2 // r4 = input + 0 // wanted:
+    of a pointer a copy, or a number added or subtracted, in 64 bits // see docs/VERIFIER.md, 7 PointerArithmetic //
+    r4 is a pointer: compute in numbers, and add the sum to it last, in 64 bits; copy it by `mov` // line 3: mul r4, 2
+mended by mov r4, r1 / mul r4, 2 => and r2, 7 / mov r4, r2 / mul r4, 2 / add r4, r1
+.method f r 8 0 / mov32 r4, r1 / ldxb r0, [r4+0] / exit
+=> 1 refused method 0 slot 0: 7 PointerArithmetic // method f, IN 8, OUT 0 // mov32 r4, r1 // r1 = input + 0 //
+    wanted: of a pointer a copy, or a number added or subtracted, in 64 bits // see docs/VERIFIER.md, 7
+    PointerArithmetic // r1 is a pointer: compute in numbers, and add the sum to it last, in 64 bits; copy it by `mov`
+    // line 2: mov32 r4, r1
+mended by mov32 => mov
+.method f r 8 0 / add32 r1, 4 / ldxb r0, [r1+0] / exit
+=> 1 refused method 0 slot 0: 7 PointerArithmetic // method f, IN 8, OUT 0 // add32 r1, 4 // r1 = input + 0 // wanted:
+    of a pointer a copy, or a number added or subtracted, in 64 bits // see docs/VERIFIER.md, 7 PointerArithmetic //
+    r1 is a pointer: compute in numbers, and add the sum to it last, in 64 bits; copy it by `mov` // line 2: add32 r1,
+    4
+mended by add32 => add
+.method f r 8 0 / mov r4, r1 / add r4, r2 / sub r4, r1 / mov r0, r4 / exit
+=> 1 refused method 0 slot 2: 7 PointerArithmetic // method f, IN 8, OUT 0 // sub r4, r1 // r1 = input + 0 // r4 =
+    input + 0..8 // wanted: of a pointer a copy, or a number added or subtracted, in 64 bits // see docs/VERIFIER.md,
+    7 PointerArithmetic // r1 is a pointer: compute in numbers, and add the sum to it last, in 64 bits; copy it by
+    `mov` // line 4: sub r4, r1
+mended by mov r4, r1 / add r4, r2 / sub r4, r1 => mov r4, r2
+.method f r 8 8 / mov r0, 0 / jge r1, r3, end / mov r0, 1 / end: / exit
+=> 1 refused method 0 slot 1: 8 PointerCompare // method f, IN 8, OUT 8 // jge r1, r3, +1 // r1 = input + 0 // r3 =
+    output + 0 // wanted: numbers on both sides // see docs/VERIFIER.md, 8 PointerCompare // r1 is a pointer, which is
+    never null: compare a length, a place or an answer // line 3: jge r1, r3, end
+mended by r1, r3 => r2, 8
+.method f r 8 8 / mov r0, 0 / jne r3, 0, end / mov r0, -22 / end: / exit
+=> 1 refused method 0 slot 1: 8 PointerCompare // method f, IN 8, OUT 8 // jne r3, 0, +1 // r3 = output + 0 // wanted:
+    numbers on both sides // see docs/VERIFIER.md, 8 PointerCompare // r3 is a pointer, which is never null: compare a
+    length, a place or an answer // line 3: jne r3, 0, end
+mended by r3, 0 => r2, 0
+.method f r 8 0 / mov r4, r1 / add r4, r2 / mov r0, 0 / jeq r4, r1, end / mov r0, 1 / end: / exit
+=> 1 refused method 0 slot 3: 8 PointerCompare // method f, IN 8, OUT 0 // jeq r4, r1, +1 // r1 = input + 0 // r4 =
+    input + 0..8 // wanted: numbers on both sides // see docs/VERIFIER.md, 8 PointerCompare // r1 is a pointer, which
+    is never null: compare a length, a place or an answer // line 5: jeq r4, r1, end
+mended by jeq r4, r1 => jeq r2, 0
+.method f r 8 0 / stxdw [r10-8], r1 / mov r0, 0 / exit
+=> 1 refused method 0 slot 0: 9 PointerStored // method f, IN 8, OUT 0 // stxdw [r10-8], r1 // r1 = input + 0 // r10 =
+    stack + 512 // wanted: a number to store // see docs/VERIFIER.md, 9 PointerStored // keep it in r6 to r9; or begin
+    the class with `.rules 2`, where a pointer may be stored whole at a multiple of 8, as `stxdw [r10-8], r1` // line
+    2: stxdw [r10-8], r1
+mended by .method => .rules 2 / .method
+.method f r 8 8 / stxdw [r3+0], r1 / mov r0, 0 / exit
+=> 1 refused method 0 slot 0: 9 PointerStored // method f, IN 8, OUT 8 // stxdw [r3+0], r1 // r1 = input + 0 // r3 =
+    output + 0 // wanted: a number to store // see docs/VERIFIER.md, 9 PointerStored // keep it in r6 to r9; or begin
+    the class with `.rules 2`, where a pointer may be stored whole at a multiple of 8, as `stxdw [r10-8], r1` // line
+    2: stxdw [r3+0], r1
+mended by [r3+0], r1 => [r3+0], r2
+.method f r 8 0 / stb [r1+0], 1 / mov r0, 0 / exit
+=> 1 refused method 0 slot 0: 11 ReadOnlyRegion // method f, IN 8, OUT 0 // stb [r1+0], 1 // r1 = input + 0 // wanted:
+    a pointer to the output or the stack // see docs/VERIFIER.md, 11 ReadOnlyRegion // r1 points to the input, which
+    is read only: store to the output or the stack // line 2: stb [r1+0], 1
+mended by [r1+0] => [r10-1]
+.method f r 8 0 / mov r2, r1 / mov r1, 0 / mov r3, 8 / call 2 / exit
+=> 1 refused method 0 slot 3: 11 ReadOnlyRegion // method f, IN 8, OUT 0 // call 2 // r1 = 0 // r2 = input + 0 // r3 =
+    8 // wanted: a pointer to the output or the stack // see docs/VERIFIER.md, 11 ReadOnlyRegion // `call 2` is
+    `read(offset, to, room)`: r2 is `to` // the call writes where r2 points, and the input is read only: give it the
+    output or the stack // line 5: call 2
+mended by mov r2, r1 => mov r2, r10 / add r2, -8
+.method f r 8 0 / ldxb r0, [r2+0] / exit
+=> 1 refused method 0 slot 0: 10 Bounds // method f, IN 8, OUT 0 // ldxb r0, [r2+0] // r2 = 0..8 // wanted: a pointer,
+    and all of the bytes within its region // see docs/VERIFIER.md, 10 Bounds // r2 is a number: a place is what r1
+    (input), r3 (output) or r10 (stack) was at first, plus a number; a string is written to the stack // line 2: ldxb
+    r0, [r2+0]
+mended by ldxb r0, [r2+0] => and r2, 7 / add r1, r2 / ldxb r0, [r1+0]
+.method f r 0 0 / mov r1, 5 / call 0 / exit
+=> 1 refused method 0 slot 1: 12 UnknownHelper // method f, IN 0, OUT 0 // call 0 // wanted: the id of a helper, 1 to
+    15 // see docs/VERIFIER.md, 12 UnknownHelper // the helpers are 1 to 15, and with `.rules 3` to 18; a function of
+    your own is written where it is called // line 3: call 0
+mended by call 0 => call 15
+.method f r 0 8 / stdw [r10-8], 5 / mov r1, 0 / mov r2, r10 / add r2, -8 / mov r3, 8 / call 3 / exit
+=> 1 refused method 0 slot 5: 14 WriteHelperInReader // method f, IN 0, OUT 8 // call 3 // r1 = 0 // r2 = stack + 504
+    // r3 = 8 // wanted: flags w or rw // see docs/VERIFIER.md, 14 WriteHelperInReader // `call 3` may change the
+    object: give the method the flags `rw` // line 7: call 3
+mended by f r => f rw
+.method f r 0 0 / call 5 / exit
+=> 1 refused method 0 slot 0: 14 WriteHelperInReader // method f, IN 0, OUT 0 // call 5 // wanted: flags w or rw //
+    see docs/VERIFIER.md, 14 WriteHelperInReader // `call 5` may change the object: give the method the flags `rw` //
+    line 2: call 5
+mended by f r 0 0 => f rw 0 0
+.method f r 8 0 / mov r0, r1 / add r0, r2 / exit
+=> 1 refused method 0 slot 2: 15 ReturnsPointer // method f, IN 8, OUT 0 // exit // r0 = input + 0..8 // wanted: a
+    number in register 0 // see docs/VERIFIER.md, 15 ReturnsPointer // `mov r0, 0` before it, or another number;
+    output goes by `call 13` // line 4: exit
+mended by add r0, r2 => mov r0, r2
+.method f r 0 8 / stdw [r3+0], 5 / mov r0, r3 / exit
+=> 1 refused method 0 slot 2: 15 ReturnsPointer // method f, IN 0, OUT 8 // exit // r0 = output + 0 // wanted: a
+    number in register 0 // see docs/VERIFIER.md, 15 ReturnsPointer // `mov r0, 0` before it, or another number;
+    output goes by `call 13` // line 4: exit
+mended by mov r0, r3 => mov r1, 8 / call 13 / mov r0, 0
+.method f r 8 0 / mov r0, r10 / jeq r2, 0, end / mov r0, 0 / end: / exit
+=> 1 refused method 0 slot 3: 5 UnsetRead // method f, IN 8, OUT 0 // exit // r0 = unset // wanted: each of these
+    registers set on every way that leads here // see docs/VERIFIER.md, 5 UnsetRead // each way that leads here sets
+    r0, but not alike: one to a number and one to a pointer, or to pointers to two regions // line 6: exit
+mended by mov r0, r10 => mov r0, -22
+.rules 2 / .method f r 0 8 / mov r0, 0 / stxdw [r10-8], r3 / ldxw r4, [r10-8] / exit
+=> 1 refused method 0 slot 2: 17 PointerBytes // method f, IN 0, OUT 8 // ldxw r4, [r10-8] // r10 = stack + 512 //
+    wanted: a stored pointer loaded whole, 8 bytes from its place, and given to no helper // see docs/VERIFIER.md, 17
+    PointerBytes // [r10-8] = output + 0 // load the pointer whole: `ldxdw` of its slot // line 5: ldxw r4, [r10-8]
+mended by ldxw => ldxdw
+.rules 2 / .method f r 8 0 / stxdw [r10-8], r1 / stb [r10-8], 0 / ldxdw r4, [r10-8] / mov r0, 0 / exit
+=> 1 refused method 0 slot 2: 5 UnsetRead // method f, IN 8, OUT 0 // ldxdw r4, [r10-8] // r10 = stack + 512 //
+    wanted: each of these registers set on every way that leads here // see docs/VERIFIER.md, 5 UnsetRead // [r10-8] =
+    unset // an unset slot had a part of a pointer overwritten, or ways set it unlike: store it whole before, 8 bytes
+    at a multiple of 8, as `stxdw [r10-8], r0` // line 5: ldxdw r4, [r10-8]
+mended by stb [r10-8], 0 => stb [r10-9], 0
 """
 
 # Mistakes in texts, as those of classes: what is said of each, and a text that is accepted.
@@ -653,6 +810,11 @@ sim - --explain --trace / map 1 / see 1 1 / deliver 2
 sim missing --explain
 => 1 cannot read // missing: No such file or directory (os error 2)
 sim locks.sim --class a=missing --explain
+=> 1 cannot read // class a, missing // missing: No such file or directory (os error 2)
+sim locks.sim --explain --class a=two.img --class b=word.txt --class c=missing
+=> 1 line 2: 1 Word // class b, word.txt // line 2: foo r1 // wanted: first an instruction's word, or a label `name:`,
+    `.method` or `.rules` // see docs/ASSEMBLY.md, 1 Word
+sim missing --explain --class a=two.img --objects
 => 1 cannot read // missing: No such file or directory (os error 2)
 """
 

@@ -109,6 +109,35 @@ run loop.txt t --loops --explain
 => 1 call refused: 1 NoMethod // wanted: a method of the class; `radoscls verify --loops` lists them
 run loop.txt s --loops --input-u64 0,0,0
 => 1 call refused: 2 InputTooLong
+test loop.txt - --loops / call s 010203 -> 6 / call s u8:1,1,1,1,1,1,1,1,1,1,1,1,1 -> 13 /
+    call s u8:1,1,1,1,1,1,1,1,1,1,1,1,1,1 -> -62 / call s - -> 0
+=> 0 ok 4
+test writes.txt - --loops / object 7878 / key n 01 / as 7 / call w 616263 -> -62 / is data 7878 / is key n 01 /
+    call w 61 -> 1 / is data 6178 / object none / call w 616263 -> -62 - / is data none / call w 6162 -> 2 / is data 6162
+=> 0 ok 9
+test - missing --loops / .rules 3 / .method f r 0 0 / mov r0, 0 / exit
+=> 1 cannot read
+test loop.txt - --loops / call s 010203 -> 6 / call s u8:1,1,1,1,1,1,1,1,1,1,1,1,1,1 -> 14
+=> 1 line 2: differs // wanted: code 14 output - // found: code -62 output -
+test writes.txt - --loops / object 7878 / call w 616263 -> -62 / is data 6162
+=> 1 line 3: differs // wanted: 6162 // found: 7878
+test loop.txt - --loops / call s 01 -> 1 / call t 01 -> 1
+=> 1 line 2: differs // wanted: code 1 output - // found: no such method
+test loop.txt - --loops / call s 0000000000000000000000000000000000 -> 0
+=> 1 line 1: differs // wanted: code 0 output - // found: the input is too long
+test loop.txt - --loops / call s 01 -> 1 / call s
+=> 1 line 2: bad
+test two.img - --loops / call f - -> 0 -
+=> 0 ok 1
+test loop.txt -
+=> 1 refused method 0 slot 8: 1 Backward
+test bare.txt - --loops
+=> 1 refused method 0 slot 8: 1 Backward
+test bare.txt missing --loops --explain
+=> 1 refused method 0 slot 8: 1 Backward // no head is declared at its target: radoscls heads IN OUT finds heads //
+    at its target, slot 2, radoscls heads IN OUT declares .head r0 any, r4 0 16
+test missing - --loops --explain
+=> 1 cannot read // missing: No such file or directory (os error 2)
 heads - out / .method f r 0 0 / mov r0, 0 / ja -2 / exit
 => 1 f: loops need rule set 3
 heads - out / .rules 2 / .method f r 0 0 / mov r0, 0 / exit / .method g r 0 0 / jeq r2, 0, -1 / exit
@@ -169,11 +198,12 @@ FILES.update({"bare.bin": METHOD[17:], "grow.bin": CODE,
 # The examples, each a class whose loops get heads.
 EXAMPLES = {path.name: path.read_text() for path in (TOP / "examples/loops").glob("*.txt")}
 FILES.update(EXAMPLES)
+FILES.update((path.name, path.read_text()) for path in (TOP / "examples/loops").glob("*.test"))
 MANY = ".rules 3\n.method f r 0 0\nmov r0, 0\n" + "jeq r0, 1, -1\n" * 65 + "exit\n"
 NO_HEADS = "the argument '--budget <N>' cannot be used without '--heads'"
 HEADS_ALONE = "the argument '--heads' cannot be used with '--all' or '--explain'"
 NO_MORE = "the argument '--loops' cannot be used with '--all' or '--json'\n\nUsage: radoscls verify "
-NOT_PLAIN = "the argument '--loops' cannot be used with '--trace' or '--limits ceph'\n\nUsage: radoscls run "
+NOT_PLAIN = "the argument '--loops' cannot be used with '--trace' or '--limits ceph'\n\nUsage: radoscls "
 
 
 class Headed:
@@ -245,7 +275,12 @@ LOOP_ROWS = [
                     "asm bare.txt out --budget 0 --all")),
     *(Row(f"verify two.img --loops {more}", "", usage(NO_MORE), 2)
       for more in ("--all", "--json", "loop.txt --json", "--explain --all")),
-    *(Row(f"run loop.txt s --loops {more}", "", usage(NOT_PLAIN), 2)
+    # the tests of an example: five calls, and a line on the object
+    Row("test sum.txt sum.test --loops", "ok 6\n"),
+    *(Row(words, "", usage(f"{NOT_PLAIN}test "), 2) for words in (
+        "test loop.txt - --loops --trace", "test --trace missing missing --loops --explain")),
+    *(Row(words, None, "", 1, to=FULL) for words in ("test sum.txt sum.test --loops", "test missing - --loops")),
+    *(Row(f"run loop.txt s --loops {more}", "", usage(f"{NOT_PLAIN}run "), 2)
       for more in ("--trace", "--limits ceph", "--limits ceph --trace --json", "--trace --input 0g")),
     # what is saved: nothing of what was refused, and of a spent budget the object as it was
     Row("run writes.txt w --loops --input 6162 --save out", ran(2, "-", 22, "2 0 0"), wrote={"out": b"data 6162\n"}),

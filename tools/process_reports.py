@@ -58,6 +58,18 @@ REPORT_ROWS = [
     Row("verify three.txt two.img --all", after("three.txt", f"f ok 2\n{UNSAFE.replace('0', '1', 1)}h ok 2\n")
         + "two.img: f ok 2\n", "", 1),
     *(Row("verify two.img keep.img", None, "", 1, to=to) for to in (FULL, CLOSED)),
+    # a folder stands for its files of classes; without any, or if it can't be listed, it is no file
+    *(Row(f"verify {words}", "order/Z.img: f ok 2\norder/a.img: f ok 2\norder/b.txt: f ok 2\n")
+      for words in ("order", "order/", "order --all", "--loops order")),
+    Row("verify two.img ./order keep.img", "two.img: f ok 2\n./order/Z.img: f ok 2\n./order/a.img: f ok 2\n"
+        "./order/b.txt: f ok 2\nkeep.img: keep ok 14\n"),
+    *(Row(words, "f ok 2\n") for words in ("verify one", "verify --all one")),
+    Row("verify one --json", objects(accepted("one/two.img", "f", 2))),
+    *(Row(f"verify mixed {option}", after("mixed/bad.img", NO_IMAGE) + "mixed/good.txt: f ok 2\n", "", 1)
+      for option in ("", "--all", "--loops")),
+    Row("verify one mixed", "one/two.img: f ok 2\n" + after("mixed/bad.img", NO_IMAGE) + "mixed/good.txt: f ok 2\n", "", 1),
+    *(Row(words, "cannot read\n", "", 1) for words in ("verify notes", "verify odd", "run one f", "dis one", "test one two.img")),
+    Row("verify folder one", "folder: cannot read\none/two.img: f ok 2\n", "", 1),
     Row("verify two.img keep.img", "two.img: f ok 2\nk", "", 1, room=17),
     # each wrong line of a text
     Row("verify - --all", LINES, "", 1, stdin=WRONG.encode()),

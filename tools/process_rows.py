@@ -173,6 +173,12 @@ FILES = {
 # The modes of files that have another than 0644, which stay; the symbolic links beside them.
 MODES = {"kept": 0o640, "lock.img": 0o755}
 LINKS = {"link": "kept", "far": "./link", "dangling": "made", "lost": "missing/made"}
+# Folders, and the files in them: of classes, of none, and one whose name isn't UTF-8.
+FOLDERS = {
+    "folder": {}, "one": {"two.img": TWO}, "mixed": {"good.txt": TWO_TEXT.encode(), "bad.img": b"", "b": b"", "b.md": b""},
+    "order": {"b.txt": TWO_TEXT.encode(), "a.img": TWO, "Z.img": TWO, ".img": b"", ".c.img": b"", "d.img~": b"", "img": b""},
+    "notes": {"README": b"", "a.imgs": b""}, "odd": {"two.img": TWO, "\udcff.txt": b""},
+}
 # A new file that wasn't put in its place, since the process was killed.
 NEW = ".radoscls-"
 
@@ -187,7 +193,7 @@ COMMANDS = {
     "pack": (["<OUT>", "<METHOD>..."], {"--rules": " <N>", "--heads": "", "--budget": " <N>", "--explain": ""}),
     "dis": (["<IN>"], {"--slots": "", "--explain": ""}),
     "heads": (["<IN>", "<OUT>"], {"--budget": " <N>"}),
-    "sim": (["<FILE>"], {"--class": " <NAME=IMAGE>", "--trace": "", "--explain": ""}),
+    "sim": (["<FILE>"], {"--class": " <NAME=IMAGE>", "--trace": "", "--objects": "", "--explain": ""}),
     "cluster": (["<FILE>"], {"--class": " <NAME=IMAGE>", "--show": "", "--stats": "", "--strict": "",
         "--explain": "", "--follow": ""}),
 }
@@ -274,16 +280,15 @@ class Row:
     write of more ends the process. `space` is how many megabytes the process has, if each of its
     threads wants 256; `stack` is how many kilobytes its first thread has. `slow` is true if checks of
     memory make it take minutes. `then` is a row of words that come after these, while what they wrote
-    is still there; of it the streams and the status are compared. `again` is how often it is run anew
-    where it differs: threads that wait for a processor may miss what it looks at."""
+    is still there; of it the streams and the status are compared."""
 
     def __init__(self, words, out="", err="", status=0, stdin=b"", wrote=(), to=None, err_to=None,
-                 room=None, space=None, killed=False, stack=None, slow=False, then=None, again=0):
+                 room=None, space=None, killed=False, stack=None, slow=False, then=None):
         self.words = words.split() if isinstance(words, str) else words
         self.out, self.err, self.status = out, err, status
         self.stdin, self.wrote, self.room, self.space = stdin, dict(wrote), room, space
         self.to, self.err_to, self.killed, self.stack = to, err_to, killed, stack
-        self.slow, self.then, self.again = slow, then, again
+        self.slow, self.then = slow, then
 
 
 def lines_of(text=""):

@@ -6,11 +6,11 @@ import os
 from process_rows import EXAMPLES, FILES, Row, lines_of
 
 
-def script(*texts, status=0):
+def script(*texts, status=0, words="sim -"):
     """The row of a script."""
     lines = [line.partition(" => ") for text in texts for line in text.strip("\n").split("\n")]
     events = "".join(event + "\n" for event, _, _ in lines)
-    return Row("sim -", "".join(lines_of(printed) for _, _, printed in lines), "", status, stdin=events.encode())
+    return Row(words, "".join(lines_of(printed) for _, _, printed in lines), "", status, stdin=events.encode())
 
 
 ALONE = """
@@ -124,6 +124,39 @@ map => refused 1 BadActing
 map 16 => refused 1 BadActing
 map 1 1 => refused 1 BadActing
 map 18446744073709551617 => refused 1 BadActing
+"""
+# Objects of a node: by their names' bytes, those that its log makes alone. A write of nothing makes one, and
+# a look none; one that was removed isn't there. A node that is stopped has what it had.
+OBJECTS = """
+show 1 => node 1 epoch 1 active length 0 committed 0
+req 1 1 1 b obj write 00000000000000006f6f => m3 1->c1 Reply 1 0 2 -
+req 1 1 2 a lock lock - => m4 1->c1 Reply 2 1 0 -
+req 1 1 3 b obj setxattr 017800 => m5 1->c1 Reply 3 2 0 -
+req 1 1 4 b obj setxattr 023d78 => m6 1->c1 Reply 4 3 0 -
+req 1 1 5 ä obj write 0000000000000000 => m7 1->c1 Reply 5 4 0 -
+req 1 1 6 c obj write 000000000000000001 => m8 1->c1 Reply 6 5 1 -
+req 1 1 7 c obj remove - => m9 1->c1 Reply 7 6 0 -
+req 1 1 8 d obj stat - => m10 1->c1 Reply 8 7 -2 -
+show 1 => node 1 epoch 1 active length 8 committed 8 / object a 0 1 0 / data - / xattr lock 0100000000000000 / object b 2 2 0 / data 6f6f / xattr 0x3d78 - / xattr x 00 / object 0xc3a4 0 0 0 / data -
+show 2 => node 2 epoch 0 out length 0 committed 0
+stop 1 => nothing
+req 1 1 9 a lock unlock - => stopped
+show 1 => node 1 epoch 1 active length 8 committed 8 / object a 0 1 0 / data - / xattr lock 0100000000000000 / object b 2 2 0 / data 6f6f / xattr 0x3d78 - / xattr x 00 / object 0xc3a4 0 0 0 / data -
+"""
+# Of entries that aren't committed yet too; each node has its own.
+OWN_OBJECTS = """
+req 1 1 7 a lock lock - => m7 1->2 Rep 1 0 / m8 1->3 Rep 1 0
+show 1 => node 1 epoch 1 active length 1 committed 0 / object a 0 1 0 / data - / xattr lock 0100000000000000
+show 2 => node 2 epoch 1 installed length 0 committed 0
+deliver 7 => m9 2->1 Ack 1 1
+show 2 => node 2 epoch 1 installed length 1 committed 0 / object a 0 1 0 / data - / xattr lock 0100000000000000
+show 3 => node 3 epoch 1 installed length 0 committed 0
+"""
+# A tenant's class that counts in the omap.
+COUNTED = """
+req 1 1 1 a count count - => m3 1->c1 Reply 1 0 1 0100000000000000
+req 1 1 2 a count count - => m4 1->c1 Reply 2 1 2 0200000000000000
+show 1 => node 1 epoch 1 active length 2 committed 2 / object a 0 0 1 / data - / key n 0200000000000000
 """
 # Words between blanks of either kind, an input in either case, comments and empty lines.
 LOOSE = """\
@@ -285,6 +318,12 @@ SIM_ROWS = [
     script(THREE, unacknowledged()), script(full_log()), Row("sim -"),
     script(f"req 1 1 1 {'a' * 255} lock lock - => refused 1 NotPrimary"),
     *(bad(text) for text in (*BAD, *BAD_AFTER)),
+    script(ALONE, OBJECTS, words="sim - --objects"), script(THREE, OWN_OBJECTS, words="sim --objects -"),
+    script(ALONE, COUNTED, words="sim - --objects --class count=count.txt"),
+    script(ALONE, "show 1 => node 1 epoch 1 active length 0 committed 0", "show 16 => line 6: bad", status=1,
+           words="sim - --objects"),
+    Row("sim --objects survive.sim", SURVIVED + "object a 0 1 0\ndata -\nxattr lock 0100000000000000\n"),
+    Row("sim --objects missing", "cannot read\n", "", 1),
     # drawings: of a run, of the lines above a bad one, of nothing
     Row("sim --trace lost_ack.sim", LOST_ACK), Row("sim survive.sim", SURVIVED),
     Row("sim --trace survive.sim", SURVIVE),

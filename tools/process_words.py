@@ -91,5 +91,7 @@ WORD_ROWS = [
         "--input @- --input-text a --input-u64 5")),
     told("run two.img f --limits ceph --trace",
          "error: the argument '--trace' cannot be used with '--limits ceph'\n\nUsage: radoscls run "),
+    told("sim survive.sim --objects --trace",
+         "error: the argument '--objects' cannot be used with '--trace'\n\nUsage: radoscls sim "),
     told("run - f --load -", READ_TWICE.format("run")), told("sim --class two=- -", READ_TWICE.format("sim")),
 ]

@@ -14,12 +14,12 @@ _radoscls() {
             ;;
         verify) words="--all --loops --json --explain --help" ;;
         run) words="--caller --input --input-text --input-u64 --object --xattr --key --limits --loops --load --save --show --trace --json --explain --help" ;;
-        test) words="--trace --explain --help" ;;
+        test) words="--trace --loops --explain --help" ;;
         asm) words="--all --heads --budget --explain --help" ;;
         pack) words="--rules --heads --budget --explain --help" ;;
         dis) words="--slots --explain --help" ;;
         heads) words="--budget --help" ;;
-        sim) words="--class --trace --explain --help" ;;
+        sim) words="--class --trace --objects --explain --help" ;;
         cluster) words="--class --show --stats --strict --explain --follow --help" ;;
         *) return ;;
     esac

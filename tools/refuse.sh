@@ -182,6 +182,8 @@ if [ "$radoscls" != - ]; then
     printf '.method f r 0 0\nmov r0, 0\nexit\n.method g r 0 0\nexit\n' > "$work/mixed.txt"
     printf 'data 6162\nxattr a 01\nxattr b -\nkey c 02\n' > "$work/held"
     printf 'map 1\nmap\nsee one 1\n' > "$work/wrong.sim"
+    mkdir "$work/classes"
+    cp "$work/two.img" "$work/keep.txt" "$work/classes"
     # One client and one worker: what is printed is the same each time. A call is tried for as long
     # as a run has, also on a busy machine.
     numbers='cluster nodes 2 replicas 2 groups 1 shards 1 workers 1 tries 4294967295'
@@ -197,6 +199,7 @@ if [ "$radoscls" != - ]; then
         'missing 1 verify missing.img --explain'
         'all 0 verify two.img --all'
         'mixed 1 verify mixed.txt --all --explain'
+        'folder 0 verify classes'
         'run 0 run keep.img keep --input 726f6f74 --caller 7'
         'object 0 run keep.img keep --object 6162 --xattr a=01 --xattr b= --key c=02 --show'
         'values 0 run keep.img keep --object @code --xattr a=@code --key b=- --show'
@@ -216,6 +219,7 @@ if [ "$radoscls" != - ]; then
         'wrong_code 1 pack out f:r:0:0:two.img --explain'
         'dis 0 dis keep.img --slots'
         'sim 0 sim lost_ack.sim --class keep=keep.img'
+        'objects 0 sim --objects survive.sim'
         'wrong_sim 1 sim wrong.sim'
         'told_sim 1 sim wrong.sim --explain'
         'trace 0 sim --trace lost_ack.sim'
