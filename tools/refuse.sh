@@ -15,7 +15,8 @@
 #   and then one that names want of memory, ends with 1, says nothing on standard error and leaves
 #   OUT as it was; a call of `cluster` that is refused so ends with 0. Of the last growths, eight at
 #   most, by which OUT is written, that line is `cannot write`, and the new file that was to take its
-#   place is gone too. Or, of a refusal that is explained, the last of these lines are missing.
+#   place is gone too. Or, of a refusal that is explained, the last of these lines are missing. Of
+#   several files want of memory is told for one, and the others' lines stay.
 #
 # A row or a command that met no refusal doesn't pass. Each of the first 700 growths is refused,
 # then every seventh: so all takes less than three minutes of one processor. A run has five minutes,
@@ -123,6 +124,18 @@ is_refused() {
     return 1
 }
 
+# Whether of one file, of those that `verify` was given, want of memory is told in place of its
+# lines, and of the others what is always told.
+is_file_refused() {
+    local lines line file=
+    mapfile -t lines <<< "${out%$'\n'}"
+    for line in "${lines[@]}"; do
+        if [[ $line == *": "* ]] && names_memory "${line#*: }"; then file=${line%%: *}; fi
+    done
+    [[ -n $file && $status == 1 && -z $err && $(grep -c "^$file: " <<< "$out") == 1 &&
+        $(grep -v "^$file: " <<< "$out") == "$(grep -v "^$file: " <<< "$whole")" ]]
+}
+
 # Whether the end of an explained refusal is missing alone.
 is_unexplained() {
     [[ $status$wanted_status == 11 && $out == *$'\n' && $whole == "$out"* && -z $err ]] &&
@@ -148,7 +161,7 @@ sweep_command() {
         refused=$((refused + 1))
         if is_whole; then
             :
-        elif is_refused || is_unexplained; then
+        elif is_refused || is_file_refused || is_unexplained; then
             told=$((told + 1))
         else
             differs "$name" "$n"
