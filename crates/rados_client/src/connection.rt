@@ -1,4 +1,5 @@
-ghost use Rattle.std.specs.Prelude.{◌≡◌, ◌⊎◌, ◌+◌, ◌-◌, ◌^◌, min, IsTrue, IsFalse, IfSome, IfNone, IfOk, OnOk, OnErr};
+ghost use Rattle.std.specs.Prelude.{◌≡◌, ◌⊎◌, ◌+◌, ◌-◌, ◌^◌, ◌≤◌, min};
+ghost use Rattle.std.specs.Prelude.{IsTrue, IsFalse, IfSome, IfNone, IfOk, OnOk, OnErr};
 ghost use Rattle.op_shards.specs.Passes.{Grew};
 ghost use Rattle.placement.specs.Placement.{group_of};
 ghost use Rattle.osd.specs.Sent.{OnlySent, IsInternalTo};
@@ -172,8 +173,9 @@ impl<'a, N: ClusterName, R: Wait> Connection<'a, N, R> {
         self.running.ask(&mut self.sends, request)
     }
 
-    /// Nudges the request's group, and submits the request again.
+    /// Nudges the request's group, and submits the request again, whose next repeat comes after a look.
     fn submit_again(&mut self, request: &Request, patience: &mut Patience)
+        ensures looks { 1 ≤ patience.new.looks_left }
         ensures seen { self.new.seen ≡ self.old.seen }
         ensures grew { Grew self.old.sends self.new.sends }
         ensures taken { IsTrue patience.new.taken →

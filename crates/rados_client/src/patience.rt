@@ -1,4 +1,4 @@
-ghost use Rattle.std.specs.Prelude.{◌≡◌, true, false, MatchBool};
+ghost use Rattle.std.specs.Prelude.{◌≡◌, ◌≤◌, true, false, MatchBool};
 
 use crate::exec_error::ExecError;
 
@@ -80,7 +80,8 @@ impl Patience {
 
     /// A queue has taken the request.
     pub fn begin(&mut self)
-        ensures { self.new.taken ≡ true }
+        ensures taken { self.new.taken ≡ true }
+        ensures looks { 1 ≤ self.new.looks_left }
     {
         self.turns = self.turns.saturating_mul(2).min(TURNS);
         self.looks_left = self.most_looks();
@@ -90,14 +91,17 @@ impl Patience {
     /// No queue took the request, for want of room or of memory: it is submitted again after one
     /// look.
     pub fn wait_when_not_taken(&mut self)
-        ensures { self.new.taken ≡ self.old.taken }
+        ensures taken { self.new.taken ≡ self.old.taken }
+        ensures looks { 1 ≤ self.new.looks_left }
     {
         self.looks_left = 1;
     }
 
     /// The most looks before the request is submitted again.
-    fn most_looks(&self) -> u32 {
-        LOOKS.min(ALL_TURNS / self.turns.max(1))
+    fn most_looks(&self) -> u32
+        ensures { 1 ≤ result }
+    {
+        LOOKS.min(ALL_TURNS / self.turns.max(1)).max(1)
     }
 
     /// The refusal of a call whose tries are used up.
