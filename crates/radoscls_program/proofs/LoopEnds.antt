@@ -6,19 +6,16 @@ use Rattle.class_reports.specs.Notes.{is_noted}
 use Rattle.class_tool.specs.Note.{IsNote}
 use Rattle.class_tool.specs.declared.action_result.ActionResult.TheVariants.{Ran}
 use Rattle.class_tool.specs.declared.run_report.RunReport.{RunReport}
-use Rattle.loop_tool.specs.Heads.{HeadsFail}
 use Rattle.loop_tool.specs.LoopRun.{LoopRunFails, LoopRuns}
-use Rattle.loop_tool.specs.PackedHeads.{PackHeadsFail}
 use Rattle.loop_tool.specs.Reports.{AreLoopReports}
-use Rattle.loop_tool.specs.declared.asked.HeadedPacking.{HeadedPacking}
-use Rattle.loop_tool.specs.declared.asked.HeadsAsked.{HeadsAsked}
 use Rattle.loop_tool.specs.declared.asked.LoopsAsked.{LoopsAsked}
 use Rattle.loop_tool.specs.declared.write_heads_error.WriteHeadsError.{WriteHeadsError}
 use Rattle.loop_tool.specs.declared.loop_reports.LoopReports.{LoopReports}
-use Rattle.program_files.specs.Files.{Disk, Storage}
+use Rattle.program_files.specs.Files.{Disk}
 use Rattle.object_texts.specs.declared.method_call.MethodCall.{MethodCall}
 use Rattle.program_files.specs.declared.failure.Failure.{Failure}
-use Rattle.radoscls_program.specs.Looped.{HeadsEnd, LoopRunEnds, LoopsEnd, PackHeadsEnd, ShowsLoops, headless_text}
+use Rattle.radoscls_program.specs.Change.{Change}
+use Rattle.radoscls_program.specs.Looped.{IsHeadlessTold, LoopRunEnds, LoopsEnd, ShowsLoops, headless_text}
 use Rattle.radoscls_program.specs.Shown.{IsToldAs, IsToldBy, ShowsAnswer}
 use Rattle.radoscls_program.specs.Streams.{IsPrinted, Stream, failure_line}
 use Rattle.radoscls_program.specs.declared.status.ExitStatus.{ExitStatus}
@@ -33,27 +30,22 @@ looped disk old new asked r Refused are shows = inl (record { reports = r; are =
 looped disk old new asked r Usage are none = absurd none
 
 -- by an error that was told
-pub headless : (before after : Storage) (old new : Stream) (asked : HeadsAsked) (e : WriteHeadsError) → HeadsFail before after asked e
-    → IsPrinted old new (headless_text e ++ codes "\n") → HeadsEnd before after old new asked Refused
-headless before after old new asked e fails told = record { error = e; fails = fails; told = told }
-
--- and of raw code
-pub unpacked : (before after : Storage) (old new : Stream) (asked : HeadedPacking) (e : WriteHeadsError) → PackHeadsFail before after asked e
-    → IsPrinted old new (headless_text e ++ codes "\n") → PackHeadsEnd before after old new asked Refused
-unpacked before after old new asked e fails told = record { error = e; fails = fails; told = told }
+pub headless : (change : Change) (Fails : WriteHeadsError → Type 0) (e : WriteHeadsError) → Fails e → IsPrinted change.old change.new (headless_text e ++ codes "\n")
+    → IsHeadlessTold change Fails
+headless change Fails e fails told = record { error = e; fails = fails; told = told }
 
 -- by a call whose report was printed or not
-pub ran_by_loops : (before after : Storage) (old new : Stream) (call : MethodCall) (telling : Telling) (report : RunReport) (status : ExitStatus)
-    → LoopRuns before after call report → ShowsAnswer telling.is_json old new (Ran report) status → LoopRunEnds before after old new call telling status
-ran_by_loops before after old new call telling report Done runs shown = record { report = report; runs = runs; shown = shown }
-ran_by_loops before after old new call telling report Refused runs shown = inl (record { report = report; runs = runs; shown = shown })
-ran_by_loops before after old new call telling report Usage runs none = absurd none
+pub ran_by_loops : (change : Change) (call : MethodCall) (telling : Telling) (report : RunReport) (status : ExitStatus) → LoopRuns change.before change.after call report
+    → ShowsAnswer telling.is_json change.old change.new (Ran report) status → LoopRunEnds change call telling status
+ran_by_loops change call telling report Done runs shown = record { report = report; runs = runs; shown = shown }
+ran_by_loops change call telling report Refused runs shown = inl (record { report = report; runs = runs; shown = shown })
+ran_by_loops change call telling report Usage runs none = absurd none
 
 -- by a failure that was told
-pub not_run : (before after : Storage) (old new : Stream) (call : MethodCall) (telling : Telling) (failure : Failure) (status : ExitStatus) → status ≡ Refused
-    → LoopRunFails before after call failure → IsToldAs old new failure telling → LoopRunEnds before after old new call telling status
-not_run before after old new call telling failure status is fails told =
-    subst (λ (s : ExitStatus). LoopRunEnds before after old new call telling s) (sym is) (inr (record { failure = failure; fails = fails; told = told }))
+pub not_run : (change : Change) (call : MethodCall) (telling : Telling) (failure : Failure) (status : ExitStatus) → status ≡ Refused
+    → LoopRunFails change.before change.after call failure → IsToldAs change.old change.new failure telling → LoopRunEnds change call telling status
+not_run change call telling failure status is fails told =
+    subst (λ (s : ExitStatus). LoopRunEnds change call telling s) (sym is) (inr (record { failure = failure; fails = fails; told = told }))
 
 -- a note that was asked for is one, also where more asks for it
 noted_too : (asked more : Bool) (note : List ℕ) → IsNote asked note → IsNote (asked || more) note

@@ -3,9 +3,11 @@
 -- (how standard input is used), Entries, Tenants and Raw (how words spell xattrs and keys, tenants'
 -- classes and methods), Shown, Judged, Looped, Tested, Playing and Clustered (how an action,
 -- `verify --all`, `verify` of files and by loops, `run` by loops, `heads`, `test`, `sim` and `cluster`
--- end), Status and Streams (the number of an exit status, and what is known of standard output).
+-- end), Status, Streams and Change (the number of an exit status, what is known of standard output,
+-- and what of it and of files a run changes).
 pub mod Arguments
 pub mod Asked
+pub mod Change
 pub mod Clustered
 pub mod Entries
 pub mod Inputs

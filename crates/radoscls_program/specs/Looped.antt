@@ -15,9 +15,10 @@ use Rattle.loop_tool.specs.declared.write_heads_error.WriteHeadsError.TheVariant
 use Rattle.loop_tool.specs.declared.loop_reports.LoopReports.{LoopReports}
 use Rattle.object_texts.specs.declared.method_call.MethodCall.{MethodCall}
 use Rattle.program_files.specs.Failure.{failure_text}
-use Rattle.program_files.specs.Files.{Disk, Storage}
+use Rattle.program_files.specs.Files.{Disk}
 use Rattle.program_files.specs.declared.failure.Failure.{Failure}
 use Rattle.program_files.specs.declared.failure.Failure.TheVariants.{NoMemory}
+use Rattle.radoscls_program.specs.Change.{Change}
 use Rattle.radoscls_program.specs.Shown.{IsToldAs, ShowsAnswer}
 use Rattle.radoscls_program.specs.Streams.{IsPrinted, Lost, Stream, Took, failure_line}
 use Rattle.radoscls_program.specs.declared.status.ExitStatus.{ExitStatus}
@@ -49,51 +50,43 @@ LoopsEnd disk old new asked Refused =
 LoopsEnd disk old new asked Usage = ⊥
 
 -- a call was made by loops, and its report is printed or not
-pub record IsRunByLoops (before after : Storage) (old new : Stream) (call : MethodCall) (telling : Telling)
-    (status : ExitStatus) : Type 0 where
+pub record IsRunByLoops (change : Change) (call : MethodCall) (telling : Telling) (status : ExitStatus) : Type 0 where
   pub report : RunReport
-  pub runs : LoopRuns before after call report
-  pub shown : ShowsAnswer telling.is_json old new (Ran report) status
+  pub runs : LoopRuns change.before change.after call report
+  pub shown : ShowsAnswer telling.is_json change.old change.new (Ran report) status
 
 -- none was made, or its object was not saved, and that is told
-pub record IsNotRunByLoops (before after : Storage) (old new : Stream) (call : MethodCall)
-    (telling : Telling) : Type 0 where
+pub record IsNotRunByLoops (change : Change) (call : MethodCall) (telling : Telling) : Type 0 where
   pub failure : Failure
-  pub fails : LoopRunFails before after call failure
-  pub told : IsToldAs old new failure telling
+  pub fails : LoopRunFails change.before change.after call failure
+  pub told : IsToldAs change.old change.new failure telling
 
 -- by the status
-abbrev pub LoopRunEnds : Storage → Storage → Stream → Stream → MethodCall → Telling → ExitStatus → Type 0
-LoopRunEnds before after old new call telling Done = IsRunByLoops before after old new call telling Done
-LoopRunEnds before after old new call telling Refused =
-    IsRunByLoops before after old new call telling Refused ⊎ IsNotRunByLoops before after old new call telling
-LoopRunEnds before after old new call telling Usage = ⊥
+abbrev pub LoopRunEnds : Change → MethodCall → Telling → ExitStatus → Type 0
+LoopRunEnds change call telling Done = IsRunByLoops change call telling Done
+LoopRunEnds change call telling Refused =
+    IsRunByLoops change call telling Refused ⊎ IsNotRunByLoops change call telling
+LoopRunEnds change call telling Usage = ⊥
 
 -- why no image with heads was written
 abbrev pub headless_text : WriteHeadsError → List ℕ
 headless_text (Failed failed) = failure_text failed.failure
 headless_text (NotFound lacking) = no_heads_text lacking
 
--- none was written, and a line says why
-pub record IsHeadlessTold (before after : Storage) (old new : Stream) (asked : HeadsAsked) : Type 0 where
+-- none was written for such a reason, and a line says which
+pub record IsHeadlessTold (change : Change) (Fails : WriteHeadsError → Type 0) : Type 0 where
   pub error : WriteHeadsError
-  pub fails : HeadsFail before after asked error
-  pub told : IsPrinted old new (headless_text error ++ codes "\n")
+  pub fails : Fails error
+  pub told : IsPrinted change.old change.new (headless_text error ++ codes "\n")
 
 -- the image with heads was written, and nothing printed; or none was
-abbrev pub HeadsEnd : Storage → Storage → Stream → Stream → HeadsAsked → ExitStatus → Type 0
-HeadsEnd before after old new asked Done = WritesHeads before after asked × (new ≡ old)
-HeadsEnd before after old new asked Refused = IsHeadlessTold before after old new asked
-HeadsEnd before after old new asked Usage = ⊥
-
--- no image of raw code was written, and a line says why
-pub record IsUnpackedTold (before after : Storage) (old new : Stream) (asked : HeadedPacking) : Type 0 where
-  pub error : WriteHeadsError
-  pub fails : PackHeadsFail before after asked error
-  pub told : IsPrinted old new (headless_text error ++ codes "\n")
+abbrev pub HeadsEnd : Change → HeadsAsked → ExitStatus → Type 0
+HeadsEnd change asked Done = WritesHeads change.before change.after asked × (change.new ≡ change.old)
+HeadsEnd change asked Refused = IsHeadlessTold change (HeadsFail change.before change.after asked)
+HeadsEnd change asked Usage = ⊥
 
 -- the image of raw code with heads was written, and nothing printed; or none was
-abbrev pub PackHeadsEnd : Storage → Storage → Stream → Stream → HeadedPacking → ExitStatus → Type 0
-PackHeadsEnd before after old new asked Done = PacksWithHeads before after asked × (new ≡ old)
-PackHeadsEnd before after old new asked Refused = IsUnpackedTold before after old new asked
-PackHeadsEnd before after old new asked Usage = ⊥
+abbrev pub PackHeadsEnd : Change → HeadedPacking → ExitStatus → Type 0
+PackHeadsEnd change asked Done = PacksWithHeads change.before change.after asked × (change.new ≡ change.old)
+PackHeadsEnd change asked Refused = IsHeadlessTold change (PackHeadsFail change.before change.after asked)
+PackHeadsEnd change asked Usage = ⊥

@@ -2,6 +2,7 @@
 ghost use Rattle.std.specs.Prelude.{◌≡◌, ◌++◌, codes};
 ghost use Rattle.loop_tool.specs.NoHeads.{no_heads_text};
 ghost use Rattle.program_files.specs.Files.{storage};
+ghost use Rattle.radoscls_program.specs.Change.{changed};
 ghost use Rattle.radoscls_program.specs.Looped.{HeadsEnd, LoopRunEnds, LoopsEnd, PackHeadsEnd, ShowsLoops};
 ghost use Rattle.radoscls_program.specs.Looped.{headless_text};
 ghost use Rattle.radoscls_program.specs.Shown.{IsToldAs};
@@ -75,8 +76,8 @@ pub(crate) fn run_looped<F: Files, O: Output>(
     telling: Telling,
     out: &mut O,
 ) -> ActionEnd
-    ensures { LoopRunEnds (storage F.disk F.failed F.in_place files.old) (storage F.disk F.failed F.in_place files.new)
-        (stream O.printed O.failed out.old) (stream O.printed O.failed out.new) call.now telling result.status }
+    ensures { LoopRunEnds (changed (storage F.disk F.failed F.in_place) files.old files.new
+        (stream O.printed O.failed) out.old out.new) call.now telling result.status }
 {
     match run_by_loops(alloc, files, call) {
         Ok(report) => {
@@ -124,8 +125,8 @@ pub(crate) fn find_heads<F: Files, O: Output>(
     asked: &HeadsAsked<'_>,
     out: &mut O,
 ) -> ExitStatus
-    ensures { HeadsEnd (storage F.disk F.failed F.in_place files.old) (storage F.disk F.failed F.in_place files.new)
-        (stream O.printed O.failed out.old) (stream O.printed O.failed out.new) asked.now result }
+    ensures { HeadsEnd (changed (storage F.disk F.failed F.in_place) files.old files.new
+        (stream O.printed O.failed) out.old out.new) asked.now result }
 {
     match write_heads(alloc, files, asked) {
         Ok(()) => ExitStatus::Done,
@@ -140,8 +141,8 @@ pub(crate) fn pack_heads<F: Files, O: Output>(
     asked: &HeadedPacking<'_>,
     out: &mut O,
 ) -> ExitStatus
-    ensures { PackHeadsEnd (storage F.disk F.failed F.in_place files.old) (storage F.disk F.failed F.in_place files.new)
-        (stream O.printed O.failed out.old) (stream O.printed O.failed out.new) asked.now result }
+    ensures { PackHeadsEnd (changed (storage F.disk F.failed F.in_place) files.old files.new
+        (stream O.printed O.failed) out.old out.new) asked.now result }
 {
     match pack_with_heads(alloc, files, asked) {
         Ok(()) => ExitStatus::Done,

@@ -2,10 +2,10 @@
 
 ghost use Rattle.std.specs.Prelude.{◌≡◌, ◌≢◌, IfErr, IfOk, true, false, map};
 ghost use Rattle.command_line.specs.Parsed.{IsMemory};
+ghost use Rattle.radoscls_program.specs.Change.{changed};
 ghost use Rattle.radoscls_program.specs.Clustered.{ClusterEnds};
 ghost use Rattle.radoscls_program.specs.Playing.{SimEnds};
-ghost use Rattle.radoscls_program.specs.Program.{Acts, CallEnds, Ends, IsDone, IsRefused, IsUsage, LoopCallEnds};
-ghost use Rattle.radoscls_program.specs.Program.{Responds, TaskEnds};
+ghost use Rattle.radoscls_program.specs.Program.{Acts, CallEnds, Ends, LoopCallEnds, Responds, TaskEnds};
 ghost use Rattle.class_tool.specs.ActionResult.{Fails, Settles};
 ghost use Rattle.program_files.specs.Files.{storage};
 ghost use Rattle.radoscls_program.specs.Program.{run_by};
@@ -106,8 +106,8 @@ fn act<F: Files, O: Output>(
     telling: Telling,
     out: &mut O,
 ) -> ActionEnd
-    ensures { Acts (storage F.disk F.failed F.in_place files.old) (storage F.disk F.failed F.in_place files.new)
-        (stream O.printed O.failed out.old) (stream O.printed O.failed out.new) action.now telling result.status }
+    ensures { Acts (changed (storage F.disk F.failed F.in_place) files.old files.new
+        (stream O.printed O.failed) out.old out.new) action.now telling result.status }
 {
     let found = find_told(alloc, files, action, telling.notes.is_each_line);
     let status = respond(alloc, files, &found, telling, out);
@@ -154,8 +154,8 @@ fn act_call<F: Files, O: Output>(
     telling: Telling,
     out: &mut O,
 ) -> ActionEnd
-    ensures { CallEnds (storage F.disk F.failed F.in_place files.old) (storage F.disk F.failed F.in_place files.new)
-        (stream O.printed O.failed out.old) (stream O.printed O.failed out.new) call.now telling result.status }
+    ensures { CallEnds (changed (storage F.disk F.failed F.in_place) files.old files.new
+        (stream O.printed O.failed) out.old out.new) call.now telling result.status }
 {
     let values = match filled(alloc, files, call) {
         Ok(values) => values,
@@ -179,8 +179,8 @@ fn act_by_loops<F: Files, O: Output>(
     telling: Telling,
     out: &mut O,
 ) -> ActionEnd
-    ensures { LoopCallEnds (storage F.disk F.failed F.in_place files.old) (storage F.disk F.failed F.in_place files.new)
-        (stream O.printed O.failed out.old) (stream O.printed O.failed out.new) call.now telling result.status }
+    ensures { LoopCallEnds (changed (storage F.disk F.failed F.in_place) files.old files.new
+        (stream O.printed O.failed) out.old out.new) call.now telling result.status }
 {
     let values = match filled(alloc, files, call) {
         Ok(values) => values,
@@ -262,8 +262,8 @@ fn do_task<R: AllocGlobal + Threads + Wait + Clock + Sync, F: Files, O: Output, 
     out: &mut O,
     err: &mut ErrorStream<'_, E>,
 ) -> ExitStatus
-    ensures { TaskEnds (storage F.disk F.failed F.in_place files.old) (storage F.disk F.failed F.in_place files.new)
-        (stream O.printed O.failed out.old) (stream O.printed O.failed out.new) task.now result }
+    ensures { TaskEnds (changed (storage F.disk F.failed F.in_place) files.old files.new
+        (stream O.printed O.failed) out.old out.new) task.now result }
 {
     let alloc = rt.alloc();
     match task {
@@ -313,8 +313,8 @@ pub(crate) fn perform<
     O: Output,
     E: io::Write,
 >(rt: &R, words: &[S], files: &mut F, out: &mut O, err: &mut ErrorStream<'_, E>) -> ExitStatus
-    ensures { Ends (storage F.disk F.failed F.in_place files.old) (storage F.disk F.failed F.in_place files.new)
-        (stream O.printed O.failed out.old) (stream O.printed O.failed out.new) (map S.text words.now) result }
+    ensures { Ends (changed (storage F.disk F.failed F.in_place) files.old files.new
+        (stream O.printed O.failed) out.old out.new) (map S.text words.now) result }
 {
     match asked(rt.alloc(), words) {
         Ok(task) => {
@@ -353,16 +353,9 @@ pub fn program<
     O: Output,
     E: io::Write,
 >(rt: &R, words: &[S], files: &mut F, out: &mut O, err: &mut E) -> u8
-    ensures status { (status : AStatus) × (result ≡ code_of status) }
-    ensures done { result ≡ 0 →
-        IsDone (storage F.disk F.failed F.in_place files.old) (storage F.disk F.failed F.in_place files.new)
-        (stream O.printed O.failed out.old) (stream O.printed O.failed out.new) (map S.text words.now) }
-    ensures refused { result ≡ 1 →
-        IsRefused (storage F.disk F.failed F.in_place files.old) (storage F.disk F.failed F.in_place files.new)
-        (stream O.printed O.failed out.old) (stream O.printed O.failed out.new) (map S.text words.now) }
-    ensures usage { result ≡ 2 →
-        IsUsage (storage F.disk F.failed F.in_place files.old) (storage F.disk F.failed F.in_place files.new)
-        (stream O.printed O.failed out.old) (stream O.printed O.failed out.new) (map S.text words.now) }
+    ensures ends { (status : AStatus) × (result ≡ code_of status) ×
+        Ends (changed (storage F.disk F.failed F.in_place) files.old files.new (stream O.printed O.failed)
+        out.old out.new) (map S.text words.now) status }
     // If a write or a flush of `out` fails, the ending is 1.
     ensures failed { O.failed out.old ≡ false → O.failed out.new ≡ true → result ≡ 1 }
 {

@@ -3,6 +3,7 @@
 ghost use Rattle.std.specs.IoError.{error_kind};
 ghost use Rattle.std.specs.Prelude.{◌≡◌, ◌↔◌, IfOk, IfErr, map, string_bytes};
 ghost use Rattle.std.specs.Process.{exit_status};
+ghost use Rattle.radoscls_program.specs.Change.{changed};
 ghost use Rattle.radoscls_program.specs.Program.{Ends, IsUnstarted, Starts};
 ghost use Rattle.program_files.specs.Files.{Storage, storage, unwritten};
 ghost use Rattle.radoscls_program.specs.Status.{code_of};
@@ -37,7 +38,7 @@ fn words<R: Env + Files + AllocGlobal + Clone + Drop>(rt: &R) -> io::Result<Vec<
 /// wrong words, if one of them is no text.
 fn unstarted<O: Output, E: io::Write>(error: &io::Error, out: &mut O, err: &mut E) -> ExitStatus
     ensures unstarted { (files : Storage) →
-        IsUnstarted files files (stream O.printed O.failed out.old) (stream O.printed O.failed out.new) result }
+        IsUnstarted (changed (λ (s : Storage). s) files files (stream O.printed O.failed) out.old out.new) result }
     ensures memory { (result ≡ ExitStatus.Refused) ↔ (error_kind error.now ≡ ErrorKind.OutOfMemory) }
 {
     match error.kind() {
@@ -62,12 +63,10 @@ fn end_on<
     out: &mut O,
     err: &mut ErrorStream<'_, E>,
 ) -> ExitStatus
-    ensures asked { IfOk words.now
-        (λ all. Ends (storage F.disk F.failed F.in_place files.old) (storage F.disk F.failed F.in_place files.new)
-        (stream O.printed O.failed out.old) (stream O.printed O.failed out.new) (map string_bytes all.items) result) }
-    ensures unread { IfErr words.now
-        (λ _. IsUnstarted (storage F.disk F.failed F.in_place files.old) (storage F.disk F.failed F.in_place files.new)
-        (stream O.printed O.failed out.old) (stream O.printed O.failed out.new) result) }
+    ensures asked { IfOk words.now (λ all. Ends (changed (storage F.disk F.failed F.in_place) files.old files.new
+        (stream O.printed O.failed) out.old out.new) (map string_bytes all.items) result) }
+    ensures unread { IfErr words.now (λ _. IsUnstarted (changed (storage F.disk F.failed F.in_place)
+        files.old files.new (stream O.printed O.failed) out.old out.new) result) }
     ensures memory { IfErr words.now (λ e. (result ≡ ExitStatus.Refused) ↔ (error_kind e ≡ ErrorKind.OutOfMemory)) }
 {
     match words {
@@ -84,12 +83,10 @@ pub fn end_of<
     O: Output,
     E: io::Write,
 >(rt: &R, words: &io::Result<Vec<String>>, files: &mut F, out: &mut O, err: &mut E) -> ExitStatus
-    ensures asked { IfOk words.now
-        (λ all. Ends (storage F.disk F.failed F.in_place files.old) (storage F.disk F.failed F.in_place files.new)
-        (stream O.printed O.failed out.old) (stream O.printed O.failed out.new) (map string_bytes all.items) result) }
-    ensures unread { IfErr words.now
-        (λ _. IsUnstarted (storage F.disk F.failed F.in_place files.old) (storage F.disk F.failed F.in_place files.new)
-        (stream O.printed O.failed out.old) (stream O.printed O.failed out.new) result) }
+    ensures asked { IfOk words.now (λ all. Ends (changed (storage F.disk F.failed F.in_place) files.old files.new
+        (stream O.printed O.failed) out.old out.new) (map string_bytes all.items) result) }
+    ensures unread { IfErr words.now (λ _. IsUnstarted (changed (storage F.disk F.failed F.in_place)
+        files.old files.new (stream O.printed O.failed) out.old out.new) result) }
     ensures memory { IfErr words.now (λ e. (result ≡ ExitStatus.Refused) ↔ (error_kind e ≡ ErrorKind.OutOfMemory)) }
 {
     let mut err = ErrorStream {
@@ -110,7 +107,7 @@ pub fn start<
     E: io::Write + IsTerminal,
 >(rt: &R, out: &mut O, err: &mut E) -> ExitCode
     ensures { (status : AStatus) × (exit_status result ≡ code_of status) × (after : Storage) ×
-        Starts unwritten after (stream O.printed O.failed out.old) (stream O.printed O.failed out.new) status }
+        Starts (changed (λ (s : Storage). s) unwritten after (stream O.printed O.failed) out.old out.new) status }
 {
     let mut files = SystemFiles::new(rt);
     let words = words(rt);
